@@ -1,0 +1,4 @@
+pub mod Compared
+pub mod Costs
+pub mod Lawful
+pub mod Laws
