@@ -1,0 +1,13 @@
+pub mod StraightPaths
+pub mod ComponentLaws
+pub mod RowMajor
+pub mod MoveLaws
+pub mod MovesInSets
+pub mod Finding
+pub mod Masks
+pub mod Terrains
+pub mod CostsOfPaths
+pub mod LawsOfPaths
+pub mod LeastCosts
+pub mod FirstMoves
+pub mod TableLaws

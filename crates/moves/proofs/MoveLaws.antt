@@ -1,0 +1,72 @@
+-- Laws of single moves.
+use Rattle.std.proofs.Common.{◌≡◌, ◌<◌, refl, arith}
+use Rattle.moves.specs.declared.Cell.{Cell}
+use Rattle.moves.specs.declared.Move.{Move}
+use Rattle.moves.specs.declared.Move.TheVariants.{N, NE, E, SE, S, SW, W, NW}
+use Rattle.moves.specs.Maps.{Map}
+use Rattle.moves.specs.Moves.{number_of, is_diagonal, opposite, IsTarget, IsLegal}
+
+-- cells are equal where their columns and rows are
+pub same_cell : (a b : Cell) → a.x ≡ b.x → a.y ≡ b.y → a ≡ b
+same_cell a b p q = λ i. record { x = p i; y = q i }
+
+-- one move from one cell has one target
+pub same_target : (a : Cell) (move : Move) (b c : Cell) → IsTarget a move b → IsTarget a move c → b ≡ c
+same_target a N b c p q = same_cell b c (omega arith) (omega arith)
+same_target a NE b c p q = same_cell b c (omega arith) (omega arith)
+same_target a E b c p q = same_cell b c (omega arith) (omega arith)
+same_target a SE b c p q = same_cell b c (omega arith) (omega arith)
+same_target a S b c p q = same_cell b c (omega arith) (omega arith)
+same_target a SW b c p q = same_cell b c (omega arith) (omega arith)
+same_target a W b c p q = same_cell b c (omega arith) (omega arith)
+same_target a NW b c p q = same_cell b c (omega arith) (omega arith)
+
+-- a move and the way back are both straight or both diagonal
+pub is_diagonal-opposite : (move : Move) → is_diagonal (opposite move) ≡ is_diagonal move
+is_diagonal-opposite N = refl
+is_diagonal-opposite NE = refl
+is_diagonal-opposite E = refl
+is_diagonal-opposite SE = refl
+is_diagonal-opposite S = refl
+is_diagonal-opposite SW = refl
+is_diagonal-opposite W = refl
+is_diagonal-opposite NW = refl
+
+-- the way back of the way back
+pub opposite-opposite : (move : Move) → opposite (opposite move) ≡ move
+opposite-opposite N = refl
+opposite-opposite NE = refl
+opposite-opposite E = refl
+opposite-opposite SE = refl
+opposite-opposite S = refl
+opposite-opposite SW = refl
+opposite-opposite W = refl
+opposite-opposite NW = refl
+
+-- the way back ends where the move began
+pub target_back : (a : Cell) (move : Move) (b : Cell) → IsTarget a move b → IsTarget b (opposite move) a
+target_back a N b p = (omega arith, omega arith)
+target_back a NE b p = (omega arith, omega arith)
+target_back a E b p = (omega arith, omega arith)
+target_back a SE b p = (omega arith, omega arith)
+target_back a S b p = (omega arith, omega arith)
+target_back a SW b p = (omega arith, omega arith)
+target_back a W b p = (omega arith, omega arith)
+target_back a NW b p = (omega arith, omega arith)
+
+-- the way back of a legal move is legal
+pub legal_back : (map : Map) (a : Cell) (move : Move) (b : Cell) → IsLegal map a move b → IsLegal map b (opposite move) a
+legal_back map a move b legal = record {
+  target = target_back a move b legal.target;
+  leaves = legal.enters;
+  enters = legal.leaves;
+  corners = λ diagonal. let free = legal.corners (rw (is_diagonal-opposite move) at diagonal) in (free.1, free.0);
+}
+
+-- equal numbers, equal moves
+pub same_move : (a b : Move) → number_of a ≡ number_of b → a ≡ b
+same_move a b e = grind arith
+
+-- a move's number is below eight
+pub number_below : (move : Move) → number_of move < 8
+number_below move = grind arith

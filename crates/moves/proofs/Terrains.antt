@@ -1,0 +1,222 @@
+-- Places, one changed cell, and masks written cell by cell.
+use Rattle.std.proofs.Common.{◌≡◌, ◌≢◌, ℕ, ◌+◌, ◌-◌, ◌*◌, ◌<◌, ◌≤◌, Bool, false, List, ◌++◌, length, get_or, set, take, inl, inr, ◌⊎◌, min, arith, subst, sym, refl, ◌∙◌}
+use Rattle.std.proofs.lemmas.Bool.{cases_lt}
+use Rattle.std.proofs.lemmas.Nat.{same_from_place, mul-add-lt}
+use Rattle.std.proofs.lemmas.List.{get_or-set_other, length-set, take-append-le, take_all}
+use Rattle.std.proofs.lemmas.Grind.{get_or-set_at}
+use Rattle.moves.specs.declared.Cell.{Cell}
+use Rattle.moves.specs.declared.Move.{Move}
+use Rattle.moves.specs.declared.Move.TheVariants.{N, NE, E, SE, S, SW, W, NW}
+use Rattle.moves.specs.Maps.{Map, IsInside, IsPassable, place_of, with_cell}
+use Rattle.moves.specs.Moves.{corner, IsTarget, HasLegal}
+use Rattle.moves.specs.MoveMasks.{AreMoveMasks, IsMoveMask, IsWithin, WritesMasks}
+use Rattle.moves.proofs.MoveLaws.{same_cell}
+
+-- two cells inside with one place are one cell
+pub same_from_places : (map : Map) (a b : Cell) → IsInside map a → IsInside map b → place_of map.width a ≡ place_of map.width b → a ≡ b
+same_from_places map a b ina inb same =
+    let parts = same_from_place a.y a.x b.y b.x map.width ina.column inb.column same in
+    same_cell a b parts.1 parts.0
+
+-- the place of a cell inside is below the number of cells
+pub place_below : (map : Map) (cell : Cell) → IsInside map cell → place_of map.width cell < map.width * map.height
+place_below map cell inside = mul-add-lt cell.y map.width cell.x map.height inside.row inside.column
+
+-- another cell is passable where it was
+pub passable_after : (map : Map) (changed other : Cell) (passable : Bool) → IsInside map changed → other ≢ changed
+    → IsPassable map other → IsPassable (with_cell map changed passable) other
+passable_after map changed other passable inside apart free = record {
+  inside = record { column = free.inside.column; row = free.inside.row };
+  passable = get_or-set_other map.passable (place_of map.width changed) (place_of map.width other) passable false
+      (λ same. apart (same_from_places map other changed free.inside inside same)) ∙ free.passable;
+}
+
+pub passable_before : (map : Map) (changed other : Cell) (passable : Bool) → IsInside map changed → other ≢ changed
+    → IsPassable (with_cell map changed passable) other → IsPassable map other
+passable_before map changed other passable inside apart free =
+    let here : IsInside map other = record { column = free.inside.column; row = free.inside.row } in
+    record {
+      inside = here;
+      passable = sym (get_or-set_other map.passable (place_of map.width changed) (place_of map.width other) passable false
+          (λ same. apart (same_from_places map other changed here inside same))) ∙ free.passable;
+    }
+
+-- the cells are at most one column and one row apart
+pub record IsNear (a b : Cell) : Type 0 where
+  pub left : a.x ≤ b.x + 1
+  pub right : b.x ≤ a.x + 1
+  pub above : a.y ≤ b.y + 1
+  pub below : b.y ≤ a.y + 1
+
+-- a move leads to a near cell
+pub target_near : (a : Cell) (move : Move) (b : Cell) → IsTarget a move b → IsNear a b
+target_near a N b p = record { left = omega arith; right = omega arith; above = omega arith; below = omega arith }
+target_near a NE b p = record { left = omega arith; right = omega arith; above = omega arith; below = omega arith }
+target_near a E b p = record { left = omega arith; right = omega arith; above = omega arith; below = omega arith }
+target_near a SE b p = record { left = omega arith; right = omega arith; above = omega arith; below = omega arith }
+target_near a S b p = record { left = omega arith; right = omega arith; above = omega arith; below = omega arith }
+target_near a SW b p = record { left = omega arith; right = omega arith; above = omega arith; below = omega arith }
+target_near a W b p = record { left = omega arith; right = omega arith; above = omega arith; below = omega arith }
+target_near a NW b p = record { left = omega arith; right = omega arith; above = omega arith; below = omega arith }
+
+-- a cell that is near is not one that is not
+apart_if_near : (a b c : Cell) → IsNear a b → (IsNear a c → ⊥) → b ≢ c
+apart_if_near a b c near far same = far (subst (IsNear a) same near)
+
+-- each move is as legal as before from a cell that is not near the changed one
+pub legal_after : (map : Map) (changed from : Cell) (passable : Bool) (move : Move) → IsInside map changed → (IsNear from changed → ⊥)
+    → HasLegal map from move → HasLegal (with_cell map changed passable) from move
+legal_after map changed from passable move inside far (to, legal) =
+    let near = target_near from move to legal.target in
+    let keep : (c : Cell) → IsNear from c → IsPassable map c → IsPassable (with_cell map changed passable) c
+    = λ c n. passable_after map changed c passable inside (apart_if_near from c changed n far) in (
+      to,
+      record {
+        target = legal.target;
+        leaves = keep from (record { left = omega arith; right = omega arith; above = omega arith; below = omega arith }) legal.leaves;
+        enters = keep to near legal.enters;
+        corners = λ d. (
+          keep (corner from to) (record { left = omega arith; right = omega arith; above = near.above; below = near.below }) (legal.corners d).0,
+          keep (corner to from) (record { left = near.left; right = near.right; above = omega arith; below = omega arith }) (legal.corners d).1,
+        );
+      },
+    )
+
+pub legal_before : (map : Map) (changed from : Cell) (passable : Bool) (move : Move) → IsInside map changed → (IsNear from changed → ⊥)
+    → HasLegal (with_cell map changed passable) from move → HasLegal map from move
+legal_before map changed from passable move inside far (to, legal) =
+    let near = target_near from move to legal.target in
+    let keep : (c : Cell) → IsNear from c → IsPassable (with_cell map changed passable) c → IsPassable map c
+    = λ c n. passable_before map changed c passable inside (apart_if_near from c changed n far) in (
+      to,
+      record {
+        target = legal.target;
+        leaves = keep from (record { left = omega arith; right = omega arith; above = omega arith; below = omega arith }) legal.leaves;
+        enters = keep to near legal.enters;
+        corners = λ d. (
+          keep (corner from to) (record { left = omega arith; right = omega arith; above = near.above; below = near.below }) (legal.corners d).0,
+          keep (corner to from) (record { left = near.left; right = near.right; above = omega arith; below = omega arith }) (legal.corners d).1,
+        );
+      },
+    )
+
+-- no cell lies in no columns
+pub writes_no_columns : (map : Map) (left top bottom : ℕ) (old : List ℕ) → WritesMasks map left left top bottom old old
+writes_no_columns map left top bottom old = record {
+  whole = refl;
+  within = λ cell here. absurd (omega (arith, here.from_left, here.to_right));
+  beyond = λ cell inside away. refl;
+}
+
+-- nor in no rows
+pub writes_no_rows : (map : Map) (left right top : ℕ) (old : List ℕ) → WritesMasks map left right top top old old
+writes_no_rows map left right top old = record {
+  whole = refl;
+  within = λ cell here. absurd (omega (arith, here.from_top, here.to_bottom));
+  beyond = λ cell inside away. refl;
+}
+
+-- one cell of the row more
+pub writes_cell : (map : Map) (left x y : ℕ) (old mid : List ℕ) (mask place : ℕ) → length old ≡ map.width * map.height
+    → left ≤ x → x < map.width → y < map.height → place ≡ y * map.width + x
+    → IsMoveMask map (record { x = x; y = y }) mask → WritesMasks map left x y (y + 1) old mid → WritesMasks map left (x + 1) y (y + 1) old (set mid place mask)
+writes_cell map left x y old mid mask place whole from column row at legal written =
+    let here : Cell = record { x = x; y = y } in
+    let inside : IsInside map here = record { column = column; row = row } in
+    let room : place < length mid = omega (arith, place_below map here inside, written.whole) in
+    record {
+      whole = length-set mid place mask ∙ written.whole;
+      within = λ cell is. elim (cases_lt cell.x x) [
+        | inl less ↦
+            let in_cell : IsInside map cell = record { column = omega arith; row = omega (arith, is.to_bottom) } in
+            let apart : place_of map.width cell ≢ place = λ same. let one = same_from_place cell.y cell.x y x map.width in_cell.column column (same ∙ at) in omega (arith, one.1) in
+            rw (get_or-set_other mid place (place_of map.width cell) mask 0 apart)
+            (written.within cell (record { from_left = is.from_left; to_right = less; from_top = is.from_top; to_bottom = is.to_bottom }))
+        | inr more ↦
+            let same : cell ≡ here = same_cell cell here (omega (arith, is.to_right)) (omega (arith, is.from_top, is.to_bottom)) in
+            let value : get_or (set mid place mask) (y * map.width + x) 0 ≡ mask = get_or-set_at mid place (y * map.width + x) mask 0 (sym at) room in
+            let P : Cell → Type 0 = λ c. IsMoveMask map c (get_or (set mid place mask) (place_of map.width c) 0) in
+            subst P (sym same) (rw value legal)
+      ];
+      beyond = λ cell in_cell away.
+          let apart : place_of map.width cell ≢ place = λ same.
+          let one = same_from_place cell.y cell.x y x map.width in_cell.column column (same ∙ at) in
+          away (record { from_left = omega (arith, one.1); to_right = omega (arith, one.1); from_top = omega (arith, one.0); to_bottom = omega (arith, one.0) }) in
+          get_or-set_other mid place (place_of map.width cell) mask 0 apart
+          ∙ written.beyond cell in_cell (λ is. away (record { from_left = is.from_left; to_right = omega (arith, is.to_right); from_top = is.from_top; to_bottom = is.to_bottom }));
+    }
+
+-- one row more
+pub writes_row : (map : Map) (left right top y : ℕ) (old mid new : List ℕ) → right ≤ map.width → y < map.height → top ≤ y
+    → WritesMasks map left right top y old mid → WritesMasks map left right y (y + 1) mid new → WritesMasks map left right top (y + 1) old new
+writes_row map left right top y old mid new columns row from above here = record {
+  whole = here.whole ∙ above.whole;
+  within = λ cell is. elim (cases_lt cell.y y) [
+    | inl less ↦
+        rw (here.beyond cell (record { column = omega (arith, is.to_right); row = omega arith }) (λ at. absurd (omega (arith, at.from_top))))
+        (above.within cell (record { from_left = is.from_left; to_right = is.to_right; from_top = is.from_top; to_bottom = less }))
+    | inr more ↦ here.within cell (record { from_left = is.from_left; to_right = is.to_right; from_top = more; to_bottom = is.to_bottom })
+  ];
+  beyond = λ cell inside away.
+      here.beyond cell inside (λ at. away (record { from_left = at.from_left; to_right = at.to_right; from_top = omega (arith, at.from_top); to_bottom = at.to_bottom }))
+      ∙ above.beyond cell inside (λ at. away (record { from_left = at.from_left; to_right = at.to_right; from_top = at.from_top; to_bottom = omega (arith, at.to_bottom) }));
+}
+
+-- all columns and rows
+pub writes_all : (map : Map) (old new : List ℕ) → length old ≡ map.width * map.height → WritesMasks map 0 map.width 0 map.height old new → AreMoveMasks map new
+writes_all map old new whole written = record {
+  whole = written.whole ∙ whole;
+  each = λ cell inside. written.within cell (record { from_left = omega arith; to_right = inside.column; from_top = omega arith; to_bottom = inside.row });
+}
+
+-- a cell lies within or it does not
+within_or_not : (left right top bottom : ℕ) (cell : Cell) → IsWithin left right top bottom cell ⊎ (IsWithin left right top bottom cell → ⊥)
+within_or_not left right top bottom cell =
+    elim (cases_lt cell.x left) [
+      | inl a ↦ inr (λ is. absurd (omega (arith, is.from_left)))
+      | inr a ↦ elim (cases_lt cell.x right) [
+        | inr b ↦ inr (λ is. absurd (omega (arith, is.to_right)))
+        | inl b ↦ elim (cases_lt cell.y top) [
+          | inl c ↦ inr (λ is. absurd (omega (arith, is.from_top)))
+          | inr c ↦ elim (cases_lt cell.y bottom) [
+            | inr d ↦ inr (λ is. absurd (omega (arith, is.to_bottom)))
+            | inl d ↦ inl (record { from_left = a; to_right = b; from_top = c; to_bottom = d })
+          ]
+        ]
+      ]
+    ]
+
+-- the masks round a changed cell were renewed
+pub masks_renewed : (map : Map) (changed : Cell) (passable : Bool) (old new : List ℕ) → IsInside map changed → AreMoveMasks map old
+    → WritesMasks (with_cell map changed passable) (changed.x - 1) (min (changed.x + 2) map.width) (changed.y - 1) (min (changed.y + 2) map.height) old new
+    → AreMoveMasks (with_cell map changed passable) new
+masks_renewed map changed passable old new inside before written = record {
+  whole = written.whole ∙ before.whole;
+  each = λ cell in_cell. elim (within_or_not (changed.x - 1) (min (changed.x + 2) map.width) (changed.y - 1) (min (changed.y + 2) map.height) cell) [
+    | inl here ↦ written.within cell here
+    | inr away ↦
+        let was : IsInside map cell = record { column = in_cell.column; row = in_cell.row } in
+        let far : IsNear cell changed → ⊥ = λ near. away (record {
+          from_left = omega (arith, near.right);
+          to_right = omega (arith, near.left, in_cell.column);
+          from_top = omega (arith, near.below);
+          to_bottom = omega (arith, near.above, in_cell.row);
+        }) in
+        rw (written.beyond cell in_cell away) (λ move. (
+          λ is_set. legal_after map changed cell passable move inside far ((before.each cell was move).0 is_set),
+          λ has. (before.each cell was move).1 (legal_before map changed cell passable move inside far has),
+        ))
+  ];
+}
+
+-- a lent list comes back whole
+lent_back : (n : ℕ) (new rest : List ℕ) → n ≡ length new → take n (new ++ rest) ≡ new
+lent_back n new rest e = take-append-le n new rest (omega arith) ∙ take_all n new (omega arith)
+
+-- the same in the code's own terms
+pub masks_renewed_at : (map after : Map) (changed : Cell) (passable : Bool) (left right top bottom n : ℕ) (old lent new rest : List ℕ)
+    → after ≡ with_cell map changed passable → left ≡ changed.x - 1 → right ≡ min (changed.x + 2) map.width → top ≡ changed.y - 1
+    → bottom ≡ min (changed.y + 2) map.height → lent ≡ old → n ≡ length new → IsInside map changed → AreMoveMasks map old
+    → WritesMasks after left right top bottom lent new → AreMoveMasks after (take n (new ++ rest))
+masks_renewed_at map after changed passable left right top bottom n old lent new rest ea el er et eb eo en inside before written =
+    rw (lent_back n new rest en, ea) (masks_renewed map changed passable old new inside before (rw (ea, el, er, et, eb, eo) at written))

@@ -1,0 +1,13 @@
+pub mod Maps
+pub mod Moves
+pub mod Neighbours
+pub mod MoveMasks
+pub mod MoveSets
+pub mod Paths
+pub mod PathLaws
+pub mod FirstSets
+pub mod Components
+pub mod CostTables
+pub mod StraightPaths
+pub mod ComponentLaws
+pub use Rattle.root_cost.specs.Costs

@@ -1,0 +1,21 @@
+-- Sets of moves: numbers below 256, in which bit i stands for the move with number i.
+use Rattle.std.specs.Prelude.{◌≡◌, ℕ, ◌<◌, ◌≤◌, ◌↔◌, IsBitSet}
+use Rattle.moves.specs.declared.Move.{Move}
+use Rattle.moves.specs.Moves.{number_of}
+
+-- the move is in the set
+unfoldable pub Has : ℕ → Move → Type 0
+Has set move = IsBitSet set (number_of move)
+
+-- no move is in the set
+abbrev pub IsEmpty : ℕ → Type 0
+IsEmpty set = (move : Move) → Has set move → ⊥
+
+-- the move is in the set, and none with a lower number is
+pub record IsLeastIn (set : ℕ) (move : Move) : Type 0 where
+  pub has : Has set move
+  pub first : (other : Move) → Has set other → number_of move ≤ number_of other
+
+-- two sets that have the same moves are one
+abbrev pub SetsAreTheirMoves : Type 0
+SetsAreTheirMoves = (a b : ℕ) → a < 256 → b < 256 → ((move : Move) → Has a move ↔ Has b move) → a ≡ b

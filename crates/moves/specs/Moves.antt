@@ -1,0 +1,66 @@
+-- Legal moves: eight directions, and no corner is cut. (MovingAI scenario format page)
+use Rattle.std.specs.Prelude.{◌≡◌, ℕ, ◌+◌, Bool, false, true, IsTrue}
+use Rattle.moves.specs.declared.Cell.{Cell}
+use Rattle.moves.specs.declared.Move.{Move}
+use Rattle.moves.specs.declared.Move.TheVariants.{N, NE, E, SE, S, SW, W, NW}
+use Rattle.moves.specs.Maps.{Map, IsPassable}
+
+-- the number of a move: clockwise from north
+abbrev pub number_of : Move → ℕ
+number_of N = 0
+number_of NE = 1
+number_of E = 2
+number_of SE = 3
+number_of S = 4
+number_of SW = 5
+number_of W = 6
+number_of NW = 7
+
+-- odd moves are diagonal
+abbrev pub is_diagonal : Move → Bool
+is_diagonal N = false
+is_diagonal NE = true
+is_diagonal E = false
+is_diagonal SE = true
+is_diagonal S = false
+is_diagonal SW = true
+is_diagonal W = false
+is_diagonal NW = true
+
+-- the move back
+abbrev pub opposite : Move → Move
+opposite N = S
+opposite NE = SW
+opposite E = W
+opposite SE = NW
+opposite S = N
+opposite SW = NE
+opposite W = E
+opposite NW = SE
+
+-- the move from `a` ends at `b`: north is one row up, east one column to the right
+abbrev pub IsTarget : Cell → Move → Cell → Type 0
+IsTarget a N b = (b.x ≡ a.x) × (b.y + 1 ≡ a.y)
+IsTarget a NE b = (b.x ≡ a.x + 1) × (b.y + 1 ≡ a.y)
+IsTarget a E b = (b.x ≡ a.x + 1) × (b.y ≡ a.y)
+IsTarget a SE b = (b.x ≡ a.x + 1) × (b.y ≡ a.y + 1)
+IsTarget a S b = (b.x ≡ a.x) × (b.y ≡ a.y + 1)
+IsTarget a SW b = (b.x + 1 ≡ a.x) × (b.y ≡ a.y + 1)
+IsTarget a W b = (b.x + 1 ≡ a.x) × (b.y ≡ a.y)
+IsTarget a NW b = (b.x + 1 ≡ a.x) × (b.y + 1 ≡ a.y)
+
+-- the cell in the column of `a` and the row of `b`
+abbrev pub corner : Cell → Cell → Cell
+corner a b = record { x = a.x; y = b.y }
+
+-- The move from `from` to `to` is legal: both cells are passable and, for a diagonal move,
+-- so are the two cells that are orthogonally adjacent to both.
+pub record IsLegal (map : Map) (from : Cell) (move : Move) (to : Cell) : Type 0 where
+  pub target : IsTarget from move to
+  pub leaves : IsPassable map from
+  pub enters : IsPassable map to
+  pub corners : IsTrue (is_diagonal move) → IsPassable map (corner from to) × IsPassable map (corner to from)
+
+-- the move is legal from that cell
+abbrev pub HasLegal : Map → Cell → Move → Type 0
+HasLegal map from move = (to : Cell) × IsLegal map from move to

@@ -1,0 +1,101 @@
+//! Sets of moves.
+
+ghost use Rattle.std.specs.Prelude.{◌≡◌, ℕ, ◌<◌, ◌⊎◌, ◌↔◌, IsTrue, MatchOption};
+ghost use Rattle.moves.specs.declared.Move.{Move};
+ghost use Rattle.moves.specs.MoveSets.{Has, IsEmpty, IsLeastIn, SetsAreTheirMoves};
+
+use crate::Move;
+use std::marker::Model;
+
+/// A set of moves, kept as eight bits: bit i for the move with number i.
+#[derive(Clone, Copy, Debug, Default, PartialEq, Eq)]
+pub struct MoveSet {
+    mask: u8,
+}
+
+impl Model for MoveSet {
+    ghost use Rattle.std.specs.Prelude.{ℕ, ◌<◌};
+
+    ghost Value = { ℕ };
+
+    ghost view = { λ s. s.mask };
+
+    ghost invariant = { λ s. s.mask < 256 };
+
+    ghost inverse = { λ mask. record { mask = mask } };
+}
+
+impl MoveSet {
+    /// The set of no move.
+    pub const NONE: MoveSet = MoveSet { mask: 0 };
+
+    /// The set of all eight moves.
+    pub const ALL: MoveSet = MoveSet { mask: 255 };
+
+    /// The set with the moves whose bits are set: bit i for the move with number i.
+    pub fn of_mask(mask: u8) -> MoveSet
+        ensures { result ≡ mask }
+    {
+        MoveSet { mask }
+    }
+
+    /// The set as eight bits: bit i is set where the move with number i is in it.
+    pub fn mask(self) -> u8
+        ensures { result ≡ self }
+    {
+        self.mask
+    }
+
+    /// Whether the move is in the set.
+    pub fn has(self, m: Move) -> bool
+        ensures { IsTrue result ↔ Has self m }
+    {
+        self.mask >> m.number() & 1 == 1
+    }
+
+    /// The moves that are in both sets.
+    pub fn meet(self, other: MoveSet) -> MoveSet
+        ensures { (move : Move) → Has result move ↔ (Has self move × Has other move) }
+    {
+        MoveSet {
+            mask: self.mask & other.mask,
+        }
+    }
+
+    /// The moves that are in either set.
+    pub fn join(self, other: MoveSet) -> MoveSet
+        ensures { (move : Move) → Has result move ↔ (Has self move ⊎ Has other move) }
+    {
+        MoveSet {
+            mask: self.mask | other.mask,
+        }
+    }
+
+    /// The set and that move.
+    pub fn with(self, m: Move) -> MoveSet
+        ensures { (move : Move) → Has result move ↔ (Has self move ⊎ (move ≡ m)) }
+    {
+        MoveSet {
+            mask: self.mask | 1 << m.number(),
+        }
+    }
+
+    /// Whether no move is in the set.
+    pub fn is_none(self) -> bool
+        ensures { IsTrue result ↔ IsEmpty self }
+    {
+        self.mask == 0
+    }
+
+    /// The move with the lowest number in the set; `None` exactly where no move is in it.
+    pub fn least(self) -> Option<Move>
+        ensures { MatchOption result (IsEmpty self) (IsLeastIn self) }
+    {
+        Move::of(self.mask.trailing_zeros() as u8)
+    }
+}
+
+/// The law of sets: two sets that have the same moves are equal, and so have one mask.
+pub fn sets_are_their_moves()
+    ensures { SetsAreTheirMoves }
+{}

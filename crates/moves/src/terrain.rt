@@ -1,0 +1,309 @@
+//! The cells of a map and its rule of legal moves, without anything that is kept for speed.
+
+ghost use Rattle.std.specs.Prelude.{◌≡◌, ℕ, ◌+◌, ◌*◌, ◌<◌, ◌≤◌, ◌↔◌, Bool, false, List, IsTrue, IsBitSet, IfOk, IfSome, IfNone, length, replicate, count_by};
+ghost use Rattle.moves.specs.Maps.{Map, IsWithinLimits, IsInside, IsPassable, with_cell, passable_count, place_of};
+ghost use Rattle.moves.specs.MoveMasks.{HasFree, IsFreeMask, IsLegalAmong, IsMoveMask, WritesMasks};
+ghost use Rattle.moves.specs.Neighbours.{AreNeighbours};
+ghost use Rattle.moves.specs.declared.Cell.{Cell};
+ghost use Rattle.moves.specs.declared.Move.{Move};
+ghost use Rattle.moves.specs.Moves.{number_of, is_diagonal, corner, IsTarget, IsLegal, HasLegal};
+
+use crate::{Cell, Move};
+use arrayvec::ArrayVec;
+use std::alloc::{AllocError, Global};
+use std::marker::Model;
+use std::ops::Range;
+
+/// A map of passable and blocked cells: each side from 1 to 4,096, at most 1,048,576 cells.
+#[derive(Drop)]
+pub struct Terrain {
+    width: u32,
+    height: u32,
+    passable: Vec<bool>,
+}
+
+impl Model for Terrain {
+    ghost use Rattle.std.specs.Prelude.{◌≡◌, ◌*◌, vec_len};
+    ghost use Rattle.moves.specs.Maps.{Map, IsWithinLimits};
+
+    ghost Value = { Map };
+
+    ghost view = { λ g. record { width = g.width; height = g.height; passable = g.passable.items } };
+
+    ghost invariant = { λ g. IsWithinLimits g.width g.height × (vec_len g.passable ≡ g.width * g.height) };
+}
+
+impl Terrain {
+    /// A grid of blocked cells.
+    pub fn blocked(alloc: Global, width: u32, height: u32) -> Result<Terrain, AllocError>
+        requires { IsWithinLimits width height }
+        ensures { IfOk result (λ terrain. terrain ≡ record { width = width; height = height; passable = replicate (width * height) false }) }
+    {
+        let cells = (width * height) as usize;
+        Ok(Terrain {
+            width,
+            height,
+            passable: vec![in alloc; false; cells]?,
+        })
+    }
+
+    /// A grid with these cells, given row by row: `true` for a passable one.
+    pub fn of_cells(width: u32, height: u32, cells: Vec<bool>) -> Terrain
+        requires limits { IsWithinLimits width height }
+        requires whole { length cells.items ≡ width * height }
+        ensures { result ≡ record { width = width; height = height; passable = cells.items } }
+    {
+        Terrain {
+            width,
+            height,
+            passable: cells,
+        }
+    }
+
+    /// The number of columns, from 1 to 4,096.
+    pub fn width(&self) -> u32
+        ensures width { result ≡ self.now.width }
+        ensures limits { IsWithinLimits self.now.width self.now.height }
+        ensures whole { length self.now.passable ≡ self.now.width * self.now.height }
+    {
+        self.width
+    }
+
+    /// The number of rows, from 1 to 4,096.
+    pub fn height(&self) -> u32
+        ensures height { result ≡ self.now.height }
+        ensures limits { IsWithinLimits self.now.width self.now.height }
+        ensures whole { length self.now.passable ≡ self.now.width * self.now.height }
+    {
+        self.height
+    }
+
+    /// Whether the cell lies inside the map.
+    pub fn inside(&self, cell: Cell) -> bool
+        ensures { IsTrue result ↔ IsInside self.now cell }
+    {
+        u32::from(cell.x) < self.width && u32::from(cell.y) < self.height
+    }
+
+    /// Whether the cell is inside and passable.
+    pub fn passable(&self, cell: Cell) -> bool
+        ensures { IsTrue result ↔ IsPassable self.now cell }
+    {
+        self.inside(cell) && self.passable[self.place(cell)]
+    }
+
+    /// Makes one cell passable or blocked. The others stay as they are.
+    pub fn set(&mut self, cell: Cell, passable: bool)
+        requires { IsInside self.old cell }
+        ensures { self.new ≡ with_cell self.old cell passable }
+    {
+        let place = self.place(cell);
+        self.passable[place] = passable;
+    }
+
+    /// How many cells are passable.
+    pub fn passable_count(&self) -> u32
+        ensures { result ≡ passable_count self.now }
+    {
+        self.passable.iter().filter(|passable| **passable).count() as u32
+    }
+
+    /// The cell that the move leads to; `None` exactly where that is not inside.
+    pub fn step(&self, cell: Cell, by: Move) -> Option<Cell>
+        requires { IsInside self.now cell }
+        ensures inside { IfSome result (λ to. IsTarget cell by to × IsInside self.now to) }
+        ensures outside { IfNone result ((to : Cell) → IsTarget cell by to → IsInside self.now to → ⊥) }
+    {
+        let _ = &self.width;
+        let to = target(cell, by)?;
+        if self.inside(to) { Some(to) } else { None }
+    }
+
+    /// Whether the move is legal from that cell: both ends are passable and, for a diagonal move, so are the two
+    /// cells that are orthogonally adjacent to both.
+    pub fn legal(&self, cell: Cell, by: Move) -> bool
+        requires { IsInside self.now cell }
+        ensures { IsTrue result ↔ HasLegal self.now cell by }
+    {
+        match self.step(cell, by) {
+            None => false,
+            Some(to) => self.leads(cell, by, to),
+        }
+    }
+
+    /// The legal moves from that cell by number, each with the cell that it leads to.
+    pub fn neighbours(&self, cell: Cell) -> ArrayVec<(Move, Cell), 8>
+        requires { IsInside self.now cell }
+        ensures { AreNeighbours self.now cell result.items }
+    {
+        let mut found = ArrayVec::new();
+        for number in 0..8u8 {
+            if let Some(pair) = self.numbered(cell, number) {
+                found.push(pair);
+            }
+        }
+        found
+    }
+
+    /// The move with that number and its target, where it is legal.
+    fn numbered(&self, cell: Cell, number: u8) -> Option<(Move, Cell)>
+        requires inside { IsInside self.now cell }
+        requires number { number < 8 }
+        ensures legal { IfSome result (λ pair. IsLegal self.now cell pair.0 pair.1 × (number_of pair.0 ≡ number)) }
+        ensures illegal { IfNone result ((move : Move) (to : Cell) → number_of move ≡ number → IsLegal self.now cell move to → ⊥) }
+    {
+        let by = Move::of(number)?;
+        let to = self.step(cell, by)?;
+        if self.leads(cell, by, to) {
+            Some((by, to))
+        } else {
+            None
+        }
+    }
+
+    /// Whether the move to that cell is legal.
+    fn leads(&self, cell: Cell, by: Move, to: Cell) -> bool
+        requires { IsTarget cell by to }
+        ensures { IsTrue result ↔ IsLegal self.now cell by to }
+    {
+        self.passable(cell)
+            && self.passable(to)
+            && (!by.is_diagonal() || self.corners_are_free(cell, to))
+    }
+
+    /// Whether both cells in the column of the one and the row of the other are passable.
+    fn corners_are_free(&self, from: Cell, to: Cell) -> bool
+        ensures { IsTrue result ↔ (IsPassable self.now (corner from to) × IsPassable self.now (corner to from)) }
+    {
+        self.passable(Cell { x: from.x, y: to.y }) && self.passable(Cell { x: to.x, y: from.y })
+    }
+
+    /// The legal moves from that cell as bits.
+    pub fn mask(&self, cell: Cell) -> u8
+        requires { IsInside self.now cell }
+        ensures { IsMoveMask self.now cell result }
+    {
+        if !self.passable(cell) {
+            return 0;
+        }
+        let around = self.free_mask(cell);
+        let mut mask = 0u8;
+        for number in 0..8u8 {
+            if is_legal_among(around, number) {
+                mask |= 1 << number;
+            }
+        }
+        mask
+    }
+
+    /// The moves that lead to passable cells, as bits.
+    fn free_mask(&self, cell: Cell) -> u8
+        requires { IsInside self.now cell }
+        ensures { IsFreeMask self.now cell result }
+    {
+        let mut mask = 0u8;
+        for number in 0..8u8 {
+            if self.is_free(cell, number) {
+                mask |= 1 << number;
+            }
+        }
+        mask
+    }
+
+    /// Whether the move with that number leads to a passable cell.
+    fn is_free(&self, cell: Cell, number: u8) -> bool
+        requires inside { IsInside self.now cell }
+        requires number { number < 8 }
+        ensures { (move : Move) → number_of move ≡ number → (IsTrue result ↔ HasFree self.now cell move) }
+    {
+        let _ = &self.width;
+        let Some(by) = Move::of(number) else {
+            return false;
+        };
+        match target(cell, by) {
+            None => false,
+            Some(to) => self.passable(to),
+        }
+    }
+
+    /// Writes the masks of the cells in some columns and rows.
+    pub fn write_masks(&self, columns: Range<u32>, rows: Range<u32>, masks: &mut [u8])
+        requires whole { length masks.old ≡ self.now.width * self.now.height }
+        requires columns { (columns.start ≤ columns.end) × (columns.end ≤ self.now.width) }
+        requires rows { (rows.start ≤ rows.end) × (rows.end ≤ self.now.height) }
+        ensures { WritesMasks self.now columns.start columns.end rows.start rows.end masks.old masks.new }
+    {
+        for y in rows.start..rows.end {
+            self.write_row(columns.start, columns.end, y, masks);
+        }
+    }
+
+    /// Writes the masks of some cells of one row.
+    fn write_row(&self, left: u32, right: u32, y: u32, masks: &mut [u8])
+        requires whole { length masks.old ≡ self.now.width * self.now.height }
+        requires columns { (left ≤ right) × (right ≤ self.now.width) }
+        requires row { y < self.now.height }
+        ensures { WritesMasks self.now left right y (y + 1) masks.old masks.new }
+    {
+        let _ = &self.width;
+        for x in left..right {
+            let cell = Cell {
+                x: x as u16,
+                y: y as u16,
+            };
+            masks[self.place(cell)] = self.mask(cell);
+        }
+    }
+
+    /// The cell's place in the list of cells, row by row.
+    fn place(&self, cell: Cell) -> usize
+        requires { IsInside self.now cell }
+        ensures place { result ≡ place_of self.now.width cell }
+        ensures inside { result < length self.now.passable }
+    {
+        (u32::from(cell.y) * self.width + u32::from(cell.x)) as usize
+    }
+}
+
+/// Whether the move with that number is legal from a passable cell, where the mask has the moves that lead to
+/// passable cells.
+fn is_legal_among(mask: u8, number: u8) -> bool
+    requires { number < 8 }
+    ensures { (move : Move) → number_of move ≡ number → (IsTrue result ↔ IsLegalAmong mask move) }
+{
+    match number {
+        0 | 2 | 4 | 6 => has_bit(mask, number),
+        1 => has_bit(mask, 1) && has_bit(mask, 0) && has_bit(mask, 2),
+        3 => has_bit(mask, 3) && has_bit(mask, 2) && has_bit(mask, 4),
+        5 => has_bit(mask, 5) && has_bit(mask, 4) && has_bit(mask, 6),
+        _ => has_bit(mask, 7) && has_bit(mask, 6) && has_bit(mask, 0),
+    }
+}
+
+/// Whether a bit is set.
+fn has_bit(mask: u8, number: u8) -> bool
+    requires { number < 8 }
+    ensures { IsTrue result ↔ IsBitSet mask number }
+{
+    mask & 1 << number != 0
+}
+
+/// The cell that the move leads to, on a grid without a lower or right end.
+fn target(cell: Cell, by: Move) -> Option<Cell>
+    requires column { cell.x < 4096 }
+    requires row { cell.y < 4096 }
+    ensures inside { IfSome result (IsTarget cell by) }
+    ensures outside { IfNone result ((to : Cell) → IsTarget cell by to → ⊥) }
+{
+    let x = match by {
+        Move::N | Move::S => cell.x,
+        Move::NE | Move::E | Move::SE => cell.x + 1,
+        Move::SW | Move::W | Move::NW => cell.x.checked_sub(1)?,
+    };
+    let y = match by {
+        Move::E | Move::W => cell.y,
+        Move::SE | Move::S | Move::SW => cell.y + 1,
+        Move::N | Move::NE | Move::NW => cell.y.checked_sub(1)?,
+    };
+    Some(Cell { x, y })
+}
