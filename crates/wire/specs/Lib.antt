@@ -1,0 +1,4 @@
+pub mod Causes
+pub mod Contents
+pub mod FilesInMemory
+pub mod SinkInMemory

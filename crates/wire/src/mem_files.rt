@@ -1,0 +1,127 @@
+// Files in memory, with planned faults.
+ghost use Rattle.std.specs.Prelude.{ℕ, List, ◌≡◌, ◌≢◌, ◌<◌, ◌≤◌, ◌↔◌, length, vec_len, IfOk, IfSome, IsErrOf, IsTrue, AllPairs, All, Some, None, position, string_bytes, bytes_eq};
+ghost use Rattle.wire.specs.Causes.{Rose};
+ghost use Rattle.wire.specs.FilesInMemory.{named_bytes, place_of};
+
+use crate::faults::{count_fault, is_planned};
+use crate::{FileError, Files};
+use std::alloc::{AllocError, Global};
+use std::marker::Model;
+
+/// Files in memory, for tests. They tell their content, and fail at the reads that are planned to
+/// fail and at names that no file has.
+#[derive(Drop)]
+pub struct MemFiles {
+    files: Vec<(String, Vec<u8>)>,
+    fails: Vec<u64>,
+    calls: u64,
+    faults: Vec<u64>,
+}
+
+impl Model for MemFiles {
+    ghost use Rattle.std.specs.Prelude.{ℕ, List, ◌≡◌, ◌+◌, vec_len};
+    ghost use Rattle.wire.specs.FilesInMemory.{FilesInMemory, named_bytes};
+
+    ghost Value = { FilesInMemory };
+
+    ghost view = { λ memory. record {
+      files = named_bytes memory.files.items;
+      fails = memory.fails.items;
+      calls = memory.calls;
+      faults = memory.faults.items;
+    } };
+
+    ghost invariant = { λ memory. vec_len memory.faults ≡ vec_len memory.files + 1 };
+}
+
+impl MemFiles {
+    ghost use Rattle.wire.specs.FilesInMemory.{named_bytes, new_files, content_of, faults_of};
+
+    /// Files of these names and bytes. `fails` has the numbers of the reads that are to fail; the
+    /// first read is number 1.
+    pub fn new(
+        alloc: Global,
+        files: Vec<(String, Vec<u8>)>,
+        fails: Vec<u64>,
+    ) -> Result<MemFiles, AllocError>
+        requires { AllPairs (λ one other. string_bytes one.0 ≢ string_bytes other.0) files.items }
+        ensures value { IfOk result (λ memory. memory ≡ new_files (named_bytes files.items) fails.items) }
+        ensures told { IfOk result (λ memory. All (λ file. content_of memory.files (string_bytes file.0) ≡ Some file.1.items) files.items) }
+        ensures untold { IfOk result (λ memory. (name : List ℕ)
+            → All (λ file. string_bytes file.0 ≢ name) files.items → content_of memory.files name ≡ None) }
+        ensures counts { IfOk result (λ memory. (name : List ℕ) → faults_of memory name ≡ 0) }
+    {
+        Ok(MemFiles {
+            faults: vec![in alloc; 0; files.len() + 1]?,
+            files,
+            fails,
+            calls: 0,
+        })
+    }
+
+    /// How often reading this name has failed, or any name that no file has.
+    pub fn fault_count(&self, name: &str) -> u64
+        ensures { result ≡ faults_of self.now name.now }
+    {
+        self.faults[place_in(&self.files, name)]
+    }
+}
+
+// The first file of this name.
+fn find(files: &[(String, Vec<u8>)], name: &str) -> Option<usize>
+    ensures { result ≡ position (λ file. bytes_eq (string_bytes file.0) name.now) files.now }
+{
+    files.iter().position(|file| file.0.as_str() == name)
+}
+
+// The place of a name among the files, or the place behind them.
+fn place_in(files: &[(String, Vec<u8>)], name: &str) -> usize
+    ensures place { result ≡ place_of (named_bytes files.now) name.now }
+    ensures within { result ≤ length files.now }
+{
+    find(files, name).unwrap_or(files.len())
+}
+
+// A copy of these bytes, of which there may be `limit`.
+fn copy_within(alloc: Global, bytes: &[u8], limit: usize) -> Result<Vec<u8>, FileError>
+    ensures within { IfOk result (λ copy. vec_len copy ≤ limit) }
+    ensures bytes { IfOk result (λ copy. copy.items ≡ bytes.now) }
+    ensures too_long { IsErrOf result FileError.TooLong → limit < length bytes.now }
+    ensures no_fault { IsErrOf result FileError.Failed → ⊥ }
+{
+    if bytes.len() > limit {
+        return Err(FileError::TooLong);
+    }
+    Ok(bytes.to_vec(alloc)?)
+}
+
+impl Files for MemFiles {
+    ghost use Rattle.wire.specs.FilesInMemory.{content_of, faults_of, read_fails, with_read, with_fault_at};
+
+    ghost content = { λ memory. content_of memory.files };
+
+    ghost faults = { faults_of };
+
+    fn read_all(&mut self, alloc: Global, name: &str, limit: usize) -> Result<Vec<u8>, FileError>
+        ensures within { IfOk result (λ bytes. vec_len bytes ≤ limit) }
+        ensures bytes { IfOk result (λ bytes. content_of self.old.files name.now ≡ Some bytes.items) }
+        ensures too_long { IsErrOf result FileError.TooLong
+            → IfSome (content_of self.old.files name.now) (λ held. limit < length held) }
+
+        ensures fails { IsErrOf result FileError.Failed ↔ IsTrue (read_fails self.old name.now) }
+        ensures failed { IsErrOf result FileError.Failed → self.new ≡ with_fault_at self.old name.now }
+        ensures otherwise { (IsErrOf result FileError.Failed → ⊥) → self.new ≡ with_read self.old }
+
+        ensures cause { IsErrOf result FileError.Failed → Rose (faults_of self.old name.now) (faults_of self.new name.now) }
+        ensures later { (other : List ℕ) → faults_of self.old other ≤ faults_of self.new other }
+        ensures kept { self.new.files ≡ self.old.files }
+    {
+        self.calls = self.calls.saturating_add(1);
+        let place = place_in(&self.files, name);
+        if place == self.files.len() || is_planned(&self.fails, self.calls) {
+            count_fault(&mut self.faults[place]);
+            return Err(FileError::Failed);
+        }
+        copy_within(alloc, &self.files[place].1, limit)
+    }
+}
