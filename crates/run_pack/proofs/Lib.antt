@@ -1,0 +1,7 @@
+pub mod SetLemmas
+pub mod RowLemmas
+pub mod Searching
+pub mod Found
+pub mod Fewest
+pub mod Packing
+pub mod Words
