@@ -1,0 +1,9 @@
+pub mod LineLemmas
+pub mod WordLemmas
+pub mod HeaderLemmas
+pub mod SideLemmas
+pub mod RowLemmas
+pub mod MapLemmas
+pub mod CanonicalLemmas
+pub mod WritingLemmas
+pub mod AcceptedLemmas

@@ -1,0 +1,77 @@
+-- The canonical text, cell by cell and row by row.
+use Rattle.std.proofs.Common.{◌≡◌, ℕ, suc, ◌+◌, ◌-◌, ◌*◌, ◌<◌, ◌≤◌, Bool, true, false, List, [], ◌∷◌, ◌++◌, length, get_or, take, drop, refl, sym, ap, ◌∙◌, append_assoc, arith}
+use Rattle.std.specs.Prelude.{map, codes, IsTrue, ◌↔◌}
+use Rattle.std.specs.Fmt.{decimal}
+use Rattle.std.specs.List.{flat_map}
+use Rattle.std.proofs.lemmas.Bool.{false≢true, false_from_ne_true}
+use Rattle.std.proofs.lemmas.List.{append-nil, map_more, drop-drop, length-drop, get_or-drop}
+use Rattle.std.proofs.lemmas.Grind.{flat_map-append}
+use Rattle.std.proofs.lemmas.Nat.{mul-add-lt}
+use Rattle.moves.specs.declared.Cell.{Cell}
+use Rattle.moves.specs.Maps.{Map, IsInside, IsPassable, place_of}
+use Rattle.map_read.specs.Inside.{header_text}
+use Rattle.map_read.specs.MapText.{glyph, row_texts, header_texts, with_feed, text_of}
+
+-- the truth value of a cell
+passable_is : (m : Map) (cell : Cell) (p : Bool) → IsInside m cell → (IsTrue p ↔ IsPassable m cell) → p ≡ get_or m.passable (place_of m.width cell) false
+passable_is m cell true inside is = sym (is.0 refl).passable
+passable_is m cell false inside is =
+    sym (false_from_ne_true (get_or m.passable (place_of m.width cell) false) (λ e. false≢true (is.1 (record { inside = inside; passable = e }))))
+
+-- one cell more
+pub glyphs_more : (m : Map) (cell : Cell) (p : Bool) (text before : List ℕ) → length m.passable ≡ m.width * m.height → cell.x < m.width → cell.y < m.height
+    → (IsTrue p ↔ IsPassable m cell) → text ≡ before ++ map glyph (take cell.x (drop (cell.y * m.width) m.passable))
+    → text ++ glyph p ∷ [] ≡ before ++ map glyph (take (cell.x + 1) (drop (cell.y * m.width) m.passable))
+glyphs_more m cell p text before whole column row is so_far =
+    let cells = drop (cell.y * m.width) m.passable in
+    let lt : cell.x < length cells = omega (arith, length-drop (cell.y * m.width) m.passable, mul-add-lt cell.y m.width cell.x m.height row column, whole) in
+    let p-is : p ≡ get_or cells cell.x false = passable_is m cell p (record { column = column; row = row }) is ∙ sym (get_or-drop (cell.y * m.width) m.passable cell.x false) in
+    let more : map glyph (take (cell.x + 1) cells) ≡ map glyph (take cell.x cells) ++ glyph p ∷ [] =
+    map_more glyph cells cell.x false lt ∙ ap (λ (b : Bool). map glyph (take cell.x cells) ++ glyph b ∷ []) (sym p-is) in
+    rw (so_far, more) (append_assoc before (map glyph (take cell.x cells)) (glyph p ∷ []))
+
+-- the text, with what the rows from row y on add, is the canonical text
+abbrev pub IsWrittenTo : Map → List ℕ → ℕ → Type 0
+IsWrittenTo m text y = text ++ flat_map with_feed (row_texts m.width (m.height - y) (drop (y * m.width) m.passable)) ≡ text_of m
+
+-- one row more
+pub written_more : (m : Map) (text next : List ℕ) (y : ℕ) → y < m.height
+    → next ≡ text ++ with_feed (map glyph (take m.width (drop (y * m.width) m.passable))) → IsWrittenTo m text y → IsWrittenTo m next (y + 1)
+unfolding row_texts
+written_more m text next y lt next-is so_far =
+    let cells = drop (y * m.width) m.passable in
+    let row = map glyph (take m.width cells) in
+    let others = row_texts m.width (m.height - (y + 1)) (drop m.width cells) in
+    let one_more : m.height - y ≡ suc (m.height - (y + 1)) = omega arith in
+    let place : y * m.width + m.width ≡ (y + 1) * m.width = omega arith in
+    let left : drop m.width cells ≡ drop ((y + 1) * m.width) m.passable = drop-drop m.width (y * m.width) m.passable ∙ ap (λ (n : ℕ). drop n m.passable) place in
+    let now : row_texts m.width (m.height - y) cells ≡ row ∷ others = rw one_more refl in
+    let joined : next ++ flat_map with_feed others ≡ text ++ flat_map with_feed (row_texts m.width (m.height - y) cells) =
+    rw (next-is, now) (append_assoc text (with_feed row) (flat_map with_feed others)) in
+    rw (← left) (joined ∙ so_far)
+
+pub written_all : (m : Map) (text : List ℕ) (y : ℕ) → m.height ≤ y → IsWrittenTo m text y → text ≡ text_of m
+unfolding row_texts
+written_all m text y le so_far =
+    let none : m.height - y ≡ 0 = omega arith in
+    let now : row_texts m.width (m.height - y) (drop (y * m.width) m.passable) ≡ [] = rw none refl in
+    sym (append-nil text) ∙ ap (λ (rows : List (List ℕ)). text ++ flat_map with_feed rows) (sym now) ∙ so_far
+
+header_is : (width height : ℕ) → header_text width height ≡ flat_map with_feed (header_texts width height)
+header_is width height =
+    let end = codes "map" ++ 10 ∷ [] in
+    let width_line = codes "width " ++ (decimal width ++ 10 ∷ [] ++ end) in
+    let second = append_assoc (decimal width) (10 ∷ []) end in
+    let first = append_assoc (decimal height) (10 ∷ []) width_line in
+    sym (ap (λ (rest : List ℕ). (codes "type octile" ++ 10 ∷ codes "height ") ++ rest)
+    (first ∙ ap (λ (rest : List ℕ). decimal height ++ ((10 ∷ codes "width ") ++ rest)) second))
+
+-- the header is written
+pub written_none : (m : Map) (text : List ℕ) → text ≡ header_text m.width m.height → IsWrittenTo m text 0
+unfolding text_of
+written_none m text text-is =
+    let is = text-is ∙ header_is m.width m.height in
+    let rows = row_texts m.width m.height m.passable in
+    let start : 0 * m.width ≡ 0 = omega arith in
+    let all : m.height - 0 ≡ m.height = omega arith in
+    rw (start, all, is) (sym (flat_map-append with_feed (header_texts m.width m.height) rows))

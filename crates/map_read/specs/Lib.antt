@@ -1,0 +1,5 @@
+pub mod Lines
+pub mod MapText
+pub mod Faults
+pub mod Inside
+pub mod Accepted

@@ -1,0 +1,129 @@
+//! The rows: one line for each, one byte for a cell.
+
+ghost use Rattle.std.specs.Prelude.{◌≡◌, ◌+◌, ◌*◌, ◌-◌, ◌<◌, ◌≤◌, ◌^◌, Bool, List, [], ◌∷◌, ℕ, take, drop, length, Some, None, Ok, Err, MatchResult, OnOk, IfOk, true, false};
+ghost use Rattle.moves.specs.Maps.{IsWithinLimits};
+ghost use Rattle.map_read.specs.Lines.{is_blank};
+ghost use Rattle.map_read.specs.MapText.{kind_of, cell_of, free_in, cells_in, row_in, rows_in, extra_in};
+
+use crate::fault::MapFault;
+use crate::header::Sides;
+use crate::lines::{Lines, is_blank, without_gaps_at_end};
+
+/// How many passable cells a map may have.
+const MAX_FREE: u32 = 32_768;
+
+/// What a byte of a row stands for.
+#[derive(Clone, Copy, Debug)]
+enum CellKind {
+    /// A passable cell.
+    Free,
+    /// A blocked cell.
+    Wall,
+    /// A cell of water.
+    Sea,
+    /// No cell.
+    Other,
+}
+
+/// Reads the rows into the cells, row by row; or gives the first refusal.
+pub fn read_rows(lines: &mut Lines, sides: Sides, cells: &mut [bool]) -> Result<(), MapFault>
+    requires limits { IsWithinLimits sides.width sides.height }
+    requires whole { length cells.old ≡ sides.width * sides.height }
+    ensures cells { MatchResult result (λ _. rows_in sides.width 0 sides.height [] lines.old ≡ Ok cells.new) (λ fault. rows_in sides.width 0 sides.height [] lines.old ≡ Err fault) }
+    ensures rest { OnOk result (lines.new ≡ drop sides.height lines.old) }
+    ensures limit { OnOk result (free_in cells.new ≤ 32768) }
+{
+    let mut free = 0;
+    for y in 0..sides.height as u16 {
+        let Some(line) = lines.next() else {
+            return Err(MapFault::MissingRows {
+                found: u32::from(y),
+            });
+        };
+        let row = row_in(line, sides.width, u32::from(y))?;
+        free = read_cells(row, y, free, cells)?;
+    }
+    Ok(())
+}
+
+/// The bytes of row `y`: the line without the spaces and tabs at its end, which has to be as long as the map is wide.
+#[tactic(auto, unfolding(crate::specs::MapText::row_in))]
+fn row_in(line: &[u8], width: u32, y: u32) -> Result<&[u8], MapFault>
+    requires line { length line.now ≤ 2097152 }
+    requires row { y < 4096 }
+    ensures row { MatchResult result (λ row. row_in width y line.now ≡ Ok row.now) (λ fault. row_in width y line.now ≡ Err fault) }
+    ensures width { IfOk result (λ row. length row.now ≡ width) }
+{
+    let row = without_gaps_at_end(line);
+    if row.len() != width as usize {
+        return Err(MapFault::RowLength {
+            line: 5 + y,
+            expected: width,
+            found: row.len() as u32,
+        });
+    }
+    Ok(row)
+}
+
+/// Reads row `y` into its cells, where `free` cells before them are passable: how many are with those of the row.
+fn read_cells(row: &[u8], y: u16, free: u32, cells: &mut [bool]) -> Result<u32, MapFault>
+    requires width { length row.now ≤ 4096 }
+    requires room { (y + 1) * length row.now ≤ length cells.old }
+    requires place { y < 4096 }
+    requires free { free ≡ free_in (take (y * length row.now) cells.old) }
+    requires limit { free ≤ 32768 }
+    ensures cells { MatchResult result
+        (λ _. cells_in y 0 (take (y * length row.now) cells.old) row.now ≡ Ok (take ((y + 1) * length row.now) cells.new))
+        (λ fault. cells_in y 0 (take (y * length row.now) cells.old) row.now ≡ Err fault) }
+    ensures free { IfOk result (λ now. now ≡ free_in (take ((y + 1) * length row.now) cells.new)) }
+    ensures limit { IfOk result (λ now. now ≤ 32768) }
+{
+    let start = usize::from(y) * row.len();
+    let mut count = free;
+    for (x, byte) in row.iter().enumerate() {
+        let passable = cell_of(x as u16, y, *byte, count)?;
+        cells[start + x] = passable;
+        count += u32::from(passable);
+    }
+    Ok(count)
+}
+
+/// Whether the cell is passable, where `free` cells before it are; or why it is refused.
+fn cell_of(x: u16, y: u16, byte: u8, free: u32) -> Result<bool, MapFault>
+    ensures { result ≡ cell_of x y byte free (kind_of byte) }
+{
+    match kind_of(byte) {
+        CellKind::Free if free < MAX_FREE => Ok(true),
+        CellKind::Free => Err(MapFault::TooManyCells { x, y }),
+        CellKind::Wall => Ok(false),
+        CellKind::Sea => Err(MapFault::Water { x, y }),
+        CellKind::Other => Err(MapFault::BadCell { x, y, byte }),
+    }
+}
+
+/// What the byte stands for.
+fn kind_of(byte: u8) -> CellKind
+    ensures { result ≡ kind_of byte }
+{
+    match byte {
+        b'.' | b'G' | b'S' => CellKind::Free,
+        b'@' | b'O' | b'T' => CellKind::Wall,
+        b'W' => CellKind::Sea,
+        _ => CellKind::Other,
+    }
+}
+
+/// The number of the first line that is not blank, where the next line has this number.
+pub fn first_extra(lines: &mut Lines, number: u32) -> Option<u32>
+    requires { number + length lines.old < 2 ^ 32 }
+    ensures { result ≡ extra_in number lines.old }
+{
+    let mut next = number;
+    while let Some(line) = lines.next() {
+        if !is_blank(line) {
+            return Some(next);
+        }
+        next += 1;
+    }
+    None
+}

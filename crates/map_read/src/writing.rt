@@ -1,0 +1,52 @@
+//! The canonical text of a map.
+
+ghost use Rattle.std.specs.Prelude.{◌≡◌, ◌+◌, ◌*◌, ◌<◌, ◌∷◌, [], ◌++◌, map, take, drop, IfOk, OnOk};
+ghost use Rattle.std.specs.String.{string_bytes};
+ghost use Rattle.map_read.specs.Inside.{header_text};
+ghost use Rattle.map_read.specs.MapText.{glyph, with_feed, text_of};
+
+use moves::{Cell, Grid};
+use std::alloc::{AllocError, Global};
+
+/// The canonical text of the map: `type octile`, `height H`, `width W`, `map`, and the rows with `.` for a passable cell and
+/// `@` for a blocked one. A line feed ends each line.
+pub fn write_map(alloc: Global, grid: &Grid) -> Result<Vec<u8>, AllocError>
+    ensures { IfOk result (λ text. text.items ≡ text_of grid.now) }
+{
+    let (width, height) = (grid.width(), grid.height());
+    let header = header_text(alloc, width, height)?;
+    let len = header.len() + ((width + 1) * height) as usize;
+    let mut text = Vec::with_capacity(alloc, len)?;
+    text.extend_from_slice(header.as_bytes())?;
+    for y in 0..height as u16 {
+        push_row(&mut text, grid, y)?;
+    }
+    Ok(text)
+}
+
+/// The header of the canonical text.
+fn header_text(alloc: Global, width: u32, height: u32) -> Result<String, AllocError>
+    ensures { IfOk result (λ text. string_bytes text ≡ header_text width height) }
+{
+    format!(in alloc; "type octile\nheight {height}\nwidth {width}\nmap\n")
+}
+
+/// Adds the text of row `y` with its line feed.
+fn push_row(text: &mut Vec<u8>, grid: &Grid, y: u16) -> Result<(), AllocError>
+    requires { y < grid.now.height }
+    ensures { OnOk result
+        (text.new.items ≡ text.old.items ++ with_feed (map glyph (take grid.now.width (drop (y * grid.now.width) grid.now.passable)))) }
+{
+    for x in 0..grid.width() as u16 {
+        text.push(glyph(grid.passable(Cell { x, y })))?;
+    }
+    text.push(b'\n')?;
+    Ok(())
+}
+
+/// How a cell is written.
+fn glyph(passable: bool) -> u8
+    ensures { result ≡ glyph passable }
+{
+    if passable { b'.' } else { b'@' }
+}
