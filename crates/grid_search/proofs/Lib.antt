@@ -1,0 +1,12 @@
+pub mod Keyed
+pub mod Places
+pub mod Counting
+pub mod Progress
+pub mod Found
+pub mod Forgetting
+pub mod Relaxing
+pub mod Keeping
+pub mod Preceding
+pub mod Queueing
+pub mod Stepping
+pub mod Turning

@@ -1,0 +1,8 @@
+use Rattle.std.proofs.Common.{◌≡◌, ◌∙◌, ap, sym, arith, take}
+use Rattle.grid_search.specs.Searches.{keys_of}
+use Rattle.grid_search.proofs.Keeping.{keys_back}
+use Rattle.grid_search.proofs.Search.keys.Goals as goal
+
+pub returns : goal.returns
+returns c =
+    rw (c.deref.ensures.value, ← c.self.view_is) (keys_back _ _ c.self.invariant.fits c.self.invariant.proper)

@@ -1,0 +1,5 @@
+pub mod Searches
+pub mod Keys
+pub mod Kept
+pub mod Settling
+pub mod Queues
