@@ -1,0 +1,142 @@
+//! The flood: cells get labels, each component one of its own.
+
+ghost use Rattle.std.specs.Prelude.{◌≡◌, ℕ, ◌+◌, ◌-◌, ◌*◌, vec_len, ◌<◌, ◌≤◌, ◌↔◌, List, length, replicate, IsTrue, IsFalse, IfOk, IfSome, IfNone};
+ghost use Rattle.moves.specs.Maps.{IsWithinLimits, IsInside, IsPassable, passable_count, place_of};
+ghost use Rattle.moves.specs.Moves.{is_diagonal};
+ghost use Rattle.components.specs.Floods.{IsFresh, IsBalanced, Claimed, IsSpread, IsFlooded, IsScanned, AreStarts};
+ghost use Rattle.components.specs.Marks.{Marks, label_at, with_mark};
+
+use crate::{UNLABELLED, after};
+use moves::{Cell, Grid, Move};
+use std::alloc::{AllocError, Global};
+use std::marker::Model;
+
+/// What a flood has labelled so far.
+#[derive(Drop)]
+pub(crate) struct Flood {
+    /// The label of each place, row by row.
+    labels: Vec<u32>,
+    /// The cells that have a label in the order in which they were found, and room for the others.
+    found: Vec<Cell>,
+    /// How many cells have a label.
+    count: usize,
+}
+
+impl Model for Flood {
+    ghost use Rattle.std.specs.Prelude.{◌≡◌};
+    ghost use Rattle.components.specs.Marks.{Marks};
+
+    ghost Value = { Marks };
+
+    ghost view = { λ f. record { labels = f.labels.items; found = f.found.items; count = f.count } };
+}
+
+impl Flood {
+    /// Nothing is labelled, and the memory for labels and cells is taken.
+    pub(crate) fn new(alloc: Global, grid: &Grid) -> Result<Flood, AllocError>
+        ensures { IfOk result (λ flood. IsScanned grid.now 0 0 flood) }
+    {
+        let places = grid.width() as usize * grid.height() as usize;
+        Ok(Flood {
+            labels: vec![in alloc; UNLABELLED; places]?,
+            found: vec![in alloc; Cell { x: 0, y: 0 }; grid.passable_count() as usize]?,
+            count: 0,
+        })
+    }
+
+    /// The labels row by row, and the cells found.
+    pub(crate) fn into_parts(self) -> (Vec<u32>, Vec<Cell>)
+        ensures labels { result.0.items ≡ self.labels }
+        ensures found { result.1.items ≡ self.found }
+    {
+        (self.labels, self.found)
+    }
+
+    /// Gives a cell a label.
+    fn mark(&mut self, grid: &Grid, cell: Cell, label: u32)
+        requires inside { IsInside grid.now cell }
+        requires labels { length self.old.labels ≡ grid.now.width * grid.now.height }
+        requires room { self.old.count < length self.old.found }
+        ensures { self.new ≡ with_mark grid.now.width self.old cell label }
+    {
+        let place = place(grid, cell);
+        self.labels[place] = label;
+        self.found[self.count] = cell;
+        self.count += 1;
+    }
+
+    /// Whether the cell is passable and has no label yet.
+    fn is_fresh(&self, grid: &Grid, cell: Cell) -> bool
+        requires labels { length self.now.labels ≡ grid.now.width * grid.now.height }
+        ensures { IsTrue result ↔ IsFresh grid.now self.now cell }
+    {
+        grid.passable(cell) && self.labels[place(grid, cell)] == UNLABELLED
+    }
+
+    /// Gives the label to the cell that the move leads to, if it is fresh.
+    fn claim(&mut self, grid: &Grid, from: Cell, by: Move, label: u32)
+        requires from { IsPassable grid.now from }
+        requires straight { IsFalse (is_diagonal by) }
+        requires label { label < UNLABELLED }
+        requires balanced { IsBalanced grid.now self.old }
+        ensures claimed { Claimed grid.now label from by self.old self.new }
+        ensures balanced { IsBalanced grid.now self.new }
+    {
+        if let Some(to) = grid.step(from, by) {
+            if self.is_fresh(grid, to) {
+                self.mark(grid, to, label);
+            }
+        }
+    }
+
+    /// Gives the label to all that straight moves reach from the root.
+    fn spread(&mut self, grid: &Grid, root: Cell, label: u32)
+        requires root { IsFresh grid.now self.old root }
+        requires label { label < UNLABELLED }
+        requires flooded { IsFlooded grid.now label self.old }
+        ensures spread { IsSpread grid.now label root self.old self.new }
+        ensures flooded { IsFlooded grid.now (label + 1) self.new }
+    {
+        let mut next = self.count;
+        self.mark(grid, root, label);
+        while next < self.count {
+            let from = self.found[next];
+            self.claim(grid, from, Move::N, label);
+            self.claim(grid, from, Move::E, label);
+            self.claim(grid, from, Move::S, label);
+            self.claim(grid, from, Move::W, label);
+            next += 1;
+        }
+    }
+
+    /// Labels each component in the order of their first cells, and lists where the cells of each begin among the
+    /// cells found, one place to the right: the list has one number more than there are components.
+    pub(crate) fn scan(&mut self, alloc: Global, grid: &Grid) -> Result<Vec<u32>, AllocError>
+        requires { IsScanned grid.now 0 0 self.old }
+        ensures scanned { IfOk result (λ starts. IsScanned grid.now (grid.now.width * grid.now.height) (vec_len starts - 1) self.new) }
+        ensures starts { IfOk result (λ starts. AreStarts (vec_len starts - 1) self.new.labels starts.items) }
+    {
+        let width = grid.width();
+        let mut starts = vec![in alloc; 0; 1]?;
+        let mut number = 0;
+        let mut cell = Cell { x: 0, y: 0 };
+        for _place in 0..self.labels.len() {
+            if self.is_fresh(grid, cell) {
+                starts.push(self.count as u32)?;
+                self.spread(grid, cell, number);
+                number += 1;
+            }
+            cell = after(cell, width);
+        }
+        Ok(starts)
+    }
+}
+
+/// The cell's place in a list that goes row by row.
+fn place(grid: &Grid, cell: Cell) -> usize
+    requires { IsInside grid.now cell }
+    ensures place { result ≡ place_of grid.now.width cell }
+    ensures inside { result < grid.now.width * grid.now.height }
+{
+    u32::from(cell.y) as usize * grid.width() as usize + u32::from(cell.x) as usize
+}

@@ -1,0 +1,129 @@
+//! The connected components of a map: which cells paths join.
+//!
+//! No legal move cuts a corner, so the components are those by straight moves, and one flood by straight moves finds
+//! each. The components are numbered by their least cells in row-major order.
+#![tactic(auto)]
+
+ghost use Rattle.std.specs.Prelude.{◌≡◌, ℕ, ◌+◌, ◌<◌, ◌≤◌, [], length, slice_index_or, IfOk, IfSome, IfNone};
+ghost use Rattle.moves.specs.Maps.{place_of};
+ghost use Rattle.moves.specs.Components.{IsComponentList};
+ghost use Rattle.components.specs.Groups.{IsLabelOf};
+
+mod flood;
+mod groups;
+#[cfg(test)]
+mod tests;
+
+use flood::Flood;
+use groups::gather;
+use moves::{Cell, Grid};
+use std::alloc::{AllocError, Global};
+use std::marker::Model;
+
+/// The label of a place that is in no component.
+const UNLABELLED: u32 = u32::MAX;
+
+/// The components of a map in the order of their least cells, and the number of each cell's component.
+#[derive(Drop)]
+pub struct Labels {
+    width: u32,
+    height: u32,
+    /// The label of each place, row by row.
+    labels: Vec<u32>,
+    /// Where the cells of each component begin among the cells, and where the last one's end.
+    starts: Vec<u32>,
+    /// The cells, component by component.
+    cells: Vec<Cell>,
+}
+
+impl Model for Labels {
+    ghost use Rattle.std.specs.Prelude.{◌-◌, List, length};
+    ghost use Rattle.moves.specs.declared.Cell.{Cell};
+    ghost use Rattle.components.specs.Groups.{components_of, IsWhole};
+
+    ghost Value = { List (List Cell) };
+
+    ghost view = { λ l. components_of l.width l.labels.items (length l.starts.items - 1) };
+
+    ghost invariant = { λ l. IsWhole l.width l.height l.labels.items l.starts.items l.cells.items };
+}
+
+/// The components of a map.
+///
+/// # Errors
+///
+/// `AllocError` where memory runs out.
+pub fn label(alloc: Global, grid: &Grid) -> Result<Labels, AllocError>
+    ensures { IfOk result (λ labels. IsComponentList grid.now labels) }
+{
+    let mut flood = Flood::new(alloc, grid)?;
+    let mut starts = flood.scan(alloc, grid)?;
+    let (labels, mut cells) = flood.into_parts();
+    let width = grid.width();
+    gather(width, &labels, &mut starts, &mut cells);
+    Ok(Labels {
+        width,
+        height: grid.height(),
+        labels,
+        starts,
+        cells,
+    })
+}
+
+impl Labels {
+    /// How many components there are.
+    pub fn count(&self) -> u32
+        ensures { result ≡ length self.now }
+    {
+        self.starts.len() as u32 - 1
+    }
+
+    /// The number of the component that has the cell; `None` exactly for a blocked cell or one outside.
+    pub fn of(&self, cell: Cell) -> Option<u32>
+        ensures some { IfSome result (λ label. IsLabelOf self.now cell label) }
+        ensures none { IfNone result ((label : ℕ) → IsLabelOf self.now cell label → ⊥) }
+        ensures alone { (label : ℕ) → IsLabelOf self.now cell label → result ≡ Some label }
+    {
+        let (x, y) = (u32::from(cell.x), u32::from(cell.y));
+        if x >= self.width || y >= self.height {
+            return None;
+        }
+        let label = self.labels[(y * self.width + x) as usize];
+        if label == UNLABELLED {
+            None
+        } else {
+            Some(label)
+        }
+    }
+
+    /// The cells of a component in row-major order.
+    pub fn cells(&self, label: u32) -> &[Cell]
+        requires { label < length self.now }
+        ensures { result.now ≡ slice_index_or self.now label [] }
+    {
+        let start = self.starts[label as usize] as usize;
+        let end = self.starts[label as usize + 1] as usize;
+        &self.cells[start..end]
+    }
+}
+
+/// The next cell in row-major order.
+fn after(cell: Cell, width: u32) -> Cell
+    requires column { cell.x < width }
+    requires width { width ≤ 4096 }
+    requires row { cell.y < 4096 }
+    ensures column { result.x < width }
+    ensures place { place_of width result ≡ place_of width cell + 1 }
+{
+    if u32::from(cell.x) + 1 < width {
+        Cell {
+            x: cell.x + 1,
+            y: cell.y,
+        }
+    } else {
+        Cell {
+            x: 0,
+            y: cell.y + 1,
+        }
+    }
+}
