@@ -1,0 +1,86 @@
+//! Orders of the cells of a component, by which its rows are packed.
+#![tactic(auto)]
+
+ghost use Rattle.std.specs.Prelude.{◌≡◌, ◌+◌, ◌<◌, ◌≤◌, ◌++◌, All, AllPairs, length, reverse, IfOk, IsPermutation};
+ghost use Rattle.moves.specs.Maps.{ComesBefore};
+ghost use Rattle.moves.specs.StraightPaths.{IsConnected};
+ghost use Rattle.cell_order.specs.Orders.{IsOnMap, beside, ordered};
+
+mod unseen;
+
+use moves::Cell;
+use std::alloc::{AllocError, Global};
+use unseen::Unseen;
+
+/// How the cells of a component are ordered.
+#[derive(Clone, Copy, Debug, PartialEq, Eq)]
+pub enum OrderKind {
+    /// Row by row, and in each row from left to right.
+    Rows,
+    /// As they are first visited from the first cell, depth first: at each cell to the north, the east, the south and
+    /// the west of it, past cells that were visited before.
+    Dfs,
+}
+
+/// The cells of a component in the named order. They are from 1 to 32,768 cells in row-major order, connected by
+/// straight moves among themselves.
+///
+/// # Errors
+///
+/// `AllocError` where memory runs out.
+pub fn order_of(alloc: Global, kind: OrderKind, cells: &[Cell]) -> Result<Vec<Cell>, AllocError>
+    requires some { 0 < length cells.now }
+    requires few { length cells.now ≤ 32768 }
+    requires rows { AllPairs ComesBefore cells.now }
+    requires limits { All IsOnMap cells.now }
+    requires connected { IsConnected cells.now }
+    ensures order { IfOk result (λ order. order.items ≡ ordered kind cells.now) }
+    ensures same { IfOk result (λ order. IsPermutation order.items cells.now) }
+{
+    match kind {
+        OrderKind::Rows => cells.iter().copied().collect(alloc),
+        OrderKind::Dfs => depth_first(alloc, cells),
+    }
+}
+
+/// The cells as they are first visited from the first of them, depth first.
+fn depth_first(alloc: Global, cells: &[Cell]) -> Result<Vec<Cell>, AllocError>
+    requires some { 0 < length cells.now }
+    requires few { length cells.now ≤ 32768 }
+    requires rows { AllPairs ComesBefore cells.now }
+    requires limits { All IsOnMap cells.now }
+    requires connected { IsConnected cells.now }
+    ensures order { IfOk result (λ order. order.items ≡ ordered (OrderKind.Dfs) cells.now) }
+    ensures same { IfOk result (λ order. IsPermutation order.items cells.now) }
+{
+    let mut unseen = Unseen::of(alloc, cells)?;
+    let mut order = Vec::with_capacity(alloc, cells.len())?;
+    let mut pending = Vec::with_capacity(alloc, 3 * cells.len() + 1)?;
+    pending.push(cells[0])?;
+    while let Some(cell) = pending.pop() {
+        if unseen.has(cell) {
+            unseen.remove(cell);
+            order.push(cell)?;
+            push_beside(&mut pending, cell)?;
+        }
+    }
+    Ok(order)
+}
+
+/// Puts the four cells beside a cell on the stack, the northern one on top, then east, south and west.
+fn push_beside(pending: &mut Vec<Cell>, cell: Cell) -> Result<(), AllocError>
+    requires column { cell.x < 4096 }
+    requires row { cell.y < 4096 }
+    ensures { IfOk result (λ _. pending.new.items ≡ pending.old.items ++ reverse (beside cell)) }
+{
+    let Cell { x, y } = cell;
+    if x > 0 {
+        pending.push(Cell { x: x - 1, y })?;
+    }
+    pending.push(Cell { x, y: y + 1 })?;
+    pending.push(Cell { x: x + 1, y })?;
+    if y > 0 {
+        pending.push(Cell { x, y: y - 1 })?;
+    }
+    Ok(())
+}
