@@ -1,0 +1,10 @@
+pub mod Routing
+pub mod Telling
+pub mod Ending
+pub mod ClapLemmas
+pub mod CommandLemmas
+pub mod NameLemmas
+pub mod NumberLemmas
+pub mod OptionLemmas
+pub mod PlainLemmas
+pub mod RequestLemmas

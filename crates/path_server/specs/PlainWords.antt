@@ -1,0 +1,42 @@
+-- What command lines ask for of which no word is an option.
+use Rattle.std.specs.Prelude.{◌≡◌, ◌≢◌, ◌<◌, ◌⊎◌, ◌++◌, ℕ, List, [], ◌∷◌, Option, None, codes, slice_index}
+use Rattle.std.specs.List.{AllByRecursion}
+use Rattle.clap.specs.Walk.{Text}
+use Rattle.path_server.specs.Words.{coordinate_in, path_in}
+use Rattle.path_server.specs.Requests.{Asked, cell_from, check_from, path_from, request_of}
+
+-- the word does not begin with a hyphen
+abbrev pub IsPlain : Text → Type 0
+IsPlain word = slice_index word 0 ≢ 45
+
+-- `path` wants five words: a file, and the column and the row of the start and of the goal
+abbrev pub plain_path : List Text → Option Asked
+plain_path (map ∷ sx ∷ sy ∷ gx ∷ gy ∷ []) = path_from (path_in map)
+    (cell_from (coordinate_in sx) (coordinate_in sy)) (cell_from (coordinate_in gx) (coordinate_in gy))
+plain_path _ = None
+
+-- `check` wants one word: a file
+abbrev pub plain_check : List Text → Option Asked
+plain_check (map ∷ []) = check_from (path_in map)
+plain_check _ = None
+
+-- plain words go to the arguments in order: one too few or too many, and nothing is asked for
+abbrev pub PlainWordsAreRead : Type 0
+PlainWordsAreRead = (words : List Text) → AllByRecursion IsPlain words
+    → (request_of (codes "path" ∷ words) ≡ plain_path words)
+    × (request_of (codes "check" ∷ words) ≡ plain_check words)
+
+-- `--name`, `--name=value` and their kind
+abbrev pub IsLong : Text → Type 0
+IsLong word = (first : ℕ) × (rest : Text) × (word ≡ 45 ∷ 45 ∷ first ∷ rest)
+
+-- `-n`, `-nvalue` and their kind: a hyphen, and a first character that is ASCII and no hyphen
+abbrev pub IsShort : Text → Type 0
+IsShort word = (first : ℕ) × (rest : Text) × (first < 128) × (first ≢ 45) × (word ≡ 45 ∷ first ∷ rest)
+
+-- an option after plain words is refused, whatever follows it
+abbrev pub OptionsAreRefused : Type 0
+OptionsAreRefused = (before after : List Text) (word : Text) → AllByRecursion IsPlain before
+    → IsLong word ⊎ IsShort word
+    → (request_of (codes "path" ∷ (before ++ word ∷ after)) ≡ None)
+    × (request_of (codes "check" ∷ (before ++ word ∷ after)) ≡ None)

@@ -1,0 +1,72 @@
+-- The words of a command, as clap reads them, and what a value of a command may be.
+use Rattle.std.specs.Prelude.{◌≡◌, ℕ, Bool, true, ◌&&◌, List, [], ◌∷◌, Option, Some, None, String}
+use Rattle.std.specs.Prelude.{map, length, nat_lt, nat_le, if◌then◌else◌, string_bytes, IsTrue}
+use Rattle.std.specs.Char.{is_ascii_digit}
+use Rattle.std.specs.Global.{Global}
+use Rattle.std.specs.List.{list_all}
+use Rattle.std.specs.Str.Parse.{digits_value}
+use Rattle.clap.specs.Walk.{Rule, Text, first_of, is_empty}
+use Rattle.clap.specs.Simple.{App, matches_of, new_rule, new_shape}
+use Rattle.clap.specs.Matches.{first_value, found_of}
+use Rattle.clap.specs.Faults.{fault_of}
+use Rattle.clap.specs.declared.builder.action.ArgAction.TheVariants.{Set}
+use Rattle.clap.specs.declared.parser.matches.ArgMatches.{ArgMatches}
+
+-- the bytes of each word
+abbrev pub texts_of : List (String Global) → List Text
+texts_of = map string_bytes
+
+-- ---- a command
+
+-- an argument that is required, and has the last value that is given for it
+abbrev pub required_rule : Text → Rule
+required_rule id = record (new_rule id) { required = true; action = Some Set }
+
+-- the command with this name and these required arguments, in this order: it has no option, and
+-- not even the flags for help and for the version
+unfoldable pub command_app : Text → List Text → App
+command_app name positionals = record {
+  top = record (new_shape name) {
+    rules = map required_rule positionals;
+    disable_help_flag = true;
+    disable_version_flag = true;
+  };
+  subs = [];
+}
+
+-- clap finds no fault with the words, of which the first stands in the program's place
+unfoldable pub is_taken : App → List Text → Bool
+is_taken app words = is_empty (fault_of app words)
+
+-- the value that clap finds in the words for the argument of this name
+unfoldable pub value_of : App → List Text → Text → Option Text
+value_of app words id = first_of id (matches_of app words)
+
+-- clap takes the words, and a parse found each value that they have
+pub record HasValues (app : App) (words : List Text) (matches : ArgMatches) : Type 0 where
+  pub taken : IsTrue (is_taken app words)
+  pub values : (id : Text) → first_value (found_of matches) id ≡ value_of app words id
+
+-- ---- the values
+
+-- 1 to 10 decimal digits and nothing else
+abbrev pub is_number : Text → Bool
+is_number text = nat_lt 0 (length text) && (nat_le (length text) 10 && list_all is_ascii_digit text)
+
+-- the number that the digits write, so leading zeros are allowed
+unfoldable pub number_in : Text → Option ℕ
+number_in text = if is_number text then Some (digits_value 10 text) else None
+
+-- the number where it is not above the limit
+abbrev pub up_to : ℕ → Option ℕ → Option ℕ
+up_to limit (Some number) = if nat_le number limit then Some number else None
+up_to limit None = None
+
+-- a column or a row: a number from 0 to 65,535
+unfoldable pub coordinate_in : Text → Option ℕ
+coordinate_in text = up_to 65535 (number_in text)
+
+-- the name of a file: any text that is not empty
+abbrev pub path_in : Text → Option Text
+path_in [] = None
+path_in (byte ∷ rest) = Some (byte ∷ rest)

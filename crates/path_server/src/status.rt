@@ -1,0 +1,107 @@
+//! How the program ends.
+
+ghost use Rattle.std.specs.Prelude.{◌≡◌};
+ghost use Rattle.path_server.specs.Answers.{status_code};
+
+use crate::query::QueryRefusal;
+use crate::request::RequestError;
+use map_read::MapFault;
+use std::alloc::AllocError;
+use std::fmt;
+
+/// How a run ends.
+#[derive(Clone, Copy, Debug, Drop, PartialEq, Eq)]
+pub enum Status {
+    /// The work was done.
+    Done,
+    /// No command takes the words.
+    Usage,
+    /// The file is not a map's.
+    Map(MapFault),
+    /// An end of the path that is asked for lies outside or is blocked.
+    Query(QueryRefusal),
+    /// The file could not be read.
+    ReadFault,
+    /// The output did not take all of the text.
+    WriteFault,
+    /// There was not enough memory.
+    NoMemory,
+    /// The file has more bytes than it may have.
+    TooLong {
+        /// How many bytes it may have.
+        limit: u32,
+    },
+}
+
+impl Status {
+    /// The exit status of the process.
+    pub fn code(&self) -> u8
+        ensures { result ≡ status_code self.now }
+    {
+        match self {
+            Status::Done => 0,
+            Status::Usage => 1,
+            Status::Map(_) => 2,
+            Status::Query(_) => 4,
+            Status::ReadFault => 5,
+            Status::WriteFault => 6,
+            Status::NoMemory => 7,
+            Status::TooLong { .. } => 8,
+        }
+    }
+}
+
+impl From<AllocError> for Status {
+    ghost use Rattle.std.specs.Prelude.{◌≡◌};
+    ghost use Rattle.path_server.specs.declared.status.Status.TheVariants.{NoMemory};
+
+    ghost from_gives = { λ _ status. status ≡ NoMemory };
+
+    fn from(_: AllocError) -> Status {
+        Status::NoMemory
+    }
+}
+
+impl From<QueryRefusal> for Status {
+    ghost use Rattle.std.specs.Prelude.{◌≡◌};
+    ghost use Rattle.path_server.specs.declared.status.Status.TheVariants.{Query};
+
+    ghost from_gives = { λ refusal status. status ≡ Query refusal };
+
+    fn from(refusal: QueryRefusal) -> Status {
+        Status::Query(refusal)
+    }
+}
+
+impl From<RequestError> for Status {
+    ghost use Rattle.path_server.specs.Causes.{IsRequestStatus};
+
+    ghost from_gives = { IsRequestStatus };
+
+    fn from(error: RequestError) -> Status {
+        match error {
+            RequestError::Usage => Status::Usage,
+            RequestError::NoMemory => Status::NoMemory,
+        }
+    }
+}
+
+/// The line that is printed of the status, without its end; nothing where the work was done or the output fails.
+impl fmt::Display for Status {
+    ghost use Rattle.std.specs.Prelude.{Some};
+    ghost use Rattle.path_server.specs.Answers.{status_words};
+
+    ghost output = { λ status. Some (status_words status) };
+
+    fn fmt<W: fmt::Write>(&self, f: &mut fmt::Formatter<W>) -> fmt::Result {
+        match self {
+            Status::Done | Status::WriteFault => Ok(()),
+            Status::Usage => write!(f, "usage: path check scen made replay talk serve ask"),
+            Status::Map(fault) => write!(f, "map refused: {fault}"),
+            Status::Query(refusal) => write!(f, "{refusal}"),
+            Status::ReadFault => write!(f, "read fault"),
+            Status::NoMemory => write!(f, "out of memory"),
+            Status::TooLong { limit } => write!(f, "file too long: {limit}"),
+        }
+    }
+}
