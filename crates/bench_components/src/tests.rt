@@ -86,3 +86,46 @@ fn orders_of_made_maps(rt: HostRuntime) -> Result<(), AllocError> {
     }
     Ok(())
 }
+
+/// The one component of the map, depth first.
+fn depth_first(rt: &impl Abort, alloc: Global, grid: &Grid) -> Result<Vec<Cell>, AllocError> {
+    let labels = label(alloc, grid)?;
+    assert_eq!(rt; labels.count(), 1);
+    assert!(rt; labels.cells(0).len() <= 32768);
+    order_component(alloc, OrderKind::Dfs, grid, &labels, 0)
+}
+
+#[test]
+fn order_of_a_small_room(rt: HostRuntime) -> Result<(), AllocError> {
+    let grid = Grid::of_cells(rt.alloc(), 3, 2, vec![in rt.alloc(); true; 6]?)?;
+    let order = depth_first(&rt, rt.alloc(), &grid)?;
+    let wanted = [(0, 0), (1, 0), (2, 0), (2, 1), (1, 1), (0, 1)];
+    assert_eq!(rt; order.len(), wanted.len());
+    for (cell, (x, y)) in order.iter().zip(wanted) {
+        assert_eq!(rt; *cell, Cell { x, y });
+    }
+    Ok(())
+}
+
+/// A corridor of 32,768 cells that winds from side to side is followed to its end, which no stack of calls could do.
+#[test]
+fn order_of_a_winding_corridor(rt: HostRuntime) -> Result<(), AllocError> {
+    let mut cells = Vec::new(rt.alloc());
+    let mut wanted = Vec::new(rt.alloc());
+    for y in 0..256u16 {
+        let turn = if y % 4 == 1 { 254 } else { 0 };
+        for step in 0..255u16 {
+            cells.push(y % 2 == 0 || step == turn)?;
+            let x = if y % 4 == 2 { 254 - step } else { step };
+            if y % 2 == 0 || step == turn {
+                wanted.push(Cell { x, y })?;
+            }
+        }
+    }
+    assert_eq!(rt; cells.len(), 255 * 256);
+    assert_eq!(rt; wanted.len(), 32768);
+    let grid = Grid::of_cells(rt.alloc(), 255, 256, cells)?;
+    let order = depth_first(&rt, rt.alloc(), &grid)?;
+    assert!(rt; order == wanted);
+    Ok(())
+}

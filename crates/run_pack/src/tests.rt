@@ -4,7 +4,9 @@ ghost use Rattle.run_pack.specs.Runs.{Rises, IsTight, run_of_word};
 
 use crate::row::{Row, Stored};
 use crate::steps::Steps;
-use crate::{Run, find_move, find_word_move, pack, pack_words, run_of, search, word};
+use crate::{
+    Run, find, find_move, find_word, find_word_move, pack, pack_words, run_of, search, word,
+};
 use std::alloc::{AllocError, Global};
 use std::cell::Cell;
 use std::marker::Brand;
@@ -102,6 +104,19 @@ fn search_watched<L: Ledger>(row: &[Watched], place: u32, blank: Blank) -> u8
     search(&Row::new(row), place, &mut steps)
 }
 
+/// What the two counted look-ups find, in runs and in words.
+fn find_counted<L: Ledger>(row: &[Run], words: &[u32], place: u32, blank: Blank) -> (u8, u8)
+    requires name { blank.name ≡ L.name }
+    requires parts { blank.parts ≡ L.parts }
+    requires some { 0 < blank.parts }
+    requires rises { Rises row.now }
+    requires words_rise { Rises (map run_of_word words.now) }
+{
+    let mut steps = Steps::<L>::new(blank);
+    let by_run = find(row, place, &mut steps);
+    (by_run, find_word(words, place, &mut steps))
+}
+
 #[test]
 fn packs_rows(rt: HostRuntime) -> Result<(), Fail> {
     let alloc = rt.alloc();
@@ -191,6 +206,10 @@ fn finds_in_rows(rt: HostRuntime) -> Result<(), Fail> {
             let want = ((place.isqrt() as usize).min(last) % 8) as u8;
             assert_eq!(rt; find_move(&row, place), want);
             assert_eq!(rt; find_word_move(&words, place), want);
+            assert_eq!(rt;
+                find_counted::<Brand>(&row, &words, place, Blank::new(1)),
+                (want, want)
+            );
             let reads = Cell::new(0);
             let watched = watch(alloc, &row, &reads)?;
             assert_eq!(rt;
