@@ -1,9 +1,8 @@
 -- How many cells can be settled: at most as many as are passable.
-use Rattle.std.proofs.Common.{◌≡◌, ℕ, zero, suc, ◌+◌, ◌<◌, ◌≤◌, Bool, true, false, cond, List, [], ◌∷◌, length, get_or, set, count_by, refl, sym, ap, ◌∙◌, inl, inr, arith, All, AllPairs, get_or-set_other}
+use Rattle.std.proofs.Common.{◌≡◌, ℕ, suc, ◌+◌, ◌<◌, ◌≤◌, Bool, true, false, cond, List, [], ◌∷◌, length, get_or, set, count_by, sym, ap, ◌∙◌, inl, inr, arith, All, AllPairs, get_or-set_other}
 use Rattle.std.proofs.lemmas.Bool.{cases_lt, false≢true}
 use Rattle.std.proofs.lemmas.List.{get_or_past}
 use Rattle.std.proofs.lemmas.List.Sums.{sum_by-set}
-use Rattle.std.proofs.lemmas.List.Elements.{All-tail}
 
 -- places of a list that are marked there, each named once, are no more than the marks
 pub marked_once : {X : Type 0} (place : X → ℕ) (cells : List X) (marks : List Bool) → AllPairs (λ a b. place a ≡ place b → ⊥) cells

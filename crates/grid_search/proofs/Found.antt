@@ -1,22 +1,21 @@
 -- What a search has found when no reached cell is left: a table of costs that are the least, in order.
-use Rattle.std.proofs.Common.{◌≡◌, ◌≢◌, ℕ, zero, suc, ◌+◌, ◌*◌, ◌<◌, ◌≤◌, ◌⊎◌, ◌&&◌, Bool, true, false, cond, nat_lt, List, [], ◌∷◌, ◌++◌, Option, Some, None, IsSome, MatchOption, map, take, length, get_or, refl, sym, ap, ◌∙◌, subst, inl, inr, arith, rules, All, AllPairs, Contains}
-use Rattle.std.proofs.lemmas.Bool.{cases_lt, cases_Bool, lt-ltb, ltb-true, and_parts, and_from, true≢false}
+use Rattle.std.proofs.Common.{◌≡◌, ◌≢◌, ℕ, zero, suc, ◌+◌, ◌*◌, ◌<◌, ◌≤◌, ◌&&◌, Bool, true, false, cond, nat_lt, List, [], ◌∷◌, ◌++◌, Option, Some, None, IsSome, map, take, length, get_or, refl, sym, ap, ◌∙◌, subst, inl, inr, arith, All, AllPairs, Contains}
+use Rattle.std.proofs.lemmas.Bool.{cases_lt, cases_Bool, lt-ltb, ltb-true, and_parts, and_from}
 use Rattle.std.proofs.lemmas.List.{get_or-map, get_or-take, length-map, length-take-le, length_push}
 use Rattle.std.proofs.lemmas.List.Elements.{All-push, All-contains, Contains-get_or}
 use Rattle.std.proofs.lemmas.List.Quantifiers.{all_pairs_push}
-use Rattle.std.proofs.lemmas.Nat.{mul-add-lt}
 use Rattle.root_cost.specs.declared.Cost.{Cost}
 use Rattle.root_cost.specs.Costs.{key_of, no_cost, plus_step, IsAtMost}
 use Rattle.root_cost.proofs.Adding.{key_of-plus_step}
 use Rattle.root_cost.proofs.Keys.{at_most_if_key, same_if_key}
 use Rattle.moves.specs.declared.Cell.{Cell}
 use Rattle.moves.specs.declared.Move.{Move}
-use Rattle.moves.specs.Maps.{Map, IsInside, IsPassable, IsWithinLimits, ComesBefore, place_of, passable_count}
+use Rattle.moves.specs.Maps.{Map, IsInside, IsPassable, place_of, passable_count}
 use Rattle.moves.specs.Moves.{is_diagonal, IsLegal}
 use Rattle.moves.specs.Paths.{IsLeastCost}
 use Rattle.moves.specs.CostTables.{IsCostTable, after_step}
 use Rattle.moves.proofs.TableLaws.{same_or_apart, tables_are_least}
-use Rattle.grid_search.specs.Keys.{no_key, step_key, key_at, cost_if_key, cost_of_key}
+use Rattle.grid_search.specs.Keys.{no_key, step_key, key_at, cost_if_key}
 use Rattle.grid_search.specs.Searches.{Searched, cost_at, HasCost, IsNoDearer, IsInOrder, HasSearched}
 use Rattle.grid_search.proofs.Keyed.{cost_if_of, cost_if_none}
 use Rattle.grid_search.proofs.Counting.{marked_once}

@@ -1,17 +1,15 @@
 -- What holds of the memory of a search: when it is made, and after a search.
-use Rattle.std.proofs.Common.{◌≡◌, ◌≢◌, ℕ, ◌+◌, ◌*◌, ◌<◌, ◌≤◌, ◌⊎◌, None, List, [], length, get_or, take, replicate, map, set, refl, sym, ap, ◌∙◌, subst, inl, inr, arith, All, Any, Contains, get_or-set_same, get_or-set_other}
-use Rattle.std.proofs.lemmas.Bool.{cases_eq, cases_lt}
+use Rattle.std.proofs.Common.{◌≡◌, ℕ, ◌*◌, ◌<◌, ◌≤◌, None, List, length, get_or, take, replicate, map, sym, ap, ◌∙◌, subst, inl, inr, arith, All, Any}
+use Rattle.std.proofs.lemmas.Bool.{cases_lt}
 use Rattle.std.proofs.lemmas.List.{get_or-replicate, get_or_past, get_or_default, length-replicate, same_lists, get_or-map, get_or-take, length-map, length-take-le}
-use Rattle.root_cost.specs.declared.Cost.{Cost}
-use Rattle.root_cost.specs.Costs.{key_of, no_cost}
 use Rattle.moves.specs.declared.Cell.{Cell}
-use Rattle.moves.specs.Maps.{Map, IsInside, IsPassable, IsWithinLimits, place_of, cell_at, passable_count}
+use Rattle.moves.specs.Maps.{Map, IsPassable, IsWithinLimits, place_of, cell_at, passable_count}
 use Rattle.grid_search.specs.Keys.{no_key, key_at, cost_if_key}
 use Rattle.grid_search.specs.Searches.{key_or_none, HasSearched}
 use Rattle.grid_search.specs.Kept.{IsKept, IsWithin}
-use Rattle.grid_search.specs.Settling.{IsReached, IsProgress, IsFinished}
+use Rattle.grid_search.specs.Settling.{IsReached, IsFinished}
 use Rattle.grid_search.proofs.Keyed.{proper_none, proper_some}
-use Rattle.grid_search.proofs.Places.{place_inside, cell_of_place, place_back, cell_inside}
+use Rattle.grid_search.proofs.Places.{place_back, cell_inside}
 use Rattle.grid_search.proofs.Found.{settled_count}
 
 none_everywhere : (n place : ℕ) → get_or (replicate n no_key) place no_key ≡ no_key

@@ -1,9 +1,9 @@
 -- A key gives its cost back.
-use Rattle.std.proofs.Common.{◌≡◌, ℕ, ◌+◌, ◌-◌, ◌*◌, ◌/◌, ◌%◌, ◌<◌, ◌≤◌, Bool, true, false, List, Option, Some, None, nat_eq, refl, sym, ap, ◌∙◌, arith}
-use Rattle.std.proofs.lemmas.Bool.{ne_eqb, eq-eqb}
+use Rattle.std.proofs.Common.{◌≡◌, ℕ, ◌+◌, ◌-◌, ◌*◌, ◌/◌, ◌%◌, ◌<◌, Some, None, refl, sym, ap, ◌∙◌, arith}
+use Rattle.std.proofs.lemmas.Bool.{ne_eqb}
 use Rattle.std.proofs.lemmas.Nat.{mod-mul-add, div-mul-add}
 use Rattle.root_cost.specs.declared.Cost.{Cost}
-use Rattle.root_cost.specs.Costs.{key_of, no_cost}
+use Rattle.root_cost.specs.Costs.{key_of}
 use Rattle.root_cost.proofs.Order.{same_fields}
 use Rattle.grid_search.specs.Keys.{no_key, diagonal_of, cost_of_key, cost_if_key}
 use Rattle.grid_search.specs.Searches.{key_or_none}

@@ -10,3 +10,5 @@ pub mod Preceding
 pub mod Queueing
 pub mod Stepping
 pub mod Turning
+pub mod Scanning
+pub mod Filled

@@ -1,5 +1,5 @@
 -- Places of cells in a list that goes row by row.
-use Rattle.std.proofs.Common.{◌≡◌, ℕ, zero, suc, ◌+◌, ◌*◌, ◌/◌, ◌%◌, ◌<◌, arith}
+use Rattle.std.proofs.Common.{◌≡◌, ℕ, zero, suc, ◌*◌, ◌<◌, arith}
 use Rattle.std.proofs.lemmas.Nat.{mul-add-lt, same_from_place, div_below, mod_below, div-add-mod'}
 use Rattle.moves.specs.declared.Cell.{Cell}
 use Rattle.moves.proofs.MoveLaws.{same_cell}

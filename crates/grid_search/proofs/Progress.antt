@@ -1,5 +1,5 @@
 -- What holds while cells are settled one by one, by rising key: how a turn keeps it, however the next cell is found.
-use Rattle.std.proofs.Common.{◌≡◌, ◌≢◌, ℕ, zero, suc, ◌+◌, ◌*◌, ◌<◌, ◌≤◌, ◌⊎◌, Bool, true, false, if◌then◌else◌, List, [], ◌∷◌, ◌++◌, length, get_or, refl, sym, ap, ◌∙◌, subst, inl, inr, arith, All, AllPairs, Contains}
+use Rattle.std.proofs.Common.{◌≡◌, ℕ, ◌+◌, ◌<◌, ◌≤◌, Bool, true, false, if◌then◌else◌, List, [], ◌∷◌, ◌++◌, length, get_or, sym, ap, ◌∙◌, subst, inl, inr, arith, Contains}
 use Rattle.std.proofs.lemmas.List.{length_push}
 use Rattle.std.proofs.lemmas.List.Elements.{All-push, All-contains, Contains-push, Contains-append_left, Contains-push_cases, Contains-get_or}
 use Rattle.std.proofs.lemmas.List.Quantifiers.{all_pairs_push}
@@ -8,7 +8,7 @@ use Rattle.root_cost.specs.Costs.{key_of, plus_step}
 use Rattle.root_cost.proofs.Adding.{key_of-plus_step}
 use Rattle.moves.specs.declared.Cell.{Cell}
 use Rattle.moves.specs.declared.Move.{Move}
-use Rattle.moves.specs.Maps.{Map, IsInside, IsPassable}
+use Rattle.moves.specs.Maps.{Map, IsPassable}
 use Rattle.moves.specs.Moves.{is_diagonal, IsLegal}
 use Rattle.grid_search.specs.Keys.{no_key, step_key, key_at}
 use Rattle.grid_search.specs.Settling.{IsReached, IsProgress, IsRelaxed, IsNext, EveryMove}

@@ -1,5 +1,5 @@
 -- What the two queues of a search keep: when a cell is pushed, and when the first entry is taken.
-use Rattle.std.proofs.Common.{◌≡◌, ◌≢◌, ℕ, ◌+◌, ◌*◌, ◌<◌, ◌≤◌, ◌⊎◌, false, true, Option, Some, None, IfNone, List, [], ◌∷◌, ◌++◌, length, get_or, set, refl, sym, ap, ◌∙◌, subst, inl, inr, arith, All, AllPairs, Contains, get_or-set_same, get_or-set_other}
+use Rattle.std.proofs.Common.{◌≡◌, ℕ, ◌+◌, ◌*◌, ◌<◌, ◌≤◌, ◌⊎◌, false, true, Option, Some, None, IfNone, List, [], ◌∷◌, ◌++◌, length, get_or, set, refl, sym, ap, ◌∙◌, subst, inl, inr, arith, All, AllPairs, Contains, get_or-set_same, get_or-set_other}
 use Rattle.std.proofs.lemmas.Bool.{cases_lt}
 use Rattle.std.proofs.lemmas.List.{length_push, get_or_push, get_or_append_left, get_or_default}
 use Rattle.std.proofs.lemmas.List.Elements.{All-push, All-contains, Contains-push, Contains-append_left, Contains-push_cases, Contains-get_or}
@@ -10,7 +10,7 @@ use Rattle.moves.proofs.TableLaws.{same_or_apart}
 use Rattle.grid_search.specs.declared.queue.Waiting.{Waiting}
 use Rattle.grid_search.specs.Keys.{no_key, key_at}
 use Rattle.grid_search.specs.Settling.{IsReached, IsNext}
-use Rattle.grid_search.specs.Queues.{Pushes, IsFirst, IsLeft, IsTakenFirst, push_to, rest_of, IsQueue, AreQueues}
+use Rattle.grid_search.specs.Queues.{Pushes, IsFirst, IsLeft, push_to, rest_of, IsQueue, AreQueues}
 use Rattle.grid_search.proofs.Places.{place_inside, cell_of_place}
 use Rattle.grid_search.proofs.Counting.{marked_once}
 

@@ -1,11 +1,11 @@
 -- Taking the steps from a cell one after another, with the keys and both queues.
-use Rattle.std.proofs.Common.{◌≡◌, ◌≢◌, ℕ, ◌+◌, ◌*◌, ◌<◌, ◌≤◌, ◌⊎◌, Bool, true, false, if◌then◌else◌, List, [], ◌∷◌, ◌++◌, length, get_or, set, refl, sym, ap, ◌∙◌, subst, inl, inr, arith}
+use Rattle.std.proofs.Common.{◌≡◌, ℕ, ◌+◌, ◌*◌, ◌<◌, ◌≤◌, ◌⊎◌, true, false, if◌then◌else◌, List, length, get_or, set, refl, sym, ap, ◌∙◌, subst, inl, inr, arith}
 use Rattle.std.proofs.lemmas.List.{length-set, get_or_default}
 use Rattle.std.proofs.lemmas.List.Sums.{count_by-le-length}
 use Rattle.moves.specs.declared.Cell.{Cell}
 use Rattle.moves.specs.declared.Move.{Move}
 use Rattle.moves.specs.declared.Move.TheVariants.{N, NE, E, SE, S, SW, W, NW}
-use Rattle.moves.specs.Maps.{Map, IsInside, IsPassable, place_of, passable_count}
+use Rattle.moves.specs.Maps.{Map, place_of, passable_count}
 use Rattle.moves.specs.Moves.{is_diagonal, IsTarget, IsLegal, HasLegal}
 use Rattle.moves.proofs.MoveLaws.{same_target}
 use Rattle.grid_search.specs.declared.queue.Waiting.{Waiting}

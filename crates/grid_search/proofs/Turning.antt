@@ -1,6 +1,5 @@
 -- The turns of a search: its start, one turn, its end, with the list of settled cells as the first part of a slice.
-use Rattle.std.proofs.Common.{◌≡◌, ◌≢◌, ℕ, ◌+◌, ◌-◌, ◌*◌, ◌<◌, ◌≤◌, ◌⊎◌, List, [], ◌∷◌, ◌++◌, length, get_or, take, set, refl, sym, ap, ◌∙◌, subst, inl, inr, arith, All, AllPairs, Contains, get_or-set_same, get_or-set_other}
-use Rattle.std.proofs.lemmas.Bool.{cases_eq, cases_lt}
+use Rattle.std.proofs.Common.{◌≡◌, ℕ, ◌+◌, ◌*◌, ◌<◌, ◌≤◌, ◌⊎◌, List, [], ◌∷◌, ◌++◌, length, get_or, take, set, refl, sym, ap, ◌∙◌, subst, inl, inr, arith, Contains, get_or-set_same, get_or-set_other}
 use Rattle.std.proofs.lemmas.List.{take_more_set, length-take-le, length-set, get_or_default}
 use Rattle.std.proofs.lemmas.List.Elements.{All-nil, All-push, All-contains}
 use Rattle.std.proofs.lemmas.List.Quantifiers.{all_pairs_push}
@@ -12,10 +11,10 @@ use Rattle.moves.proofs.TableLaws.{same_or_apart}
 use Rattle.grid_search.specs.declared.queue.Waiting.{Waiting}
 use Rattle.grid_search.specs.Keys.{no_key, key_at}
 use Rattle.grid_search.specs.Settling.{IsReached, IsProgress, IsRelaxed, IsNext, IsFinished, EveryMove}
-use Rattle.grid_search.specs.Queues.{Pushes, IsFirst, IsLeft, IsTakenFirst, push_to, rest_of, IsQueue, AreQueues, AreReady, AreStepsTaken}
+use Rattle.grid_search.specs.Queues.{Pushes, IsFirst, IsLeft, IsTakenFirst, rest_of, IsQueue, AreQueues, AreReady, AreStepsTaken}
 use Rattle.grid_search.proofs.Places.{place_inside, cell_of_place}
 use Rattle.grid_search.proofs.Progress.{turn}
-use Rattle.grid_search.proofs.Found.{settled_count, room_left, key_few}
+use Rattle.grid_search.proofs.Found.{room_left, key_few}
 use Rattle.grid_search.proofs.Queueing.{swapped, dropped, next_cell, taken_queues, pushed_count}
 
 -- what holds at the beginning of each turn
@@ -48,10 +47,10 @@ module _ (map : Map) (source : Cell) (passable : IsPassable map source) (keys : 
   source_place : place < length keys
   source_place = let inside : place_of map.width source < map.width * map.height = place_inside map.width map.height source passable.inside.column passable.inside.row in omega arith
 
-  key_of_source : key_at map.width (set keys place 0) source ≡ 0
+  pub key_of_source : key_at map.width (set keys place 0) source ≡ 0
   key_of_source = ap (λ p. get_or (set keys place 0) p no_key) (sym here) ∙ get_or-set_same keys place 0 no_key source_place
 
-  none_elsewhere : (b : Cell) → b.x < map.width → (b ≡ source → ⊥) → key_at map.width (set keys place 0) b ≡ no_key
+  pub none_elsewhere : (b : Cell) → b.x < map.width → (b ≡ source → ⊥) → key_at map.width (set keys place 0) b ≡ no_key
   none_elsewhere b column apart =
       get_or-set_other keys place (place_of map.width b) 0 no_key (λ e. apart (cell_of_place map.width b source column passable.inside.column (e ∙ here))) ∙ unused (place_of map.width b)
 
@@ -64,7 +63,7 @@ module _ (map : Map) (source : Cell) (passable : IsPassable map source) (keys : 
         absurd (omega arith)
   ]
 
-  progress_start : IsProgress map source (set keys place 0) []
+  pub progress_start : IsProgress map source (set keys place 0) []
   progress_start = record {
     start = key_of_source;
     relaxed = λ a b move was legal. absurd (no_element a was);

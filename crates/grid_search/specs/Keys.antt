@@ -1,6 +1,6 @@
 -- A cost and its key: 33461 · straight + 47321 · diagonal. As 47321 · 19601 = 27720 · 33461 + 1, the key gives the
 -- diagonal steps back while they are fewer than 33461.
-use Rattle.std.specs.Prelude.{ℕ, ◌+◌, ◌-◌, ◌*◌, ◌/◌, ◌%◌, Bool, Option, Some, None, if◌then◌else◌, nat_eq}
+use Rattle.std.specs.Prelude.{ℕ, ◌-◌, ◌*◌, ◌/◌, ◌%◌, Option, Some, None, if◌then◌else◌, nat_eq}
 use Rattle.std.specs.Prelude.{List, slice_index_or}
 use Rattle.root_cost.specs.declared.Cost.{Cost}
 use Rattle.moves.specs.declared.Cell.{Cell}

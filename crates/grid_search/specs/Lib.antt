@@ -3,3 +3,4 @@ pub mod Keys
 pub mod Kept
 pub mod Settling
 pub mod Queues
+pub mod Scanning

@@ -1,12 +1,11 @@
 -- The two queues of a search. A search settles cells by rising key, so that the keys that it reaches by straight steps
 -- rise too, and so do those by diagonal steps: each of the two queues is in order by itself.
-use Rattle.std.specs.Prelude.{◌≡◌, ℕ, ◌+◌, ◌*◌, ◌<◌, ◌≤◌, ◌⊎◌, List, [], ◌∷◌, ◌++◌, length, slice_index_or, slice_set, All, AllPairs, Contains}
+use Rattle.std.specs.Prelude.{◌≡◌, ℕ, ◌+◌, ◌*◌, ◌<◌, ◌≤◌, ◌⊎◌, List, [], ◌∷◌, ◌++◌, length, slice_index_or, All, AllPairs, Contains}
 use Rattle.moves.specs.declared.Cell.{Cell}
 use Rattle.moves.specs.declared.Move.{Move}
-use Rattle.moves.specs.Maps.{Map, IsInside, IsPassable, place_of}
-use Rattle.moves.specs.Moves.{IsLegal}
+use Rattle.moves.specs.Maps.{Map, IsInside, IsPassable}
 use Rattle.grid_search.specs.declared.queue.Waiting.{Waiting}
-use Rattle.grid_search.specs.Keys.{no_key, step_key, key_at}
+use Rattle.grid_search.specs.Keys.{no_key, key_at}
 use Rattle.grid_search.specs.Settling.{IsReached, IsRelaxed}
 
 -- a queue: for how many entries it has room, all that were pushed, and how many of those were taken

@@ -102,8 +102,8 @@ impl Search {
         cost_if_key(self.keys[place(self.width, cell)])
     }
 
-    /// The cells that are reached from the source, each once, by rising cost, those of one cost row by row: the source
-    /// is the first.
+    /// The cells that are reached from the source, each once, by rising cost: the source is the first. Which of two cells
+    /// of one cost comes first is left open.
     pub fn settled(&self) -> &[Cell]
         ensures { result.now ≡ self.now.settled }
     {

@@ -174,7 +174,7 @@ fn target_place(width: u32, from: Cell, place: usize, by: Move) -> usize
 }
 
 /// The key of one step.
-fn step_key(by: Move) -> u32
+pub fn step_key(by: Move) -> u32
     ensures key { result ≡ step_key by }
     ensures limit { result ≤ 47321 }
 {

@@ -3,14 +3,13 @@
 ghost use Rattle.std.specs.Prelude.{◌≡◌, ℕ, ◌+◌, ◌*◌, ◌<◌, ◌≤◌, IfOk, IfSome};
 ghost use Rattle.moves.specs.Maps.{IsWithinLimits};
 
+mod plain;
+
 use crate::Search;
 use moves::{Cell, Grid};
 use root_cost::Cost;
 use std::alloc::{AllocError, Global};
 use std::process::Abort;
-
-/// The costs of a map of at most 8 by 8 cells, eight places a row.
-type Costs = [Option<Cost>; 64];
 
 /// The grid of those rows, `.` for a passable cell.
 fn grid_of(
@@ -33,7 +32,7 @@ fn grid_of(
     Grid::of_cells(alloc, width, height, cells)
 }
 
-/// A grid of those sides with about a quarter of the cells blocked.
+/// A grid of those sides with about one in two to one in seven of the cells blocked, by the seed, or none.
 fn made_grid(alloc: Global, width: u32, height: u32, seed: u64) -> Result<Grid, AllocError>
     requires { IsWithinLimits width height }
     ensures { IfOk result (λ grid. (grid.width ≡ width) × (grid.height ≡ height)) }
@@ -44,98 +43,41 @@ fn made_grid(alloc: Global, width: u32, height: u32, seed: u64) -> Result<Grid, 
         state = state
             .wrapping_mul(6364136223846793005)
             .wrapping_add(1442695040888963407);
-        *cell = (state >> 33) % 4 != 0;
+        *cell = seed % 7 == 0 || (state >> 33) % (1 + seed % 7) != 0;
     }
     Grid::of_cells(alloc, width, height, cells)
 }
 
-/// The open cell of least cost, by looking at every one.
-fn nearest(costs: &Costs, done: &[bool; 64]) -> Option<usize>
-    ensures { IfSome result (λ place. place < 64) }
-{
-    let mut best: Option<(usize, Cost)> = None;
-    for place in 0..64 {
-        if !done[place] {
-            if let Some(cost) = costs[place] {
-                if best.is_none_or(|(_, least)| !least.at_most(cost)) {
-                    best = Some((place, cost));
-                }
-            }
-        }
-    }
-    best.map(|(place, _)| place).filter(|place| *place < 64)
-}
-
-/// Takes every step from the cell at that place.
-fn take_steps(rt: &impl Abort, grid: &Grid, place: usize, costs: &mut Costs)
-    requires { place < 64 }
-{
-    let from = Cell {
-        x: (place % 8) as u16,
-        y: (place / 8) as u16,
-    };
-    assert!(rt; grid.inside(from));
-    if let Some(cost) = costs[place] {
-        assert!(rt; cost.straight < 64 && cost.diagonal < 64);
-        for (by, to) in grid.neighbours(from).iter() {
-            let reached = cost.plus(by.is_diagonal());
-            let at = usize::from(to.y) * 8 + usize::from(to.x);
-            assert!(rt; at < 64);
-            if costs[at].is_none_or(|least| !least.at_most(reached)) {
-                costs[at] = Some(reached);
-            }
-        }
-    }
-}
-
-/// The least costs from a cell, by a plain scan over costs.
-fn plain_costs(rt: &impl Abort, grid: &Grid, source: Cell) -> Costs {
-    let mut costs = [None; 64];
-    let mut done = [false; 64];
-    assert!(rt; source.x < 8 && source.y < 8);
-    costs[usize::from(source.y) * 8 + usize::from(source.x)] = Some(Cost::ZERO);
-    for _ in 0..64 {
-        if let Some(place) = nearest(&costs, &done) {
-            done[place] = true;
-            take_steps(rt, grid, place, &mut costs);
-        }
-    }
-    costs
-}
-
-/// Searches from that cell: the costs are those of the plain scan, and the order is by rising cost, each cell once.
+/// Searches from that cell: the costs and the order are those of the plain scan, list with list.
 fn agree(rt: &impl Abort, grid: &Grid, search: &mut Search, source: Cell)
     requires { grid.now.width * grid.now.height ≤ search.old.room }
     ensures { search.new.room ≡ search.old.room }
 {
     let (width, height) = (grid.width(), grid.height());
     assert!(rt; width <= 8 && height <= 8 && grid.passable_count() <= 64 && grid.passable(source));
-    let plain = plain_costs(rt, grid, source);
+    let mut keys = [u32::MAX; 64];
+    let mut stamps = [0; 64];
+    let mut done = [false; 64];
+    let mut order = [Cell { x: 0, y: 0 }; 64];
+    let count = plain::settle(grid, source, &mut keys, &mut stamps, &mut done, &mut order);
     search.from_source(grid, source);
-    let mut reached = 0usize;
+    assert_eq!(rt; search.settled(), &order[..count]);
+    assert_eq!(rt; search.keys(), &keys[..(width * height) as usize]);
     for y in 0..height {
         for x in 0..width {
             let cell = Cell {
                 x: x as u16,
                 y: y as u16,
             };
-            let cost = search.cost(cell);
-            assert_eq!(rt; cost, plain[(y * 8 + x) as usize], "at {x} {y}");
-            reached = reached.wrapping_add(usize::from(cost.is_some()));
+            let key = keys[(y * width + x) as usize];
+            let cost = search.cost(cell).map(|cost| cost.key());
+            assert_eq!(rt;
+                cost.unwrap_or(u64::from(u32::MAX)),
+                u64::from(key),
+                "at {x} {y}"
+            );
         }
     }
-    assert_eq!(rt; search.settled().len(), reached);
-    let mut last = Cost::ZERO;
-    let mut seen = [false; 64];
-    for cell in search.settled() {
-        assert!(rt; u32::from(cell.x) < width && u32::from(cell.y) < height);
-        let place = usize::from(cell.y) * 8 + usize::from(cell.x);
-        let cost = plain[place];
-        assert!(rt; !seen[place] && cost.is_some_and(|cost| last.at_most(cost)));
-        seen[place] = true;
-        last = cost.unwrap_or(last);
-    }
-    assert_eq!(rt; search.settled().first(), Some(&source));
 }
 
 #[test]

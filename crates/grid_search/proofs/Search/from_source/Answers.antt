@@ -1,4 +1,4 @@
-use Rattle.std.proofs.Common.{◌≡◌, ℕ, ◌+◌, ◌*◌, ◌≤◌, take, length, refl, ◌∙◌, ap, sym, subst, arith, get_or}
+use Rattle.std.proofs.Common.{◌≡◌, ℕ, ◌*◌, ◌≤◌, take, length, refl, ◌∙◌, ap, sym, subst, arith, get_or}
 use Rattle.std.proofs.lemmas.List.{take_at}
 use Rattle.grid_search.specs.Keys.{no_key}
 use Rattle.grid_search.proofs.Forgetting.{none_left}

@@ -1,5 +1,3 @@
-use Rattle.std.proofs.Common.{◌≡◌, ◌∙◌, ap, sym, arith, take}
-use Rattle.grid_search.specs.Searches.{keys_of}
 use Rattle.grid_search.proofs.Keeping.{keys_back}
 use Rattle.grid_search.proofs.Search.keys.Goals as goal
 

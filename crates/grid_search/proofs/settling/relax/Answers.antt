@@ -1,4 +1,3 @@
-use Rattle.std.proofs.Common.{◌⊎◌}
 use Rattle.moves.specs.declared.Move.TheVariants.{N, NE, E, SE, S, SW, W, NW}
 use Rattle.grid_search.specs.Settling.{OnlyMove, EveryMove}
 use Rattle.grid_search.proofs.Stepping.{ready_after, steps_then, every_move, First2, First3, First4, First5, First6, First7}

@@ -1,9 +1,8 @@
-use Rattle.std.proofs.Common.{◌≡◌, ℕ, ◌+◌, ◌-◌, ◌*◌, ◌<◌, ◌≤◌, ◌∙◌, refl, ap, sym, arith, get_or}
+use Rattle.std.proofs.Common.{◌∙◌, refl, ap, sym, arith}
 use Rattle.std.proofs.lemmas.List.{length-set}
-use Rattle.moves.specs.Maps.{place_of, passable_count}
-use Rattle.grid_search.specs.Keys.{key_at}
+use Rattle.moves.specs.Maps.{place_of}
 use Rattle.grid_search.specs.Queues.{push_to}
-use Rattle.grid_search.proofs.Turning.{IsSearching, IsTurn, searching_start, searching_same, searching_more, searching_end, turn_of, entry_place, entry_read, next_room, next_key, next_ready}
+use Rattle.grid_search.proofs.Turning.{IsTurn, searching_start, searching_same, searching_more, turn_of, entry_read, next_room, next_key, next_ready}
 use Rattle.grid_search.proofs.settling.settle.Goals as goal
 
 pub loop-next-init : goal.loop-next-init

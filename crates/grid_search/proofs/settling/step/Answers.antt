@@ -1,6 +1,6 @@
-use Rattle.std.proofs.Common.{◌≡◌, ◌<◌, ◌≤◌, ◌+◌, ◌∙◌, ap, sym, subst, arith, IsBitSet, slice_set}
+use Rattle.std.proofs.Common.{◌+◌, ◌∙◌, sym, subst, IsBitSet, slice_set}
 use Rattle.std.proofs.lemmas.Nat.{bit_set_by_shift}
-use Rattle.moves.specs.Moves.{number_of, HasLegal}
+use Rattle.moves.specs.Moves.{HasLegal}
 use Rattle.grid_search.specs.Settling.{OnlyMove}
 use Rattle.grid_search.specs.Queues.{AreStepsTaken}
 use Rattle.grid_search.proofs.Stepping.{step_skipped, place_fits, step_not_lower, straight_room, step_straight, diagonal_room, step_diagonal}

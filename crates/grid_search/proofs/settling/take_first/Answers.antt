@@ -1,4 +1,3 @@
-use Rattle.std.proofs.Common.{◌≡◌, ◌<◌, ◌≤◌, IfNone, None, Some, arith, refl, sym, length}
 use Rattle.grid_search.proofs.Queueing.{none_first}
 use Rattle.grid_search.proofs.settling.take_first.Goals as goal
 

@@ -1,0 +1,150 @@
+//! The plain scan: each time the least open cell is found by looking at every cell. It has the contract of the search's
+//! own way of settling cells, and its order: of open cells of one cost, those that a straight move opened come before
+//! those that a diagonal move opened, and among them the one that was opened first.
+
+ghost use Rattle.std.specs.Prelude.{◌≡◌, ℕ, ◌*◌, ◌<◌, ◌≤◌, ◌/◌, ◌⊎◌, Bool, true, false, IsTrue, IsFalse, IfSome, IfNone, length, take, slice_index_or};
+ghost use Rattle.moves.specs.Maps.{IsPassable, passable_count, cell_at};
+ghost use Rattle.grid_search.specs.Keys.{no_key};
+ghost use Rattle.grid_search.specs.Settling.{EveryMove, OnlyMove, IsRelaxed, IsFinished};
+ghost use Rattle.grid_search.specs.Scanning.{IsLeastOpen, AreNoneOpen};
+
+use crate::settling::step_key;
+use crate::{NO_KEY, place};
+use moves::{Cell, Grid, Move};
+
+/// Settles the cells that are reached from the source, one by one, by rising key. Answers how many there are.
+pub fn settle(
+    grid: &Grid,
+    source: Cell,
+    keys: &mut [u32],
+    stamps: &mut [u32],
+    done: &mut [bool],
+    order: &mut [Cell],
+) -> usize
+    requires source { IsPassable grid.now source }
+    requires few { passable_count grid.now ≤ 32768 }
+    requires fits { grid.now.width * grid.now.height ≤ length keys.old }
+    requires stamps { length stamps.old ≡ length keys.old }
+    requires done { length done.old ≡ length keys.old }
+    requires room { grid.now.width * grid.now.height ≤ length order.old }
+    requires unused { (place : ℕ) → slice_index_or keys.old place no_key ≡ no_key }
+    requires none_done { (place : ℕ) → slice_index_or done.old place false ≡ false }
+    ensures count { result ≤ length order.old }
+    ensures finished { IsFinished grid.now source keys.new (take result order.new) }
+{
+    let cells = (grid.width() * grid.height()) as usize;
+    keys[place(grid.width(), source)] = 0;
+    let mut count = 0;
+    let mut turn = 0u32;
+    while let Some(place) = least_open(keys, stamps, done, cells) {
+        let cell = cell_at(grid.width(), place);
+        done[place] = true;
+        order[count] = cell;
+        count += 1;
+        turn = turn.wrapping_add(1);
+        open_beside(grid, cell, keys[place], turn, keys, stamps);
+    }
+    count
+}
+
+/// The first of the open cells, by key and then by stamp: it looks at every one of the first so many places.
+fn least_open(keys: &[u32], stamps: &[u32], done: &[bool], cells: usize) -> Option<usize>
+    requires keys { cells ≤ length keys.now }
+    requires stamps { cells ≤ length stamps.now }
+    requires done { cells ≤ length done.now }
+    ensures some { IfSome result (λ place. IsLeastOpen keys.now done.now cells place) }
+    ensures none { IfNone result (AreNoneOpen keys.now done.now cells) }
+{
+    let mut found = None;
+    let mut least = (NO_KEY, 0);
+    for place in 0..cells {
+        let here = (keys[place], stamps[place]);
+        if !done[place] && comes_before(here, least) {
+            found = Some(place);
+            least = here;
+        }
+    }
+    found
+}
+
+/// Does the first come before the second, by key and then by stamp? No key comes before what has none.
+fn comes_before(a: (u32, u32), b: (u32, u32)) -> bool
+    ensures yes { IsTrue result → (a.0 ≤ b.0) × (a.0 < no_key) }
+    ensures no { IsFalse result → b.0 ≤ a.0 ⊎ (no_key ≤ a.0) }
+{
+    a.0 < NO_KEY && (a.0 < b.0 || a.0 == b.0 && a.1 < b.1)
+}
+
+/// The cell at a place in a list that goes row by row.
+fn cell_at(width: u32, place: usize) -> Cell
+    requires some { 0 < width }
+    requires width { width ≤ 4096 }
+    requires row { place / width < 4096 }
+    ensures { result ≡ cell_at width place }
+{
+    Cell {
+        x: (place % width as usize) as u16,
+        y: (place / width as usize) as u16,
+    }
+}
+
+/// Takes every legal step from a cell that was settled last.
+fn open_beside(grid: &Grid, from: Cell, key: u32, turn: u32, keys: &mut [u32], stamps: &mut [u32])
+    requires passable { IsPassable grid.now from }
+    requires key { key ≤ 1550614528 }
+    requires fits { grid.now.width * grid.now.height ≤ length keys.old }
+    requires stamps { length stamps.old ≡ length keys.old }
+    ensures relaxed { IsRelaxed grid.now from key EveryMove keys.old keys.new }
+    ensures keys { length keys.new ≡ length keys.old }
+    ensures stamps { length stamps.new ≡ length stamps.old }
+{
+    open(grid, from, key, turn, Move::N, keys, stamps);
+    open(grid, from, key, turn, Move::E, keys, stamps);
+    open(grid, from, key, turn, Move::S, keys, stamps);
+    open(grid, from, key, turn, Move::W, keys, stamps);
+    open(grid, from, key, turn, Move::NE, keys, stamps);
+    open(grid, from, key, turn, Move::SE, keys, stamps);
+    open(grid, from, key, turn, Move::SW, keys, stamps);
+    open(grid, from, key, turn, Move::NW, keys, stamps);
+}
+
+/// Takes one step from a cell that was settled last, if it is legal and leads to a lower key than the target has.
+fn open(
+    grid: &Grid,
+    from: Cell,
+    key: u32,
+    turn: u32,
+    by: Move,
+    keys: &mut [u32],
+    stamps: &mut [u32],
+)
+    requires passable { IsPassable grid.now from }
+    requires key { key ≤ 1550614528 }
+    requires fits { grid.now.width * grid.now.height ≤ length keys.old }
+    requires stamps { length stamps.old ≡ length keys.old }
+    ensures relaxed { IsRelaxed grid.now from key (OnlyMove by) keys.old keys.new }
+    ensures keys { length keys.new ≡ length keys.old }
+    ensures stamps { length stamps.new ≡ length stamps.old }
+{
+    if !grid.legal(from, by) {
+        return;
+    }
+    if let Some(to) = grid.step(from, by) {
+        let place = place(grid.width(), to);
+        let reached = key + step_key(by);
+        if reached < keys[place] {
+            keys[place] = reached;
+            stamps[place] = stamp(turn, by);
+        }
+    }
+}
+
+/// When a cell was opened, those that a straight move opened before the others.
+fn stamp(turn: u32, by: Move) -> u32 {
+    let time = turn.wrapping_mul(8) | u32::from(by.number());
+    if by.is_diagonal() {
+        time | 1 << 31
+    } else {
+        time & !(1 << 31)
+    }
+}
