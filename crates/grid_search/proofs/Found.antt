@@ -51,6 +51,14 @@ none_some cost e = cc
 one_some : (x y : Cost) → Some x ≡ Some y → x ≡ y
 one_some x y e = cc
 
+-- a map with a passable cell has some
+pub some_passable : (m : Map) (cell : Cell) → IsPassable m cell → 0 < passable_count m
+some_passable m cell passable =
+    let one : length (cell ∷ []) ≤ passable_count m = marked_once (place_of m.width) (cell ∷ []) m.passable
+    (all_pairs_push (λ a b. place_of m.width a ≡ place_of m.width b → ⊥) [] cell (λ i j d h k. absurd (omega arith)) (λ k d h. absurd (omega arith)))
+    (All-push (λ c. get_or m.passable (place_of m.width c) false ≡ true) [] cell (λ k d h. absurd (omega arith)) passable.passable) in
+    omega arith
+
 module _ (m : Map) (source : Cell) (keys : List ℕ) (settled : List Cell) (passable : IsPassable m source)
     (p : IsProgress m source keys settled) where
   pub reached_passable : (cell : Cell) → IsReached m keys cell → IsPassable m cell

@@ -1,12 +1,12 @@
 -- What holds of the memory of a search: when it is made, and after a search.
-use Rattle.std.proofs.Common.{◌≡◌, ℕ, ◌*◌, ◌<◌, ◌≤◌, None, List, length, get_or, take, replicate, map, sym, ap, ◌∙◌, subst, inl, inr, arith, All, Any}
+use Rattle.std.proofs.Common.{◌≡◌, ℕ, min, ◌*◌, ◌<◌, ◌≤◌, None, List, length, get_or, take, replicate, map, sym, ap, ◌∙◌, subst, inl, inr, arith, All, Any}
 use Rattle.std.proofs.lemmas.Bool.{cases_lt}
 use Rattle.std.proofs.lemmas.List.{get_or-replicate, get_or_past, get_or_default, length-replicate, same_lists, get_or-map, get_or-take, length-map, length-take-le}
 use Rattle.moves.specs.declared.Cell.{Cell}
 use Rattle.moves.specs.Maps.{Map, IsPassable, IsWithinLimits, place_of, cell_at, passable_count}
 use Rattle.grid_search.specs.Keys.{no_key, key_at, cost_if_key}
 use Rattle.grid_search.specs.Searches.{key_or_none, HasSearched}
-use Rattle.grid_search.specs.Kept.{IsKept, IsWithin}
+use Rattle.grid_search.specs.Kept.{IsKept, IsWithin, HasRoom}
 use Rattle.grid_search.specs.Settling.{IsReached, IsFinished}
 use Rattle.grid_search.proofs.Keyed.{proper_none, proper_some}
 use Rattle.grid_search.proofs.Places.{place_back, cell_inside}
@@ -21,17 +21,24 @@ none_everywhere n place = elim (cases_lt place n) [
 proper_if_none : (key : ℕ) → key ≡ no_key → key_or_none (cost_if_key key) ≡ key
 proper_if_none key e = subst (λ k. key_or_none (cost_if_key k) ≡ k) (sym e) proper_none
 
+pub same_room : (cells room same other : ℕ) → same ≡ cells → other ≡ room → HasRoom cells room → HasRoom same other
+same_room cells room same other e f has = subst (λ n. HasRoom n other) (sym e) (subst (HasRoom cells) (sym f) has)
+
+pub least_room : (cells : ℕ) → HasRoom cells (min cells 32768)
+least_room cells = elim (cases_lt cells 32768) [ inl below ↦ inl (omega arith) | inr above ↦ inr (omega arith) ]
+
 -- a search that was just made
-pub kept_new : (n : ℕ) (keys : List ℕ) (order : List Cell) (filler : Cell) (straight diagonal : ℕ) → straight ≡ n → diagonal ≡ n → keys ≡ replicate n no_key → order ≡ replicate n filler → IsKept 0 0 keys order 0 straight diagonal
-kept_new n keys order filler straight diagonal s d e f =
+pub kept_new : (n : ℕ) (keys : List ℕ) (order : List Cell) (filler : Cell) (reach straight diagonal : ℕ) → HasRoom n reach → straight ≡ reach → diagonal ≡ reach → keys ≡ replicate n no_key → order ≡ replicate reach filler → IsKept 0 0 keys order 0 straight diagonal
+kept_new n keys order filler reach straight diagonal room s d e f =
     let none : (place : ℕ) → get_or keys place no_key ≡ no_key = λ place. ap (λ list. get_or list place no_key) e ∙ none_everywhere n place in
+    let long : length keys ≡ n = ap length e ∙ length-replicate n no_key in
     record {
       columns = omega arith;
       rows = omega arith;
       fits = omega arith;
-      same_room = ap length f ∙ length-replicate n filler ∙ sym (ap length e ∙ length-replicate n no_key);
-      straight_room = s ∙ sym (ap length e ∙ length-replicate n no_key);
-      diagonal_room = d ∙ sym (ap length e ∙ length-replicate n no_key);
+      order_room = same_room n reach (length keys) (length order) long (ap length f ∙ length-replicate reach filler) room;
+      straight_room = same_room n reach (length keys) straight long s room;
+      diagonal_room = same_room n reach (length keys) diagonal long d room;
       counted = omega arith;
       inside = λ k d h. absurd (omega arith);
       written = λ place some. absurd (some (none place));
@@ -52,13 +59,13 @@ module _ (m : Map) (source : Cell) (keys : List ℕ) (settled : List Cell) (limi
         | inr none ↦ proper_if_none (get_or keys place no_key) (omega arith)
       ]
 
-  pub kept_after : (order : List Cell) (count straight diagonal : ℕ) → straight ≡ length keys → diagonal ≡ length keys → settled ≡ take count order → m.width * m.height ≤ length keys → length order ≡ length keys → count ≤ length order
+  pub kept_after : (order : List Cell) (count straight diagonal : ℕ) → HasRoom (length keys) straight → HasRoom (length keys) diagonal → settled ≡ take count order → m.width * m.height ≤ length keys → HasRoom (length keys) (length order) → count ≤ length order
       → IsKept m.width m.height keys order count straight diagonal
-  kept_after order count straight diagonal s d e fits same_room counted = record {
+  kept_after order count straight diagonal s d e fits order_room counted = record {
     columns = limits.columns;
     rows = limits.rows;
     fits = fits;
-    same_room = same_room;
+    order_room = order_room;
     straight_room = s;
     diagonal_room = d;
     counted = counted;

@@ -1,7 +1,6 @@
 -- Taking the steps from a cell one after another, with the keys and both queues.
 use Rattle.std.proofs.Common.{◌≡◌, ℕ, ◌+◌, ◌*◌, ◌<◌, ◌≤◌, ◌⊎◌, true, false, if◌then◌else◌, List, length, get_or, set, refl, sym, ap, ◌∙◌, subst, inl, inr, arith}
 use Rattle.std.proofs.lemmas.List.{length-set, get_or_default}
-use Rattle.std.proofs.lemmas.List.Sums.{count_by-le-length}
 use Rattle.moves.specs.declared.Cell.{Cell}
 use Rattle.moves.specs.declared.Move.{Move}
 use Rattle.moves.specs.declared.Move.TheVariants.{N, NE, E, SE, S, SW, W, NW}
@@ -31,8 +30,8 @@ module _ (map : Map) (from : Waiting) where
   ready_after taken a b s t d e ready r = record {
     settled = ready.settled;
     queues = r.queues ready.settled ready.queues;
-    straight_room = let h : map.width * map.height ≤ s.room = ready.straight_room in let same : t.room ≡ s.room = r.rooms.0 in omega arith;
-    diagonal_room = let h : map.width * map.height ≤ d.room = ready.diagonal_room in let same : e.room ≡ d.room = r.rooms.1 in omega arith;
+    straight_room = let h : passable_count map ≤ s.room = ready.straight_room in let same : t.room ≡ s.room = r.rooms.0 in omega arith;
+    diagonal_room = let h : passable_count map ≤ d.room = ready.diagonal_room in let same : e.room ≡ d.room = r.rooms.1 in omega arith;
   }
 
   pub step_skipped : (by : Move) (keys : List ℕ) (s d : Pushes) → ((to : Cell) → IsLegal map from.cell by to → key_at map.width keys to ≤ from.key + step_key by)
@@ -87,21 +86,20 @@ module _ (map : Map) (from : Waiting) where
           subst (λ p. AreQueues map (set keys p (from.key + n)) settled from.key n (push_to queue (record { key = from.key + n; cell = to })) other_step other) (sym at) done in
           subst (λ k. AreQueues map (set keys place (from.key + k)) settled from.key n (push_to queue (record { key = from.key + k; cell = to })) other_step other) (sym e) there
 
-      room_now : (n other_step : ℕ) (settled : List Cell) (queue other : Pushes) → step ≡ n → length map.passable ≡ map.width * map.height → map.width * map.height ≤ queue.room
+      room_now : (n other_step : ℕ) (settled : List Cell) (queue other : Pushes) → step ≡ n → passable_count map ≤ queue.room
           → AreQueues map keys settled from.key n queue other_step other → length queue.pushed < queue.room
-      room_now n other_step settled queue other e whole room q =
+      room_now n other_step settled queue other e room q =
           let r : get_or keys place 0 ≡ key_at map.width keys to = read in
           let lower : from.key + n < key_at map.width keys to = omega arith in
           let count : length queue.pushed < passable_count map = room_for map keys settled from.key n to legal_to.enters lower queue q.first in
-          let some : passable_count map ≤ length map.passable = count_by-le-length (λ mark. mark) map.passable in
           omega arith
 
       module _ (diagonal : is_diagonal by ≡ false) where
         straight_step : step ≡ 33461
         straight_step = is_step ∙ ap (λ d. if d then 47321 else 33461) diagonal
 
-        pub straight_room : (s d : Pushes) → length map.passable ≡ map.width * map.height → AreReady map keys from.key s d → length s.pushed < s.room
-        straight_room s d whole ready = room_now 33461 47321 ready.settled s d straight_step whole ready.straight_room ready.queues
+        pub straight_room : (s d : Pushes) → AreReady map keys from.key s d → length s.pushed < s.room
+        straight_room s d ready = room_now 33461 47321 ready.settled s d straight_step ready.straight_room ready.queues
 
         pub step_straight : (s d : Pushes) → AreStepsTaken map from (OnlyMove by) keys (set keys place (from.key + step)) s (push_to s (record { key = from.key + step; cell = to })) d d
         step_straight s d = record {
@@ -116,8 +114,8 @@ module _ (map : Map) (from : Waiting) where
         diagonal_step : step ≡ 47321
         diagonal_step = is_step ∙ ap (λ d. if d then 47321 else 33461) diagonal
 
-        pub diagonal_room : (s d : Pushes) → length map.passable ≡ map.width * map.height → AreReady map keys from.key s d → length d.pushed < d.room
-        diagonal_room s d whole ready = room_now 47321 33461 ready.settled d s diagonal_step whole ready.diagonal_room (swapped map keys ready.settled from.key 33461 47321 s d ready.queues)
+        pub diagonal_room : (s d : Pushes) → AreReady map keys from.key s d → length d.pushed < d.room
+        diagonal_room s d ready = room_now 47321 33461 ready.settled d s diagonal_step ready.diagonal_room (swapped map keys ready.settled from.key 33461 47321 s d ready.queues)
 
         pub step_diagonal : (s d : Pushes) → AreStepsTaken map from (OnlyMove by) keys (set keys place (from.key + step)) s s d (push_to d (record { key = from.key + step; cell = to }))
         step_diagonal s d = record {

@@ -3,7 +3,6 @@ use Rattle.std.proofs.Common.{◌≡◌, ℕ, ◌+◌, ◌*◌, ◌<◌, ◌≤�
 use Rattle.std.proofs.lemmas.List.{take_more_set, length-take-le, length-set, get_or_default}
 use Rattle.std.proofs.lemmas.List.Elements.{All-nil, All-push, All-contains}
 use Rattle.std.proofs.lemmas.List.Quantifiers.{all_pairs_push}
-use Rattle.std.proofs.lemmas.List.Sums.{count_by-le-length}
 use Rattle.root_cost.specs.Costs.{no_cost}
 use Rattle.moves.specs.declared.Cell.{Cell}
 use Rattle.moves.specs.Maps.{Map, IsInside, IsPassable, place_of, passable_count}
@@ -194,7 +193,7 @@ module _ (map : Map) (source : Cell) (keys : List ℕ) (order : List Cell) (coun
   turn_of entry t e (inr (first, rest, same, low)) =
       subst (λ q. IsTurn map source keys order count entry s q d e) (sym same) (subst (λ q. IsTurn map source keys order count entry s s d q) (sym rest) (turn_diagonal entry first low))
 
-  module _ (source_passable : IsPassable map source) (whole : length map.passable ≡ map.width * map.height) (room : map.width * map.height ≤ length order) (fits : map.width * map.height ≤ length keys)
+  module _ (source_passable : IsPassable map source) (room : passable_count map ≤ length order) (fits : map.width * map.height ≤ length keys)
       (entry : Waiting) (t e : Pushes) (u : IsTurn map source keys order count entry s t d e) where
     -- the code reads the key of the entry's cell
     pub entry_place : (place width : ℕ) → place ≡ place_of width entry.cell → width ≡ map.width → place < length keys
@@ -213,7 +212,6 @@ module _ (map : Map) (source : Cell) (keys : List ℕ) (order : List Cell) (coun
       next_room =
           let left : length (take count order) < passable_count map = room_left map source keys (take count order) source_passable r.progress entry.cell (u.next live) in
           let cut : length (take count order) ≡ count = length-take-le count order r.counted in
-          let few : passable_count map ≤ length map.passable = count_by-le-length (λ mark. mark) map.passable in
           omega arith
 
       pub next_key : passable_count map ≤ 32768 → entry.key ≤ 1550614528
@@ -221,7 +219,7 @@ module _ (map : Map) (source : Cell) (keys : List ℕ) (order : List Cell) (coun
           let k : key_at map.width keys entry.cell ≤ 1550614528 = key_few map source keys (take count order) source_passable r.progress entry.cell few (u.next live).reached in
           omega arith
 
-      pub next_ready : map.width * map.height ≤ s.room → map.width * map.height ≤ d.room → AreReady map keys entry.key t e
+      pub next_ready : passable_count map ≤ s.room → passable_count map ≤ d.room → AreReady map keys entry.key t e
       next_ready s_fits d_fits = record {
         settled = take count order ++ entry.cell ∷ [];
         queues = u.queues live;

@@ -1,9 +1,9 @@
 -- The two queues of a search. A search settles cells by rising key, so that the keys that it reaches by straight steps
 -- rise too, and so do those by diagonal steps: each of the two queues is in order by itself.
-use Rattle.std.specs.Prelude.{◌≡◌, ℕ, ◌+◌, ◌*◌, ◌<◌, ◌≤◌, ◌⊎◌, List, [], ◌∷◌, ◌++◌, length, slice_index_or, All, AllPairs, Contains}
+use Rattle.std.specs.Prelude.{◌≡◌, ℕ, ◌+◌, ◌<◌, ◌≤◌, ◌⊎◌, List, [], ◌∷◌, ◌++◌, length, slice_index_or, All, AllPairs, Contains}
 use Rattle.moves.specs.declared.Cell.{Cell}
 use Rattle.moves.specs.declared.Move.{Move}
-use Rattle.moves.specs.Maps.{Map, IsInside, IsPassable}
+use Rattle.moves.specs.Maps.{Map, IsInside, IsPassable, passable_count}
 use Rattle.grid_search.specs.declared.queue.Waiting.{Waiting}
 use Rattle.grid_search.specs.Keys.{no_key, key_at}
 use Rattle.grid_search.specs.Settling.{IsReached, IsRelaxed}
@@ -59,13 +59,13 @@ pub record AreQueues (map : Map) (keys : List ℕ) (settled : List Cell) (level 
   pub settled_low : (cell : Cell) → Contains settled cell → key_at map.width keys cell ≤ level
   pub settled_inside : (cell : Cell) → Contains settled cell → IsInside map cell
 
--- The two queues, by straight steps of key 33461 and diagonal ones of 47321, with room for each cell of the map, are as
+-- The two queues, by straight steps of key 33461 and diagonal ones of 47321, with room for each passable cell of the map, are as
 -- they must be for some settled cells.
 pub record AreReady (map : Map) (keys : List ℕ) (level : ℕ) (straight diagonal : Pushes) : Type 0 where
   pub settled : List Cell
   pub queues : AreQueues map keys settled level 33461 straight 47321 diagonal
-  pub straight_room : map.width * map.height ≤ straight.room
-  pub diagonal_room : map.width * map.height ≤ diagonal.room
+  pub straight_room : passable_count map ≤ straight.room
+  pub diagonal_room : passable_count map ≤ diagonal.room
 
 -- Some steps from a cell that was settled last were taken: the keys are relaxed, and the queues stay as they must be.
 pub record AreStepsTaken (map : Map) (from : Waiting) (taken : Move → Type 0) (before after : List ℕ) (straight longer_straight diagonal longer_diagonal : Pushes) : Type 0 where

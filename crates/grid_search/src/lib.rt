@@ -23,6 +23,9 @@ use std::marker::Model;
 /// What stands in place of a key where there is no cost.
 const NO_KEY: u32 = u32::MAX;
 
+/// How many cells a search reaches at most, since a map to be searched has no more passable ones.
+const MOST_REACHED: usize = 32768;
+
 /// Least costs from one source cell on one map after another, in memory that is taken once.
 #[derive(Drop)]
 pub struct Search {
@@ -59,13 +62,14 @@ impl Search {
     pub fn new(alloc: Global, cells: usize) -> Result<Search, AllocError>
         ensures { IfOk result (λ search. search ≡ record { room = cells; width = 0; height = 0; costs = []; settled = [] }) }
     {
+        let reach = cells.min(MOST_REACHED);
         Ok(Search {
             width: 0,
             height: 0,
             keys: vec![in alloc; NO_KEY; cells]?,
-            straight: Queue::new(alloc, cells)?,
-            diagonal: Queue::new(alloc, cells)?,
-            order: vec![in alloc; Cell { x: 0, y: 0 }; cells]?,
+            straight: Queue::new(alloc, reach)?,
+            diagonal: Queue::new(alloc, reach)?,
+            order: vec![in alloc; Cell { x: 0, y: 0 }; reach]?,
             count: 0,
         })
     }

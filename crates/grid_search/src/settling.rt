@@ -25,9 +25,9 @@ pub fn settle(
     requires source { IsPassable grid.now source }
     requires few { passable_count grid.now ≤ 32768 }
     requires fits { grid.now.width * grid.now.height ≤ length keys.old }
-    requires room { grid.now.width * grid.now.height ≤ length order.old }
-    requires straight_room { grid.now.width * grid.now.height ≤ straight.old.room }
-    requires diagonal_room { grid.now.width * grid.now.height ≤ diagonal.old.room }
+    requires room { passable_count grid.now ≤ length order.old }
+    requires straight_room { passable_count grid.now ≤ straight.old.room }
+    requires diagonal_room { passable_count grid.now ≤ diagonal.old.room }
     requires unused { (place : ℕ) → slice_index_or keys.old place no_key ≡ no_key }
     ensures count { result ≤ length order.old }
     ensures finished { IsFinished grid.now source keys.new (take result order.new) }

@@ -1,9 +1,10 @@
 use Rattle.std.proofs.Common.{◌≡◌, ℕ, ◌*◌, ◌≤◌, take, length, refl, ◌∙◌, ap, sym, subst, arith, get_or}
 use Rattle.std.proofs.lemmas.List.{take_at}
 use Rattle.grid_search.specs.Keys.{no_key}
+use Rattle.grid_search.specs.Kept.{HasRoom}
 use Rattle.grid_search.proofs.Forgetting.{none_left}
 use Rattle.grid_search.proofs.Found.{searched}
-use Rattle.grid_search.proofs.Keeping.{kept_after, kept_fields, searched_fields}
+use Rattle.grid_search.proofs.Keeping.{same_room, kept_after, kept_fields, searched_fields}
 use Rattle.grid_search.proofs.Search.from_source.Goals as goal
 
 pub settle-self-inside-requires-clause-unused : goal.settle-self-inside-requires-clause-unused
@@ -24,22 +25,21 @@ room c =
     let has : c.args.grid.now.width * c.args.grid.now.height ≤ c.self.inside.keys.len = rw (← c.self.view_is) at c.requires.room in
     omega (arith, keys_kept c)
 
-one_room : (c : goal.After-self-6-1) → length c.settle-self-inside.new.order ≡ length c.settle-self-inside.new.keys
-one_room c =
-    let keys : length c.deref_mut.result.now ≡ length c.self.inside.keys.items = ap length c.deref_mut.ensures.value in
-    let order : length c.deref.result.now ≡ length c.self.inside.order.items = ap length c.deref.ensures.value in
-    omega (arith, keys_kept c, order_kept c, c.self.invariant.same_room, c.deref_mut.ensures.len, c.deref.ensures.len)
-
 keys_long : (c : goal.After-self-6-1) → length c.settle-self-inside.new.keys ≡ length c.self.inside.keys.items
 keys_long c =
     let keys : length c.deref_mut.result.now ≡ length c.self.inside.keys.items = ap length c.deref_mut.ensures.value in
     omega (arith, keys_kept c, c.deref_mut.ensures.len)
 
-straight_kept : (c : goal.After-self-6-1) → c.settle-self-inside.new.straight.room ≡ length c.settle-self-inside.new.keys
-straight_kept c = c.settle-self-inside.ensures.rooms.0 ∙ c.self.invariant.straight_room ∙ sym (keys_long c)
+one_room : (c : goal.After-self-6-1) → HasRoom (length c.settle-self-inside.new.keys) (length c.settle-self-inside.new.order)
+one_room c =
+    let order : length c.deref.result.now ≡ length c.self.inside.order.items = ap length c.deref.ensures.value in
+    same_room _ _ _ _ (keys_long c) (order_kept c ∙ sym c.deref.ensures.len ∙ order) c.self.invariant.order_room
 
-diagonal_kept : (c : goal.After-self-6-1) → c.settle-self-inside.new.diagonal.room ≡ length c.settle-self-inside.new.keys
-diagonal_kept c = c.settle-self-inside.ensures.rooms.1 ∙ c.self.invariant.diagonal_room ∙ sym (keys_long c)
+straight_kept : (c : goal.After-self-6-1) → HasRoom (length c.settle-self-inside.new.keys) c.settle-self-inside.new.straight.room
+straight_kept c = same_room _ _ _ _ (keys_long c) c.settle-self-inside.ensures.rooms.0 c.self.invariant.straight_room
+
+diagonal_kept : (c : goal.After-self-6-1) → HasRoom (length c.settle-self-inside.new.keys) c.settle-self-inside.new.diagonal.room
+diagonal_kept c = same_room _ _ _ _ (keys_long c) c.settle-self-inside.ensures.rooms.1 c.self.invariant.diagonal_room
 
 counted : (c : goal.After-self-6-1) → c.settle-self-inside.result ≤ length c.settle-self-inside.new.order
 counted c = omega (arith, c.settle-self-inside.ensures.count, c.settle-self-inside.auto.order)

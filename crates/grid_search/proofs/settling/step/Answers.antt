@@ -27,12 +27,12 @@ returns-then-keys-target_place c = step_not_lower _ _ _ _ _ _ _ _ (c.target_plac
 pub push-requires : goal.push-requires
 push-requires c = diagonal_room _ _ c.args.by _ _ _ _ _ (c.target_place-target_place.ensures c.target-cell.result c.target-cell.ensures) c.width-width.ensures.width c.step_key.ensures.key
     ((c.requires.mask c.args.by).0 (subst (IsBitSet c.args.mask) c.number.ensures.number ((bit_set_by_shift c.args.mask c.number.result).0 c.if-mask-number-ne1.false)))
-    c.target-cell.ensures c.requires.fits c.requires.key c.if-keys-target_place.false (sym c.is_diagonal.ensures ∙ c.if-is_diagonal.true) _ _ c.width-width.ensures.whole c.requires.ready
+    c.target-cell.ensures c.requires.fits c.requires.key c.if-keys-target_place.false (sym c.is_diagonal.ensures ∙ c.if-is_diagonal.true) _ _ c.requires.ready
 
 pub push-requires-else-is_diagonal : goal.push-requires-else-is_diagonal
 push-requires-else-is_diagonal c = straight_room _ _ c.args.by _ _ _ _ _ (c.target_place-target_place.ensures c.target-cell.result c.target-cell.ensures) c.width-width.ensures.width c.step_key.ensures.key
     ((c.requires.mask c.args.by).0 (subst (IsBitSet c.args.mask) c.number.ensures.number ((bit_set_by_shift c.args.mask c.number.result).0 c.if-mask-number-ne1.false)))
-    c.target-cell.ensures c.requires.fits c.requires.key c.if-keys-target_place.false (sym c.is_diagonal.ensures ∙ c.if-is_diagonal.false) _ _ c.width-width.ensures.whole c.requires.ready
+    c.target-cell.ensures c.requires.fits c.requires.key c.if-keys-target_place.false (sym c.is_diagonal.ensures ∙ c.if-is_diagonal.false) _ _ c.requires.ready
 
 pub returns-then-is_diagonal : goal.returns-then-is_diagonal
 returns-then-is_diagonal c =
