@@ -107,34 +107,29 @@ module _ (w : ℕ) (keys sets : List ℕ) (legal place n from : ℕ) (l : n < 8)
         | inr none ↦ let here = at_other by.0 by.1 none in omega arith
       ]
 
-  module _ (made attains step : ℕ) (brought : IsBroughtBelow w keys sets legal place n made)
+  -- the set after one more move has what it had and, if a step from there attains the key, what stands there
+  module _ (made after step : ℕ) (brought : IsBroughtBelow w keys sets legal place n made)
       (step_is : (by : Move) → number_of by ≡ n → step ≡ step_key by)
-      (equal : get_or keys from 0 + step ≡ get_or keys place 0 → attains ≡ 255)
-      (unequal : (get_or keys from 0 + step ≢ get_or keys place 0) → attains ≡ 0) where
-    brought_if : (move : Move) → Has (bit_and (get_or sets from 0) attains) move → (by : Move) × (number_of by ≡ n) × IsBroughtBy w keys sets legal place by move
-    brought_if move h =
-        let both = (Has-meet (get_or sets from 0) attains move).0 h in
-        elim (cases_eq (get_or keys from 0 + step) (get_or keys place 0)) [
-          | inr apart ↦ absurd (Has-none move (subst (λ s. Has s move) (unequal apart) both.1))
-          | inl e ↦
-              let by = move_with n l in
-              let cost = step_is by.0 by.1 in
-              elim (has_or_not legal by.0) [
-                | inl has ↦
-                    let next = near by.0 has in
-                    let to = next.0 in
-                    let low = next.2 in
-                    let here : from ≡ to = at_legal by.0 to by.1 has next.1 (omega arith) in
-                    let same : get_or keys to 0 + step_key by.0 ≡ get_or keys place 0 = subst (λ p. get_or keys p 0 + step_key by.0 ≡ get_or keys place 0) here (subst (λ s. get_or keys from 0 + s ≡ get_or keys place 0) cost e) in
-                    (by.0, by.1, (to, has, next.1, same, subst (λ p. Has (get_or sets p 0) move) here both.0))
-                | inr none ↦
-                    let here = at_other by.0 by.1 none in
-                    let same : get_or keys place 0 + step ≡ get_or keys place 0 = subst (λ p. get_or keys p 0 + step ≡ get_or keys place 0) here e in
-                    absurd (omega (arith, step_some by.0))
-              ]
+      (joined : (move : Move) → Has after move ↔ (Has made move ⊎ ((get_or keys from 0 + step ≡ get_or keys place 0) × Has (get_or sets from 0) move))) where
+    brought_if : (move : Move) → get_or keys from 0 + step ≡ get_or keys place 0 → Has (get_or sets from 0) move → (by : Move) × (number_of by ≡ n) × IsBroughtBy w keys sets legal place by move
+    brought_if move e old =
+        let by = move_with n l in
+        let cost = step_is by.0 by.1 in
+        elim (has_or_not legal by.0) [
+          | inl has ↦
+              let next = near by.0 has in
+              let to = next.0 in
+              let low = next.2 in
+              let here : from ≡ to = at_legal by.0 to by.1 has next.1 (omega arith) in
+              let same : get_or keys to 0 + step_key by.0 ≡ get_or keys place 0 = subst (λ p. get_or keys p 0 + step_key by.0 ≡ get_or keys place 0) here (subst (λ s. get_or keys from 0 + s ≡ get_or keys place 0) cost e) in
+              (by.0, by.1, (to, has, next.1, same, subst (λ p. Has (get_or sets p 0) move) here old))
+          | inr none ↦
+              let here = at_other by.0 by.1 none in
+              let same : get_or keys place 0 + step ≡ get_or keys place 0 = subst (λ p. get_or keys p 0 + step ≡ get_or keys place 0) here e in
+              absurd (omega (arith, step_some by.0))
         ]
 
-    if_brought : (move by : Move) → number_of by ≡ n → IsBroughtBy w keys sets legal place by move → Has (bit_and (get_or sets from 0) attains) move
+    if_brought : (move by : Move) → number_of by ≡ n → IsBroughtBy w keys sets legal place by move → (get_or keys from 0 + step ≡ get_or keys place 0) × Has (get_or sets from 0) move
     if_brought move by e more =
         let next = near by more.1 in
         let to = next.0 in
@@ -143,16 +138,16 @@ module _ (w : ℕ) (keys sets : List ℕ) (legal place n from : ℕ) (l : n < 8)
         let here : from ≡ more.0 = at_legal by to e more.1 next.1 (omega arith) ∙ one in
         let cost = step_is by e in
         let same : get_or keys from 0 + step ≡ get_or keys place 0 = subst (λ s. get_or keys from 0 + s ≡ get_or keys place 0) (sym cost) (subst (λ p. get_or keys p 0 + step_key by ≡ get_or keys place 0) (sym here) more.3) in
-        (Has-meet (get_or sets from 0) attains move).1 (subst (λ p. Has (get_or sets p 0) move) (sym here) more.4, subst (λ s. Has s move) (sym (equal same)) (Has-all move))
+        (same, subst (λ p. Has (get_or sets p 0) move) (sym here) more.4)
 
-    pub brought_more : IsBroughtBelow w keys sets legal place (n + 1) (bit_or made (bit_and (get_or sets from 0) attains))
+    pub brought_more : IsBroughtBelow w keys sets legal place (n + 1) after
     brought_more = record {
       has = λ move. (
-        λ h. elim ((Has-join made (bit_and (get_or sets from 0) attains) move).0 h) [
+        λ h. elim ((joined move).0 h) [
           | inl old ↦ elim ((brought.has move).0 old) [ inl here ↦ inl here | inr more ↦ let low = more.1 in inr (more.0, omega arith, more.2) ]
-          | inr new ↦ let more = brought_if move new in let same = more.1 in inr (more.0, omega arith, more.2)
+          | inr new ↦ let more = brought_if move new.0 new.1 in let same = more.1 in inr (more.0, omega arith, more.2)
         ],
-        λ h. (Has-join made (bit_and (get_or sets from 0) attains) move).1 (elim h [
+        λ h. (joined move).1 (elim h [
           | inl old ↦ inl ((brought.has move).1 (inl old))
           | inr more ↦
               let by = more.0 in
@@ -164,3 +159,47 @@ module _ (w : ℕ) (keys sets : List ℕ) (legal place n from : ℕ) (l : n < 8)
         ]),
       );
     }
+
+-- ---- a set is joined if two numbers are equal: by a mask that is full or empty, or by a test
+
+pub joined_by_mask : (made set attains a b : ℕ) → (a ≡ b → attains ≡ 255) → (a ≢ b → attains ≡ 0)
+    → (move : Move) → Has (bit_or made (bit_and set attains)) move ↔ (Has made move ⊎ ((a ≡ b) × Has set move))
+joined_by_mask made set attains a b equal unequal move = (
+  λ h. elim ((Has-join made (bit_and set attains) move).0 h) [
+    | inl old ↦ inl old
+    | inr new ↦
+        let both = (Has-meet set attains move).0 new in
+        elim (cases_eq a b) [
+          | inl e ↦ inr (e, both.0)
+          | inr apart ↦ absurd (Has-none move (subst (λ s. Has s move) (unequal apart) both.1))
+        ]
+  ],
+  λ h. (Has-join made (bit_and set attains) move).1 (elim h [
+    | inl old ↦ inl old
+    | inr new ↦ inr ((Has-meet set attains move).1 (new.1, subst (λ s. Has s move) (sym (equal new.0)) (Has-all move)))
+  ]),
+)
+
+pub joined_if_equal : (made set a b : ℕ) → a ≡ b → (move : Move) → Has (bit_or made set) move ↔ (Has made move ⊎ ((a ≡ b) × Has set move))
+joined_if_equal made set a b e move = (
+  λ h. elim ((Has-join made set move).0 h) [ inl old ↦ inl old | inr new ↦ inr (e, new) ],
+  λ h. (Has-join made set move).1 (elim h [ inl old ↦ inl old | inr new ↦ inr new.1 ]),
+)
+
+pub kept_if_apart : (made set a b : ℕ) → a ≢ b → (move : Move) → Has made move ↔ (Has made move ⊎ ((a ≡ b) × Has set move))
+kept_if_apart made set a b apart move = (λ h. inl h, λ h. elim h [ inl old ↦ old | inr new ↦ absurd (apart new.0) ])
+
+-- ---- in the open
+
+pub amid_above : (w size place : ℕ) → StaysWithin w size 255 place → w + 1 ≤ place
+amid_above w size place near = let next = near NW (Has-all NW) in let here = next.1 in omega arith
+
+pub amid_below : (w size place : ℕ) → StaysWithin w size 255 place → place + w + 1 < size
+amid_below w size place near = let next = near SE (Has-all SE) in let here = next.1 in let low = next.2 in omega arith
+
+pub amid_legal : (w place n : ℕ) (around : List ℕ) → ((by : Move) (to : ℕ) → IsBeside w by place to → get_or around (number_of by) 0 ≡ to)
+    → (by : Move) (to : ℕ) → number_of by ≡ n → Has 255 by → IsBeside w by place to → to < 18446744073709551616 → get_or around n 0 ≡ to
+amid_legal w place n around leads by to e has next low = subst (λ k. get_or around k 0 ≡ to) e (leads by to next)
+
+pub amid_other : (place n from : ℕ) (by : Move) → number_of by ≡ n → (Has 255 by → ⊥) → from ≡ place
+amid_other place n from by e none = absurd (none (Has-all by))

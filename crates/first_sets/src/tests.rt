@@ -184,7 +184,7 @@ fn next(word: u32) -> u32 {
 #[test]
 fn made_maps(rt: HostRuntime) -> Result<(), AllocError> {
     let mut word = 4711u32;
-    for _ in 0..300 {
+    for turn in 0..300u32 {
         word = next(word);
         let (width, height) = (1 + (word >> 8) % 6, 1 + (word >> 16) % 6);
         let mut grid = Grid::blocked(rt.alloc(), width, height)?;
@@ -192,7 +192,7 @@ fn made_maps(rt: HostRuntime) -> Result<(), AllocError> {
             word = next(word);
             let cell = cell_at(width, place);
             if grid.inside(cell) {
-                grid.set(cell, (word >> 20) % 3 != 0);
+                grid.set(cell, (word >> 20) % (2 + turn % 6) != 0);
             }
         }
         assert!(rt; grid.passable_count() <= 32_768);

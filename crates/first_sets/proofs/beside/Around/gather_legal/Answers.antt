@@ -1,6 +1,6 @@
-use Rattle.std.proofs.Common.{◌+◌, arith, sym, ap, ◌∙◌}
-use Rattle.first_sets.proofs.Besides.{from_inside, brought_more}
-use Rattle.first_sets.proofs.beside.Around.gather.Goals as goal
+use Rattle.std.proofs.Common.{◌+◌, arith, sym, ap, ◌∙◌, get_or}
+use Rattle.first_sets.proofs.Besides.{from_inside, brought_more, joined_by_mask}
+use Rattle.first_sets.proofs.beside.Around.gather_legal.Goals as goal
 
 pub offset_bounds-keys-from : goal.offset_bounds-keys-from
 offset_bounds-keys-from c =
@@ -25,6 +25,8 @@ loop-number-preserved c =
     let key = c.from-key.ensures in
     brought_more c.args.self.now.width c.args.keys.now c.args.sets.now c.args.legal c.args.place c.loop-number.number c.beside-from.result
     c.loop-number-test.true (omega arith) c.requires.near c.requires.inside c.beside-from.ensures.legal c.beside-from.ensures.otherwise
-    c.loop-number.set c.all_if_equal-attains.result c.step_key.result c.loop-number.invariant c.step_key.ensures.key
+    c.loop-number.set _ c.step_key.result c.loop-number.invariant c.step_key.ensures.key
+    (joined_by_mask c.loop-number.set (get_or c.args.sets.now c.beside-from.result 0) c.all_if_equal-attains.result
+    (get_or c.args.keys.now c.beside-from.result 0 + c.step_key.result) (get_or c.args.keys.now c.args.place 0)
     (λ e. c.all_if_equal-attains.ensures.equal (sum ∙ e ∙ sym key))
-    (λ n. c.all_if_equal-attains.ensures.unequal (λ e. n (sym sum ∙ e ∙ key)))
+    (λ n. c.all_if_equal-attains.ensures.unequal (λ e. n (sym sum ∙ e ∙ key))))
