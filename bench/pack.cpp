@@ -1,4 +1,5 @@
-// The work of crates/bench_pack in plain C++: packs one row of 32,768 sets and looks it up, as often as it is told.
+// The work of crates/bench_pack in plain C++: reads a row of sets from a file, packs it and looks it up, as often as it is
+// told: pack FILE PACKS FINDS.
 #include <cstdint>
 #include <cstdio>
 #include <cstdlib>
@@ -10,16 +11,14 @@ static uint32_t next(uint32_t state) {
     return state * 1664525u + 1013904223u;
 }
 
-static std::vector<uint8_t> make_sets() {
+// The sets in the file, one number a line, as `bench_pack KIND row` prints them.
+static std::vector<uint8_t> read_sets(const char *path) {
     std::vector<uint8_t> sets;
-    uint32_t state = 1;
-    uint8_t base = 1;
-    for (uint32_t place = 0; place < PLACES; place++) {
-        state = next(state);
-        if (state >> 28 == 0) base = uint8_t(1u << ((state >> 20) & 7));
-        uint8_t set = base | uint8_t((state >> 8) & (state >> 16) & 255);
-        sets.push_back(set > 1 ? set : 1);
-    }
+    FILE *file = fopen(path, "r");
+    if (file == nullptr) return sets;
+    unsigned set;
+    while (fscanf(file, "%u", &set) == 1) sets.push_back(uint8_t(set));
+    fclose(file);
     return sets;
 }
 
@@ -70,10 +69,13 @@ __attribute__((noinline)) static uint64_t find_often(const std::vector<uint32_t>
 }
 
 int main(int argc, char **argv) {
-    uint64_t packs = argc > 1 ? strtoull(argv[1], nullptr, 10) : 0;
-    uint64_t finds = argc > 2 ? strtoull(argv[2], nullptr, 10) : 0;
-    std::vector<uint8_t> sets = make_sets();
+    if (argc < 2) return 2;
+    uint64_t packs = argc > 2 ? strtoull(argv[2], nullptr, 10) : 0;
+    uint64_t finds = argc > 3 ? strtoull(argv[3], nullptr, 10) : 0;
+    std::vector<uint8_t> sets = read_sets(argv[1]);
+    if (sets.empty() || sets.size() > PLACES) return 1;
     std::vector<uint32_t> words;
+    words.reserve(sets.size());
     uint64_t runs = 0;
     for (uint64_t turn = 0; turn < packs; turn++) {
         pack(words, sets);
