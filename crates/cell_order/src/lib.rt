@@ -6,6 +6,8 @@ ghost use Rattle.moves.specs.Maps.{ComesBefore};
 ghost use Rattle.moves.specs.StraightPaths.{IsConnected};
 ghost use Rattle.cell_order.specs.Orders.{IsOnMap, beside, ordered};
 
+#[cfg(test)]
+mod tests;
 mod unseen;
 
 use moves::Cell;

@@ -1,0 +1,10 @@
+-- The cells are those of the row up to this column.
+use Rattle.std.proofs.Common.{◌≡◌}
+use Rattle.cell_order.proofs.LongRow.{row_of}
+use Rattle.cell_order.proofs.tests.long_row.Given as goal
+
+abbrev pub invariant-loop-x : goal.invariant-loop-x
+invariant-loop-x g l = l.cells.items ≡ row_of 4095 l.x
+
+abbrev pub invariant-loop-kind : goal.invariant-loop-kind
+invariant-loop-kind g l = l.cells.items ≡ row_of 4095 4096
