@@ -263,6 +263,7 @@ module _ (m : Map) (source : Cell) (keys : List ℕ) (settled : List Cell) (pass
             let same : own ≡ cost = one_some own cost (sym t ∙ here) in
             subst (λ c. c.straight + c.diagonal < passable_count m) same steps;
         order = in_order;
+        counted = settled_count;
       }
 
 -- what callers see of a finished search

@@ -39,7 +39,7 @@ pub record IsInOrder (source : Cell) (search : Searched) : Type 0 where
   pub first : slice_index_or search.settled 0 source ≡ source
 
 -- The search holds the least costs of that map from that source, each of fewer steps than there are passable cells,
--- which are at most 32,768.
+-- which are at most 32,768; and it has settled no more cells than are passable.
 pub record HasSearched (map : Map) (source : Cell) (search : Searched) : Type 0 where
   pub width : search.width ≡ map.width
   pub height : search.height ≡ map.height
@@ -48,6 +48,7 @@ pub record HasSearched (map : Map) (source : Cell) (search : Searched) : Type 0 
   pub few : passable_count map ≤ 32768
   pub short : (cell : Cell) (cost : Cost) → IsInside map cell → cost_at search cell ≡ Some cost → cost.straight + cost.diagonal < passable_count map
   pub order : IsInOrder source search
+  pub counted : length search.settled ≤ passable_count map
 
 -- the key of a cost, and where there is no cost a number above every key
 abbrev pub key_or_none : Option Cost → ℕ
