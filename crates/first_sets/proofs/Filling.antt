@@ -116,11 +116,10 @@ module _ (map : Map) (source : Cell) (search : Searched) (has : HasSearched map 
             has_same _ _ move _ (set_in_other map sets source cell 255 free.inside inside apart) (first_away cell move inside apart)
       ]
 
-      module _ (places : List ℕ) (same_room : length places ≡ length sets) (written : ArePlaces map search.settled source (length search.settled) places) where
+      module _ (places : List ℕ) (room : length search.settled ≤ length places) (written : ArePlaces map search.settled source (length search.settled) places) where
         settled_place : (cell : Cell) (c : Cost) → IsInside map cell → cost_at search cell ≡ Some c → Contains (take (length search.settled) places) (place_of map.width cell)
         settled_place cell c inside e =
             let at = stands map source search has cell c inside e in
-            let few = few_settled in
             let long : length (take (length search.settled) places) ≡ length search.settled = length-take-le (length search.settled) places (omega arith) in
             let l = at.1 in
             let j = at.0 in (
@@ -152,7 +151,6 @@ module _ (map : Map) (source : Cell) (search : Searched) (has : HasSearched map 
 
         pub filled_inside : All (λ place. place < length sets) (take (length search.settled) places)
         filled_inside =
-            let few = few_settled in
             let long : length (take (length search.settled) places) ≡ length search.settled = length-take-le (length search.settled) places (omega arith) in
             All-from_get_or (λ place. place < length sets) (take (length search.settled) places) 0 (λ j l.
             let m : j < length search.settled = omega arith in

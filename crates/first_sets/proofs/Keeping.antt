@@ -10,6 +10,8 @@ use Rattle.first_sets.specs.Filled.{Filled, set_at, HasFirstSets}
 use Rattle.moves.specs.Maps.{Map, IsInside, place_of}
 use Rattle.moves.proofs.MovesInSets.{Has-none}
 use Rattle.moves.specs.MoveSets.{Has}
+use Rattle.grid_search.specs.Kept.{HasRoom}
+use Rattle.grid_search.proofs.Keeping.{same_room}
 use Rattle.first_sets.specs.Memory.{AreEmptyBut, IsKept}
 use Rattle.first_sets.specs.Steps.{set_in}
 
@@ -31,11 +33,11 @@ none_in_replicate n place = elim (cases_lt place n) [
   | inr high ↦ get_or_past (zeros n) place 0 (let long : length (zeros n) ≡ n = length-replicate n 0 in omega arith)
 ]
 
-pub kept_new : (n : ℕ) (sets places : List ℕ) → sets ≡ replicate n 0 → places ≡ replicate n 0 → IsKept 0 0 sets places 0
+pub kept_new : (n reach : ℕ) (sets places : List ℕ) → HasRoom n reach → sets ≡ replicate n 0 → places ≡ replicate reach 0 → IsKept 0 0 sets places 0
 unfolding zeros
-kept_new n sets places e f = record {
+kept_new n reach sets places room e f = record {
   fits = omega arith;
-  same_room = ap length f ∙ sym (ap length e);
+  places_room = same_room n reach (length sets) (length places) (ap length e ∙ length-replicate n 0) (ap length f ∙ length-replicate reach 0) room;
   counted = omega arith;
   inside = λ k d l. absurd (omega arith);
   written = λ place move h. absurd (Has-none move (subst (λ s. Has s move) (ap (λ list. get_or list place 0) e ∙ none_in_replicate n place) h));
@@ -52,10 +54,10 @@ first_at map source filled cell move set column row has e =
     (λ h. first.0 (subst (λ s. Has s move) e h), λ f. subst (λ s. Has s move) (sym e) (first.1 f))
 
 -- what holds of the memory after a fill
-pub kept_again : (w h : ℕ) (sets places sets' places' : List ℕ) (count : ℕ) → sets' ≡ sets → places' ≡ places → w * h ≤ length sets → length places ≡ length sets → count ≤ length places
+pub kept_again : (w h : ℕ) (sets places sets' places' : List ℕ) (count : ℕ) → sets' ≡ sets → places' ≡ places → w * h ≤ length sets → HasRoom (length sets) (length places) → count ≤ length places
     → All (λ place. place < length sets) (take count places) → AreEmptyBut (take count places) sets → IsKept w h sets' places' count
-kept_again w h sets places sets' places' count e f fits same counted inside written =
-    subst (λ s. IsKept w h s places' count) (sym e) (subst (λ p. IsKept w h sets p count) (sym f) (record { fits = fits; same_room = same; counted = counted; inside = inside; written = written }))
+kept_again w h sets places sets' places' count e f fits room counted inside written =
+    subst (λ s. IsKept w h s places' count) (sym e) (subst (λ p. IsKept w h sets p count) (sym f) (record { fits = fits; places_room = room; counted = counted; inside = inside; written = written }))
 
 pub filled_again : (map : Map) (source : Cell) (room w h : ℕ) (sets sets' : List ℕ) → sets' ≡ sets → w ≡ map.width → h ≡ map.height
     → ((cell : Cell) (move : Move) → IsInside map cell → Has (set_in map.width sets cell) move ↔ IsFirstMove map source cell move)

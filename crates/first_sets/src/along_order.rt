@@ -36,7 +36,7 @@ pub(crate) fn fill(
     requires searched { HasSearched grid.now source search.now }
     requires source { IsPassable grid.now source }
     requires room { grid.now.width * grid.now.height ≤ length sets.old }
-    requires same_room { length places.old ≡ length sets.old }
+    requires places { length search.now.settled ≤ length places.old }
     requires counted { count ≤ length places.old }
     requires inside { All (λ place. place < length sets.old) (take count places.old) }
     requires written { AreEmptyBut (take count places.old) sets.old }
@@ -101,7 +101,7 @@ fn pass_on(sets: &mut [u8], places: &mut [u32], grid: &Grid, search: &Search, so
     requires searched { HasSearched grid.now source search.now }
     requires source { IsPassable grid.now source }
     requires room { grid.now.width * grid.now.height ≤ length sets.old }
-    requires places { length places.old ≡ length sets.old }
+    requires places { length search.now.settled ≤ length places.old }
     requires begun { IsPassed grid.now source search.now 0 sets.old }
     ensures first { (cell : Cell) (move : Move) → IsInside grid.now cell → Has (set_in grid.now.width sets.new cell) move ↔ IsFirstMove grid.now source cell move }
     ensures few { length search.now.settled ≤ length places.new }

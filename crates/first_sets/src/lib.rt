@@ -19,6 +19,9 @@ use std::marker::Model;
 mod along_order;
 mod beside;
 
+/// How many cells a search reaches at most, since a map to be searched has no more passable ones.
+const MOST_REACHED: usize = 32768;
+
 /// The first sets of all cells of a map from one source. One `FirstSets` serves many sources, one after the other.
 #[derive(Drop)]
 pub struct FirstSets {
@@ -51,7 +54,7 @@ impl FirstSets {
             width: 0,
             height: 0,
             sets: vec![in alloc; 0; cells]?,
-            places: vec![in alloc; 0; cells]?,
+            places: vec![in alloc; 0; cells.min(MOST_REACHED)]?,
             count: 0,
         })
     }

@@ -1,10 +1,25 @@
 -- What was written to the lent lists is what they hold.
-use Rattle.std.proofs.Common.{◌≡◌, ◌*◌, ◌<◌, ◌≤◌, arith, sym, ap, subst, ◌∙◌, length, take, All}
+use Rattle.std.proofs.Common.{◌≡◌, ◌*◌, ◌<◌, ◌≤◌, arith, sym, ap, subst, ◌∙◌, length, take, All, inl, inr}
 use Rattle.std.specs.Vec.{with_items}
 use Rattle.std.proofs.lemmas.List.{with_items_is}
+use Rattle.grid_search.specs.Kept.{HasRoom}
+use Rattle.grid_search.proofs.Keeping.{same_room}
 use Rattle.first_sets.specs.Memory.{AreEmptyBut}
+use Rattle.first_sets.proofs.Filling.{few_settled}
 use Rattle.first_sets.proofs.Keeping.{kept_again, filled_again}
 use Rattle.first_sets.proofs.FirstSets.fill.Goals as goal
+
+pub fill-requires-clause-places : goal.fill-requires-clause-places
+fill-requires-clause-places c =
+    let map = c.args.grid.now in
+    let fields = c.self.inside in
+    let long : length c.as_mut_slice-2.result.now ≡ length fields.places.items = ap length c.as_mut_slice-2.ensures.value in
+    let room = subst (λ f. map.width * map.height ≤ f.room) (sym c.self.view_is) c.requires.room in
+    let has = c.requires.searched in
+    elim c.self.invariant.places_room [
+      | inl all ↦ let some = few_settled map c.args.source c.args.search.now has c.requires.source in omega arith
+      | inr most ↦ let some = has.counted in let few = has.few in omega arith
+    ]
 
 pub invariant_of-self : goal.invariant_of-self
 invariant_of-self c =
@@ -19,10 +34,10 @@ invariant_of-self c =
     let room = subst (λ f. map.width * map.height ≤ f.room) (sym c.self.view_is) c.requires.room in
     let fits : c.width-self-inside.result * c.height-self-inside.result ≤ length c.fill.new.sets =
     rw (c.width-self-inside.ensures.width, c.height-self-inside.ensures.height) (omega arith) in
-    let same_room : length c.fill.new.places ≡ length c.fill.new.sets =
-    long' ∙ fields.places.ok.0 ∙ c.self.invariant.same_room ∙ sym fields.sets.ok.0 ∙ sym long in
+    let room_kept : HasRoom (length c.fill.new.sets) (length c.fill.new.places) =
+    same_room _ _ _ _ (long ∙ fields.sets.ok.0) (long' ∙ fields.places.ok.0) c.self.invariant.places_room in
     kept_again c.width-self-inside.result c.height-self-inside.result c.fill.new.sets c.fill.new.places _ _ (length c.settled.result.now) sets places
-    fits same_room (subst (λ n. n ≤ length c.fill.new.places) (sym count) c.fill.ensures.few)
+    fits room_kept (subst (λ n. n ≤ length c.fill.new.places) (sym count) c.fill.ensures.few)
     (subst (λ n. All (λ place. place < length c.fill.new.sets) (take n c.fill.new.places)) (sym count) c.fill.ensures.inside)
     (subst (λ n. AreEmptyBut (take n c.fill.new.places) c.fill.new.sets) (sym count) c.fill.ensures.written)
 

@@ -8,13 +8,12 @@ use Rattle.moves.specs.Maps.{IsInside, place_of}
 use Rattle.moves.specs.MoveSets.{Has}
 use Rattle.first_sets.specs.Steps.{IsPassed, set_in}
 use Rattle.first_sets.proofs.Bridging.{near_at, made_at}
-use Rattle.first_sets.proofs.Filling.{few_settled, filled_first, filled_inside, filled_written, noted_more, ArePlaces}
+use Rattle.first_sets.proofs.Filling.{filled_first, filled_inside, filled_written, noted_more, ArePlaces}
 use Rattle.first_sets.proofs.Passing.{passed_more}
 use Rattle.first_sets.proofs.along_order.pass_on.Goals as goal
 
 pub bounds-places-index : goal.bounds-places-index
 bounds-places-index c =
-    let few = few_settled c.args.grid.now c.args.source c.args.search.now c.requires.searched c.requires.source in
     let long = ap length c.loop-index.invariant.order in
     omega arith
 
@@ -25,7 +24,6 @@ gather-requires-clause-near c =
     let source = c.args.source in
     let known = c.loop-index.invariant in
     let i = c.loop-index.index in
-    let few = few_settled map source search c.requires.searched c.requires.source in
     let long = ap length known.order in
     let low : i < length search.settled = omega arith in
     let here : get_or c.settled-cell-items.result.now i (record { x = 0; y = 0 }) ≡ get_or search.settled i source =
@@ -42,7 +40,6 @@ loop-index-preserved c =
     let source = c.args.source in
     let known = c.loop-index.invariant in
     let i = c.loop-index.index in
-    let few = few_settled map source search c.requires.searched c.requires.source in
     let long = ap length known.order in
     let low : i < length search.settled = omega arith in
     let here : get_or c.settled-cell-items.result.now i (record { x = 0; y = 0 }) ≡ get_or search.settled i source =
@@ -61,7 +58,6 @@ loop-index-preserved c =
 
 pub returns-clause-few : goal.returns-clause-few
 returns-clause-few c =
-    let few = few_settled c.args.grid.now c.args.source c.args.search.now c.requires.searched c.requires.source in
     omega arith
 
 pub returns-clause-first : goal.returns-clause-first

@@ -1,5 +1,5 @@
-use Rattle.std.proofs.Common.{◌≡◌, ◌+◌, arith, sym, ap, subst, ◌∙◌, get_or}
-use Rattle.first_sets.proofs.Besides.{IsBroughtBelow, from_inside, brought_more, joined_if_equal, kept_if_apart, amid_above, amid_below, amid_legal, amid_other}
+use Rattle.std.proofs.Common.{◌+◌, arith, sym, ap, ◌∙◌, get_or}
+use Rattle.first_sets.proofs.Besides.{from_inside, brought_more, joined_if_equal, kept_if_apart, amid_above, amid_below, amid_legal, amid_other}
 use Rattle.first_sets.proofs.beside.gather_amid.Goals as goal
 use Rattle.first_sets.proofs.beside.gather_amid.Goals.{then-from-step_key, else-from-step_key}
 
