@@ -203,3 +203,20 @@ fn made_maps(rt: HostRuntime) -> Result<(), AllocError> {
     }
     Ok(())
 }
+
+/// As many passable cells as there may be, in the first rows of the largest grid.
+#[test]
+fn full_rows_of_a_large_grid(rt: HostRuntime) -> Result<(), AllocError> {
+    let mut grid = Grid::blocked(rt.alloc(), 1024, 1024)?;
+    for place in 0..32_768u32 {
+        let cell = cell_at(1024, place);
+        if grid.inside(cell) {
+            grid.set(cell, true);
+        }
+    }
+    let corners = [Cell { x: 0, y: 0 }, Cell { x: 1023, y: 31 }];
+    let [first, last] = corners;
+    assert_eq!(rt; set_from(&rt, rt.alloc(), &grid, first, last)?, 0b0000_1100);
+    assert_eq!(rt; set_from(&rt, rt.alloc(), &grid, last, first)?, 0b1100_0000);
+    Ok(())
+}

@@ -159,3 +159,34 @@ fn both_ends_of_a_long_map(rt: HostRuntime) -> Result<(), AllocError> {
     }
     Ok(())
 }
+
+/// A grid of those sides of which the first so many cells, row by row, are passable.
+fn partly_open(alloc: Global, width: u32, height: u32, open: usize) -> Result<Grid, AllocError>
+    requires { IsWithinLimits width height }
+    ensures { IfOk result (λ grid. (grid.width ≡ width) × (grid.height ≡ height)) }
+{
+    let mut cells = vec![in alloc; false; (width * height) as usize]?;
+    for (place, cell) in cells.iter_mut().enumerate() {
+        *cell = place < open;
+    }
+    Grid::of_cells(alloc, width, height, cells)
+}
+
+/// As many passable cells as there may be, in the first rows of the largest grid: each one is reached.
+#[test]
+fn full_rows_of_a_large_grid(rt: HostRuntime) -> Result<(), AllocError> {
+    let grid = partly_open(rt.alloc(), 1024, 1024, 32_768)?;
+    let mut search = Search::new(rt.alloc(), 1_048_576)?;
+    let source = Cell { x: 0, y: 0 };
+    let goal = Cell { x: 1023, y: 31 };
+    assert!(rt; grid.passable(source) && grid.passable_count() == 32_768);
+    search.from_source(&grid, source);
+    assert!(rt; grid.inside(goal));
+    let cost = Cost {
+        straight: 992,
+        diagonal: 31,
+    };
+    assert_eq!(rt; search.cost(goal), Some(cost));
+    assert_eq!(rt; search.settled().len(), 32_768);
+    Ok(())
+}
