@@ -1,16 +1,19 @@
 // The twin of `order_of` with depth-first order: marks over the rectangle round the cells, and a stack.
+// Build: g++ -O3 -march=x86-64-v2 -o bench/build/cell_order bench/cell_order.cpp
+// Run: bench/build/cell_order ORDERS
+// It orders 256 by 128 cells so often and once more, and mixes the order into the number that it prints: the second one
+// that bench_components prints.
 #include <algorithm>
 #include <cstdint>
 #include <cstdio>
 #include <cstdlib>
-#include <ctime>
 #include <vector>
 
 struct Cell {
     uint16_t x, y;
 };
 
-static std::vector<Cell> depth_first(const std::vector<Cell>& cells) {
+__attribute__((noinline)) static std::vector<Cell> depth_first(const std::vector<Cell>& cells) {
     uint32_t left = UINT32_MAX, right = 0, top = UINT32_MAX, bottom = 0;
     for (Cell c : cells) {
         left = std::min<uint32_t>(left, c.x);
@@ -40,28 +43,13 @@ static std::vector<Cell> depth_first(const std::vector<Cell>& cells) {
     return order;
 }
 
-static double now() {
-    timespec t;
-    clock_gettime(CLOCK_PROCESS_CPUTIME_ID, &t);
-    return t.tv_sec * 1e3 + t.tv_nsec / 1e6;
-}
-
 int main(int argc, char** argv) {
-    uint32_t turns = argc > 1 ? atoi(argv[1]) : 50;
+    if (argc != 2) return 1;
     std::vector<Cell> cells;
     for (uint16_t y = 0; y < 128; y++)
         for (uint16_t x = 0; x < 256; x++) cells.push_back(Cell{x, y});
-    double best = 1e9;
-    uint64_t sum = 0;
-    for (uint32_t turn = 0; turn < turns; turn++) {
-        double start = now();
-        std::vector<Cell> order = depth_first(cells);
-        double took = now() - start;
-        if (took < best) best = took;
-        uint64_t hash = 0;
-        for (Cell c : order) hash = hash * 31 + c.x * 4096u + c.y;
-        sum = hash;
-    }
-    printf("cells %zu hash %llu\n", cells.size(), (unsigned long long)sum);
-    fprintf(stderr, "order %.3f ms\n", best);
+    for (long repeat = atol(argv[1]); repeat > 0; repeat--) depth_first(cells);
+    uint64_t mixed = 0;
+    for (Cell c : depth_first(cells)) mixed = mixed * 31 + c.x * 4096u + c.y;
+    printf("%llu\n", (unsigned long long)mixed);
 }

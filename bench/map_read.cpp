@@ -1,4 +1,6 @@
 // The plain twin of bench_map: the same text, read into the same cells and the same masks of legal moves.
+// Build: g++ -O3 -march=x86-64-v2 -o bench/build/map_read bench/map_read.cpp
+// Run: bench/build/map_read REPEATS    It prints how many passable cells were read in all.
 #include <cstdint>
 #include <cstdio>
 #include <cstdlib>

@@ -1,5 +1,8 @@
-// The work of crates/bench_pack in plain C++: reads a row of sets from a file, packs it and looks it up, as often as it is
-// told: pack FILE PACKS FINDS.
+// The twin of crates/bench_pack: reads a row of sets from a file, packs it and looks it up.
+// Build: g++ -O3 -march=x86-64-v2 -o bench/build/pack bench/pack.cpp
+// Run: bench/build/pack FILE PACKS FINDS
+// FILE has a set a line, as `bench_pack KIND row` prints them. It packs them so often and once more, looks 32,768 places up
+// so often, and prints what bench_pack prints: the number of words, its sum over the repeats, and the sum of the moves.
 #include <cstdint>
 #include <cstdio>
 #include <cstdlib>

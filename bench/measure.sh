@@ -1,0 +1,74 @@
+# Sourced by the scripts of this folder, which run in the root of the repository: it builds the C++ twins, compares check
+# sums and measures user times. A COMMAND is a string of words without quotes, in which {} stands for a number of repeats.
+# shellcheck shell=bash
+set -o pipefail
+shopt -s inherit_errexit
+export LC_ALL=C
+
+# Compiles bench/NAME.cpp to bench/build/NAME: NAME
+build() {
+    mkdir -p bench/build
+    g++ -O3 -march=x86-64-v2 -o "bench/build/$1" "bench/$1.cpp"
+}
+
+# Runs a command with so many repeats: COMMAND N
+repeated() {
+    local words
+    read -ra words <<<"${1//'{}'/$2}"
+    "${words[@]}"
+}
+
+# Ends the script unless all commands print the same with N repeats: N COMMAND..
+same() {
+    local n=$1 first='' sum command
+    shift
+    for command; do
+        sum=$(repeated "$command" "$n")
+        if [[ -z $sum || $sum != "${first:=$sum}" ]]; then
+            echo "the programs differ" >&2
+            exit 1
+        fi
+    done
+}
+
+# The user time of a command with so many repeats, in seconds; its print is dropped: COMMAND N
+user_time() {
+    local TIMEFORMAT=%3U
+    { time repeated "$@" >/dev/null 2>&3; } 3>&2 2>&1
+}
+
+# In each round every command runs in turn with N repeats, and then every one with 2N. A round's figure is the difference
+# of a command's two user times, so that starting up and all that is done once are left out. Prints a line for each command:
+# the median of the rounds, in nanoseconds an item. ITEMS is how many items the N repeats have, one number for all commands
+# or one for each; ROUNDS is odd: ROUNDS N ITEMS COMMAND..
+medians() {
+    local rounds=$1 n=$2 round i
+    local -a items once twice commands=("${@:4}")
+    read -ra items <<<"$3"
+    for ((round = 0; round < rounds; round++)); do
+        for i in "${!commands[@]}"; do once[i]=$(user_time "${commands[i]}" "$n"); done
+        for i in "${!commands[@]}"; do twice[i]=$(user_time "${commands[i]}" $((2 * n))); done
+        for i in "${!commands[@]}"; do echo "$i ${once[i]} ${twice[i]} ${items[i]:-${items[0]}}"; done
+    done | awk '{ print $1, ($3 - $2) * 1e9 / $4 }' | sort -k 1,1n -k 2,2g |
+        awk -v rounds="$rounds" '(NR - 1) % rounds == int(rounds / 2) { print $2 }'
+}
+
+# Prints what `medians` has found in a line: ours, each twin, and the ratio of ours to it. UNIT is ns, us or ms, and the
+# names are those of the twins: WHAT UNIT NAME..
+report() {
+    local IFS=,
+    awk -v what="$1" -v unit="$2" -v names="${*:3}" '
+        function figure(ns) {
+            ns /= unit == "ms" ? 1e6 : unit == "us" ? 1e3 : 1
+            return sprintf(ns < 1 ? "%.3f" : ns < 10 ? "%.2f" : ns < 100 ? "%.1f" : "%.0f", ns) " " unit
+        }
+        { cost[NR] = $1 }
+        END {
+            count = split(names, name, ",")
+            if (NR != count + 1) exit 1
+            line = what ": Rattle " figure(cost[1])
+            for (i = 1; i <= count; i++)
+                line = line sprintf("; %s %s, ratio %.2f", name[i], figure(cost[i + 1]), cost[1] / cost[i + 1])
+            print line
+        }'
+}
