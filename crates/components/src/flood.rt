@@ -67,10 +67,11 @@ impl Flood {
 
     /// Whether the cell is passable and has no label yet.
     fn is_fresh(&self, grid: &Grid, cell: Cell) -> bool
+        requires inside { IsInside grid.now cell }
         requires labels { length self.now.labels ≡ grid.now.width * grid.now.height }
         ensures { IsTrue result ↔ IsFresh grid.now self.now cell }
     {
-        grid.passable(cell) && self.labels[place(grid, cell)] == UNLABELLED
+        self.labels[place(grid, cell)] == UNLABELLED && grid.passable(cell)
     }
 
     /// Gives the label to the cell that the move leads to, if it is fresh.
