@@ -1,5 +1,5 @@
 -- A word that looks like an option is refused, whatever stands around it.
-use Rattle.std.proofs.Common.{◌≡◌, ◌≢◌, ◌∙◌, ◌<◌, ◌⊎◌, ◌++◌, ℕ, Bool, List, [], ◌∷◌, false, Some, None, inl, inr, codes, length, slice_get, refl, ap, ap₂, arith}
+use Rattle.std.proofs.Common.{◌≡◌, ◌≢◌, ◌∙◌, ◌<◌, ◌⊎◌, ◌++◌, ℕ, Bool, List, [], ◌∷◌, false, Some, None, inl, inr, codes, length, slice_get, refl, sym, ap, ap₂, arith}
 use Rattle.std.proofs.lemmas.Bool.Decides.{nat_tests}
 use Rattle.std.specs.Str.{bytes_eq, chars, chars_after, continuation_len, lead_bits}
 use Rattle.clap.specs.declared.error.kind.ErrorKind.TheVariants.{UnknownArgument}
@@ -37,22 +37,34 @@ first_char x xs ascii = ap₂ (λ n c. slice_get (chars_after n c xs) 0) (one_by
     head [] = refl
     head (y ∷ ys) = refl
 
+-- there is no first character in the empty text
+no_first : (c : ℕ) → slice_get (chars []) 0 ≡ Some c → ⊥
+unfolding chars
+no_first c first = cc
+
+one_some : (a b : ℕ) → Some a ≡ Some b → a ≡ b
+one_some a b e = cc
+
+-- a hyphen is a character by itself
+first_of_dash : (x : ℕ) (xs : Text) (c : ℕ) → x ≡ 45 → slice_get (chars (x ∷ xs)) 0 ≡ Some c → c ≡ 45
+first_of_dash x xs c dash first = one_some c x (sym first ∙ first_char x xs (omega arith)) ∙ dash
+
 -- clap knows no option of this command
 abbrev HasNoShort : List Rule → Type 0
 HasNoShort rules = (x : ℕ) → arg_by_short rules x ≡ None
 
-bundle_refused : (rules : List Rule) (again : Bool) (x : ℕ) (xs : Text) (h : Held) → x < 128 → HasNoShort rules → h.skip ≡ 0 → bundle_fault rules again (x ∷ xs) h ≡ UnknownArgument ∷ []
+bundle_refused : (rules : List Rule) (again : Bool) (x : ℕ) (xs : Text) (c : ℕ) (h : Held) → slice_get (chars (x ∷ xs)) 0 ≡ Some c → HasNoShort rules → h.skip ≡ 0 → bundle_fault rules again (x ∷ xs) h ≡ UnknownArgument ∷ []
 unfolding flags_fault
-bundle_refused rules again x xs h ascii none start =
-    ap₂ (λ c n. bundle_step_fault rules again c (x ∷ xs) n (record h { skip = 0 }) (flags_fault rules again (length xs))) (first_char x xs ascii) start
-    ∙ rw (none x) refl
+bundle_refused rules again x xs c h first none start =
+    ap₂ (λ c n. bundle_step_fault rules again c (x ∷ xs) n (record h { skip = 0 }) (flags_fault rules again (length xs))) first start
+    ∙ rw (none c) refl
 
 -- a turn of the walk at such a word
-short_refused : (s : Shape) (x : ℕ) (xs : Text) (position : ℕ) (h : Held) → x < 128 → x ≢ 45 → HasNoShort s.rules → h.skip ≡ 0
+short_refused : (s : Shape) (x : ℕ) (xs : Text) (c position : ℕ) (h : Held) → slice_get (chars (x ∷ xs)) 0 ≡ Some c → x ≢ 45 → HasNoShort s.rules → h.skip ≡ 0
     → turn_fault s [] (walk_at h position) (45 ∷ x ∷ xs) ≡ UnknownArgument ∷ []
-short_refused s x xs position h ascii other none start =
+short_refused s x xs c position h first other none start =
     let word = 45 ∷ x ∷ xs in
-    let found : word_fault s [] false idle word h ≡ UnknownArgument ∷ [] = rw (not_dashes x xs other, not_long x xs other, is_short x xs other) (bundle_refused s.rules s.args_override_self x xs h ascii none start) in
+    let found : word_fault s [] false idle word h ≡ UnknownArgument ∷ [] = rw (not_dashes x xs other, not_long x xs other, is_short x xs other) (bundle_refused s.rules s.args_override_self x xs c h first none start) in
     let met = word_met s.rules [] false idle position word h in
     ap (λ kinds. or_else kinds (step_fault s position met.0 met.1)) found
 
@@ -70,7 +82,8 @@ long_refused s x xs position h none =
 option_turn : (s : Shape) (word : Text) (position : ℕ) (h : Held) → HasNoShort s.rules → HasNoLong s.rules → h.skip ≡ 0 → IsLong word ⊎ IsShort word
     → turn_fault s [] (walk_at h position) word ≡ UnknownArgument ∷ []
 option_turn s word position h short long start (inl (x, xs, is)) = rw is (long_refused s x xs position h long)
-option_turn s word position h short long start (inr (x, xs, ascii, other, is)) = rw is (short_refused s x xs position h ascii other short start)
+option_turn s word position h short long start (inr ([], c, first, other, is)) = absurd (no_first c first)
+option_turn s word position h short long start (inr (x ∷ xs, c, first, other, is)) = rw is (short_refused s x xs c position h first (λ dash. other (first_of_dash x xs c dash first)) short start)
 
 option_refused : (s : Shape) (word : Text) (after : List Text) (position : ℕ) (h : Held) → HasNoShort s.rules → HasNoLong s.rules → h.skip ≡ 0 → IsLong word ⊎ IsShort word
     → walk_fault s [] (walk_at h position) (word ∷ after) ≡ UnknownArgument ∷ []

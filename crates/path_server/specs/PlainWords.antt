@@ -1,5 +1,6 @@
 -- What command lines ask for of which no word is an option.
-use Rattle.std.specs.Prelude.{◌≡◌, ◌≢◌, ◌<◌, ◌⊎◌, ◌++◌, ℕ, List, [], ◌∷◌, Option, None, codes, slice_index}
+use Rattle.std.specs.Prelude.{◌≡◌, ◌≢◌, ◌⊎◌, ◌++◌, ℕ, List, [], ◌∷◌, Option, Some, None, codes, slice_get, slice_index}
+use Rattle.std.specs.Str.{chars}
 use Rattle.std.specs.List.{AllByRecursion}
 use Rattle.clap.specs.Walk.{Text}
 use Rattle.path_server.specs.Words.{coordinate_in, path_in}
@@ -30,9 +31,9 @@ PlainWordsAreRead = (words : List Text) → AllByRecursion IsPlain words
 abbrev pub IsLong : Text → Type 0
 IsLong word = (first : ℕ) × (rest : Text) × (word ≡ 45 ∷ 45 ∷ first ∷ rest)
 
--- `-n`, `-nvalue` and their kind: a hyphen, and a first character that is ASCII and no hyphen
+-- `-n`, `-nvalue` and their kind: a hyphen, and text whose first character is no hyphen
 abbrev pub IsShort : Text → Type 0
-IsShort word = (first : ℕ) × (rest : Text) × (first < 128) × (first ≢ 45) × (word ≡ 45 ∷ first ∷ rest)
+IsShort word = (rest : Text) × (first : ℕ) × (slice_get (chars rest) 0 ≡ Some first) × (first ≢ 45) × (word ≡ 45 ∷ rest)
 
 -- an option after plain words is refused, whatever follows it
 abbrev pub OptionsAreRefused : Type 0
