@@ -1,7 +1,8 @@
 -- Costs added and taken away: what the order and the keys of sums and of steps are.
-use Rattle.std.proofs.Common.{◌≡◌, ◌+◌, ◌<◌, ◌≤◌, ◌↔◌, Bool, true, false, if◌then◌else◌, inl, arith, ap}
+use Rattle.std.proofs.Common.{◌≡◌, ◌+◌, ◌<◌, ◌≤◌, ◌↔◌, Bool, true, false, inl, arith, ap}
 use Rattle.root_cost.specs.declared.Cost.{Cost}
-use Rattle.root_cost.specs.Costs.{IsAtMost, no_cost, plus_step, sum_of, key_of}
+use Rattle.root_cost.specs.Costs.{IsAtMost, no_cost, plus_step, sum_of}
+use Rattle.root_cost.specs.Keys.{key_of, step_key}
 use Rattle.root_cost.specs.Laws.{IsLess}
 use Rattle.root_cost.proofs.Order.{by_diagonal, same_fields, at_most_antisymmetric, at_most_moved, at_most_trans}
 
@@ -105,7 +106,7 @@ straight_least_step x false = at_most_more (plus_step x false) (plus_step x fals
 
 -- ---- keys
 
-pub key_of-plus_step : (x : Cost) (d : Bool) → key_of (plus_step x d) ≡ key_of x + (if d then 47321 else 33461)
+pub key_of-plus_step : (x : Cost) (d : Bool) → key_of (plus_step x d) ≡ key_of x + step_key d
 key_of-plus_step x true = omega arith
 key_of-plus_step x false = omega arith
 

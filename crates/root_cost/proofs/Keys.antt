@@ -1,12 +1,14 @@
 -- Keys order as costs do: 47321² = 2 · 33461² - 1, so 47321 / 33461 is just below √2, and near enough while the
 -- diagonal steps differ by less than 33461.
-use Rattle.std.proofs.Common.{◌≡◌, ℕ, ◌+◌, ◌-◌, ◌*◌, ◌<◌, ◌≤◌, inl, inr, arith}
-use Rattle.std.proofs.lemmas.Nat.{mul-le, mul-lt}
-use Rattle.std.proofs.lemmas.Bool.{cases_lt}
+use Rattle.std.proofs.Common.{◌≡◌, ℕ, ◌+◌, ◌-◌, ◌*◌, ◌/◌, ◌%◌, ◌<◌, ◌≤◌, Some, None, inl, inr, refl, sym, ap, ◌∙◌, arith}
+use Rattle.std.proofs.lemmas.Nat.{mul-le, mul-lt, mod-mul-add, div-mul-add}
+use Rattle.std.proofs.lemmas.Bool.{cases_lt, ne_eqb}
 use Rattle.root_cost.specs.declared.Cost.{Cost}
-use Rattle.root_cost.specs.Costs.{IsAtMostRoot, IsAtLeastRoot, IsBelow, IsAtMost, key_of}
+use Rattle.root_cost.specs.Costs.{IsAtMostRoot, IsAtLeastRoot, IsBelow, IsAtMost}
+use Rattle.root_cost.specs.Keys.{key_of, diagonal_of, cost_of_key, cost_if_key, GivesBack}
+use Rattle.root_cost.specs.declared.TheConstants.{NO_KEY, GREATEST_KEY}
 use Rattle.root_cost.specs.Laws.{KeysOrderCosts}
-use Rattle.root_cost.proofs.Order.{at_most_antisymmetric}
+use Rattle.root_cost.proofs.Order.{at_most_antisymmetric, same_fields}
 
 -- 33461 p ≤ 47321 q puts p below q√2
 root_if_key : (p q : ℕ) → 33461 * p ≤ 47321 * q → IsAtMostRoot p q
@@ -72,3 +74,43 @@ keys_in_order = record {
   same_order = λ x y h k. (key_if_at_most x y h k, at_most_if_key x y h k);
   one_key_each = same_if_key;
 }
+
+-- ---- a key gives its cost back
+
+diagonal_back : (a b : ℕ) → b < 33461 → diagonal_of (33461 * a + 47321 * b) ≡ b
+unfolding diagonal_of
+diagonal_back a b h =
+    let e : (33461 * a + 47321 * b) * 19601 ≡ (19601 * a + 27720 * b) * 33461 + b = omega arith in
+    ap (λ n. n % 33461) e ∙ mod-mul-add (19601 * a + 27720 * b) 33461 b h
+
+straight_back : (a b : ℕ) → (33461 * a + 47321 * b - 47321 * b) / 33461 ≡ a
+straight_back a b =
+    let e : 33461 * a + 47321 * b - 47321 * b ≡ a * 33461 + 0 = omega arith in
+    ap (λ n. n / 33461) e ∙ div-mul-add a 33461 0 (omega arith)
+
+pub cost_back : (cost : Cost) → cost.diagonal < 33461 → cost_of_key (key_of cost) ≡ cost
+unfolding cost_of_key
+cost_back cost h =
+    let d : diagonal_of (key_of cost) ≡ cost.diagonal = diagonal_back cost.straight cost.diagonal h in
+    same_fields (record { straight = (key_of cost - 47321 * diagonal_of (key_of cost)) / 33461; diagonal = diagonal_of (key_of cost) }) cost
+    (ap (λ n. (key_of cost - 47321 * n) / 33461) d ∙ straight_back cost.straight cost.diagonal) d
+
+pub cost_if_none : cost_if_key NO_KEY ≡ None
+unfolding cost_if_key
+cost_if_none = refl
+
+pub cost_if_some : (key : ℕ) → key < NO_KEY → cost_if_key key ≡ Some (cost_of_key key)
+unfolding cost_if_key
+cost_if_some key h = let ne : key ≡ NO_KEY → ⊥ = λ e. omega arith in rw (ne_eqb key NO_KEY ne) refl
+
+-- where a key is that of a cost with few diagonal steps
+pub cost_if_of : (key : ℕ) (cost : Cost) → key_of cost ≡ key → cost.diagonal < 33461 → key < NO_KEY → cost_if_key key ≡ Some cost
+cost_if_of key cost e h k = cost_if_some key k ∙ ap (λ n. Some (cost_of_key n)) (sym e) ∙ ap Some (cost_back cost h)
+
+-- no cost with more diagonal steps has such a key
+pub few_diagonals : (cost : Cost) → key_of cost ≤ GREATEST_KEY → cost.diagonal < 33461
+few_diagonals cost h = omega arith
+
+pub given_back : (key : ℕ) → key ≤ GREATEST_KEY → GivesBack key (cost_if_key key)
+unfolding GivesBack
+given_back key h = λ cost e. cost_if_of key cost e (few_diagonals cost (omega arith)) (omega arith)

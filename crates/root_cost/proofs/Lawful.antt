@@ -5,7 +5,7 @@ use Rattle.root_cost.specs.Costs.{IsAtMostRoot, IsBelow, IsAtMost, whole}
 use Rattle.root_cost.specs.Laws.{OrderIsLawful, diagonals}
 use Rattle.root_cost.proofs.Squares.{at_most_along}
 use Rattle.root_cost.proofs.Order.{at_most_total, at_most_trans, at_most_antisymmetric, by_diagonal, compared_as}
-use Rattle.root_cost.proofs.Adding.{at_most_sum, at_most_sum_cancel}
+use Rattle.root_cost.proofs.Adding.{at_most_sum, at_most_sum_cancel, none_at_most}
 
 root_if_below : (p q : ℕ) → IsBelow p 0 0 q → IsAtMostRoot p q
 root_if_below p q (inl h) = omega (arith, mul-le p p 0 0 (omega arith) (omega arith))
@@ -26,6 +26,7 @@ lawful = record {
   transitive = at_most_trans;
   antisymmetric = at_most_antisymmetric;
   compared = compared_as;
+  least = none_at_most;
   added = λ x y z. (at_most_sum x y z, at_most_sum_cancel x y z);
   by_squares = λ p q. (root_if_at_most p q, at_most_if_root p q);
 }

@@ -2,6 +2,8 @@
 -- (MovingAI scenario format page: straight steps cost 1, diagonal steps √2.)
 use Rattle.std.specs.Prelude.{ℕ, ◌+◌, ◌-◌, ◌*◌, ◌<◌, ◌≤◌, ◌⊎◌, Bool, if◌then◌else◌}
 use Rattle.root_cost.specs.declared.Cost.{Cost}
+use Rattle.root_cost.specs.declared.lengths.TheConstants.{NANO, TOLERANCE}
+pub use Rattle.root_cost.specs.Keys.{key_of}
 
 -- p ≤ q√2
 abbrev pub IsAtMostRoot : ℕ → ℕ → Type 0
@@ -34,11 +36,6 @@ plus_step cost diagonal_step =
 abbrev pub sum_of : Cost → Cost → Cost
 sum_of x y = record { straight = x.straight + y.straight; diagonal = x.diagonal + y.diagonal }
 
--- A number in place of a cost: 47321 / 33461 is just below √2, with 47321² = 2 · 33461² - 1, so that keys order
--- as the costs do, and are equal only for equal costs, while the diagonal steps differ by less than 33461.
-abbrev pub key_of : Cost → ℕ
-key_of cost = 33461 * cost.straight + 47321 * cost.diagonal
-
 -- a cost a million times
 abbrev pub million_of : Cost → Cost
 million_of cost = record { straight = 1000000 * cost.straight; diagonal = 1000000 * cost.diagonal }
@@ -51,3 +48,17 @@ whole n = record { straight = n; diagonal = 0 }
 pub record IsMicro (cost : Cost) (n : ℕ) : Type 0 where
   pub reached : IsAtMost (whole n) (million_of cost)
   pub not_passed : IsAtMost (whole (n + 1)) (million_of cost) → ⊥
+
+-- so many straight and so many diagonal steps
+abbrev pub pair_of : ℕ → ℕ → Cost
+pair_of straight diagonal = record { straight = straight; diagonal = diagonal }
+
+-- a cost a billion times
+abbrev pub billion_of : Cost → Cost
+billion_of cost = pair_of (NANO * cost.straight) (NANO * cost.diagonal)
+
+-- a + b√2 and n billionths differ by at most a hundredth, which is TOLERANCE billionths, both ends included:
+-- (0, 1) is near 1.424213562 and not near 1.424213563
+pub record IsNear (cost : Cost) (n : ℕ) : Type 0 where
+  pub not_above : IsAtMost (whole n) (sum_of (billion_of cost) (whole TOLERANCE))
+  pub not_below : IsAtMost (billion_of cost) (whole (n + TOLERANCE))

@@ -3,7 +3,10 @@ use Rattle.std.specs.Prelude.{◌≡◌, ℕ, ◌*◌, ◌<◌, ◌≤◌, ◌�
 use Rattle.std.specs.Ordering.{MatchOrdering}
 use Rattle.root_cost.specs.declared.Cost.{Cost}
 use Rattle.root_cost.specs.Compared.{cost_cmp}
-use Rattle.root_cost.specs.Costs.{IsAtMost, sum_of, whole, key_of}
+use Rattle.root_cost.specs.declared.TheConstants.Cost.{ZERO}
+use Rattle.root_cost.specs.declared.TheConstants.{KEYED_DIAGONALS}
+use Rattle.root_cost.specs.Costs.{IsAtMost, sum_of, whole}
+use Rattle.root_cost.specs.Keys.{key_of}
 
 -- the first cost is at most the second, and the second is not at most the first
 abbrev pub IsLess : Cost → Cost → Type 0
@@ -14,16 +17,17 @@ abbrev pub diagonals : ℕ → Cost
 diagonals n = record { straight = 0; diagonal = n }
 
 -- `IsAtMost` is a total order in which costs are equal only as equal pairs, `cmp` answers by it, what is added on both
--- sides changes nothing, and p straight steps are at most q diagonal ones where p² ≤ 2q². No other relation has all this.
+-- sides changes nothing, no cost is below ZERO, and p straight steps are at most q diagonal ones where p² ≤ 2q². No other relation has all this.
 pub record OrderIsLawful : Type 0 where
   pub total : (x y : Cost) → IsAtMost x y ⊎ IsAtMost y x
   pub transitive : (x y z : Cost) → IsAtMost x y → IsAtMost y z → IsAtMost x z
   pub antisymmetric : (x y : Cost) → IsAtMost x y → IsAtMost y x → x ≡ y
   pub compared : (x y : Cost) → MatchOrdering (cost_cmp x y) (IsLess x y) (x ≡ y) (IsLess y x)
+  pub least : (x : Cost) → IsAtMost ZERO x
   pub added : (x y z : Cost) → IsAtMost x y ↔ IsAtMost (sum_of x z) (sum_of y z)
   pub by_squares : (p q : ℕ) → IsAtMost (whole p) (diagonals q) ↔ (p * p ≤ 2 * (q * q))
 
--- below 33461 diagonal steps keys order as costs do, and no two costs have one key
+-- below KEYED_DIAGONALS diagonal steps keys order as costs do, and no two costs have one key
 pub record KeysOrderCosts : Type 0 where
-  pub same_order : (x y : Cost) → x.diagonal < 33461 → y.diagonal < 33461 → IsAtMost x y ↔ (key_of x ≤ key_of y)
-  pub one_key_each : (x y : Cost) → x.diagonal < 33461 → y.diagonal < 33461 → key_of x ≡ key_of y → x ≡ y
+  pub same_order : (x y : Cost) → x.diagonal < KEYED_DIAGONALS → y.diagonal < KEYED_DIAGONALS → IsAtMost x y ↔ (key_of x ≤ key_of y)
+  pub one_key_each : (x y : Cost) → x.diagonal < KEYED_DIAGONALS → y.diagonal < KEYED_DIAGONALS → key_of x ≡ key_of y → x ≡ y

@@ -5,14 +5,44 @@
 //! cost 1, diagonal steps √2.)
 #![tactic(auto)]
 
-ghost use Rattle.std.specs.Prelude.{◌≡◌, ◌*◌, ◌^◌, ◌<◌, ◌≤◌, ◌↔◌, IsTrue, IsFalse, refl, Some};
+ghost use Rattle.std.specs.Prelude.{◌≡◌, ◌*◌, ◌^◌, ◌<◌, ◌≤◌, ◌↔◌, IsTrue, IsFalse, IsNone, refl, Some};
 ghost use Rattle.std.specs.Cmp.{partial_order_from_agreeing_total};
-ghost use Rattle.root_cost.specs.Costs.{IsAtMost, IsMicro, key_of, plus_step};
+ghost use Rattle.root_cost.specs.Costs.{IsAtMost, IsMicro, IsNear, plus_step, pair_of, whole};
+ghost use Rattle.root_cost.specs.Keys.{key_of, step_key, cost_if_key, GivesBack};
 ghost use Rattle.root_cost.specs.Compared.{cost_cmp};
 ghost use Rattle.root_cost.specs.Laws.{OrderIsLawful, KeysOrderCosts};
 ghost use Rattle.root_cost.specs.Lawful.Comparing.{cost_cmp_total, cost_cmp_ties};
 
+mod lengths;
+#[cfg(test)]
+mod tests;
+
+pub use lengths::Length;
+use lengths::{NANO, TOLERANCE};
 use std::cmp::Ordering;
+
+/// The most straight and the most diagonal steps of a cost that has a length.
+pub const MAX_STEPS: u32 = 65_535;
+
+/// The key of a straight step.
+pub const STRAIGHT_KEY: u32 = 33_461;
+
+/// The key of a diagonal step: `DIAGONAL_KEY / STRAIGHT_KEY` is just below √2, with 47,321² = 2 · 33,461² - 1.
+pub const DIAGONAL_KEY: u32 = 47_321;
+
+/// Keys order as costs do among costs with fewer diagonal steps than this: so many diagonal steps have the key of
+/// 47,321 straight ones.
+pub const KEYED_DIAGONALS: u32 = 33_461;
+
+/// The greatest key of diagonal steps alone that are fewer than [`KEYED_DIAGONALS`]. Each cost with a key up to it has
+/// fewer, and so is known by its key. A path over 32,768 cells or fewer has a smaller key.
+pub const GREATEST_KEY: u32 = 1_583_360_660;
+
+/// What stands in place of a key where there is no cost.
+pub const NO_KEY: u32 = u32::MAX;
+
+/// Reads the diagonal steps from a key: `DIAGONAL_KEY · READING_FACTOR` is one more than a multiple of `STRAIGHT_KEY`.
+const READING_FACTOR: u64 = 19_601;
 
 /// The cost of a path: how many of its moves are straight and how many are diagonal.
 ///
@@ -34,10 +64,10 @@ impl Cost {
 
     /// The cost of this path and one move more, which is diagonal or straight.
     ///
-    /// Both fields are below 65,535.
+    /// Both fields are below [`MAX_STEPS`].
     pub fn plus(self, diagonal_step: bool) -> Cost
-        requires straight { self.straight < 65535 }
-        requires diagonal { self.diagonal < 65535 }
+        requires straight { self.straight < MAX_STEPS }
+        requires diagonal { self.diagonal < MAX_STEPS }
         ensures { result ≡ plus_step self diagonal_step }
     {
         if diagonal_step {
@@ -65,19 +95,19 @@ impl Cost {
         ) {
             (true, true) => true,
             (false, false) => false,
-            (false, true) => square(self.straight - other.straight)
-                <= 2 * square(other.diagonal - self.diagonal),
-            (true, false) => 2 * square(self.diagonal - other.diagonal)
-                <= square(other.straight - self.straight),
+            (false, true) => square(u64::from(self.straight - other.straight))
+                <= 2 * square(u64::from(other.diagonal - self.diagonal)),
+            (true, false) => 2 * square(u64::from(self.diagonal - other.diagonal))
+                <= square(u64::from(other.straight - self.straight)),
         }
     }
 
     /// The length in millionths, rounded down: the floor of `(straight + diagonal · √2) · 1,000,000`.
     ///
-    /// Both fields are at most 65,535.
+    /// Both fields are at most [`MAX_STEPS`].
     pub fn micro(self) -> u64
-        requires straight { self.straight ≤ 65535 }
-        requires diagonal { self.diagonal ≤ 65535 }
+        requires straight { self.straight ≤ MAX_STEPS }
+        requires diagonal { self.diagonal ≤ MAX_STEPS }
         ensures { IsMicro self result }
     {
         let diagonal = 1_000_000 * u128::from(self.diagonal);
@@ -85,14 +115,60 @@ impl Cost {
         1_000_000 * u64::from(self.straight) + root as u64
     }
 
-    /// A number in place of the cost: `33461 · straight + 47321 · diagonal`, where 47321 / 33461 is just below √2.
+    /// The length with six digits after its point, cut off and not rounded.
     ///
-    /// Among costs with fewer than 33,461 diagonal moves keys order as the costs do, and no two costs have one key
-    /// ([`keys_order`]).
+    /// Both fields are at most [`MAX_STEPS`].
+    pub fn length(self) -> Length
+        requires straight { self.straight ≤ MAX_STEPS }
+        requires diagonal { self.diagonal ≤ MAX_STEPS }
+        ensures { IsMicro self result.micro }
+    {
+        Length {
+            micro: self.micro(),
+        }
+    }
+
+    /// Do the length and `nano` billionths differ by at most a hundredth? Both ends are included, and nothing is
+    /// rounded.
+    ///
+    /// Both fields are at most [`MAX_STEPS`], and `nano` is below 10^16.
+    pub fn near(self, nano: u64) -> bool
+        requires straight { self.straight ≤ MAX_STEPS }
+        requires diagonal { self.diagonal ≤ MAX_STEPS }
+        requires nano { nano < 10 ^ 16 }
+        ensures { IsTrue result ↔ IsNear self nano }
+    {
+        let straight = NANO * u64::from(self.straight);
+        let diagonal = NANO * u64::from(self.diagonal);
+        is_reached(nano, straight + TOLERANCE, diagonal)
+            && is_not_passed(nano + TOLERANCE, straight, diagonal)
+    }
+
+    /// A number in place of the cost: so many times [`STRAIGHT_KEY`], and so many times [`DIAGONAL_KEY`].
+    ///
+    /// Among costs with fewer than [`KEYED_DIAGONALS`] diagonal moves keys order as the costs do, and no two costs have
+    /// one key ([`keys_order`]).
     pub fn key(self) -> u64
         ensures { result ≡ key_of self }
     {
-        33461 * u64::from(self.straight) + 47321 * u64::from(self.diagonal)
+        u64::from(STRAIGHT_KEY) * u64::from(self.straight)
+            + u64::from(DIAGONAL_KEY) * u64::from(self.diagonal)
+    }
+
+    /// The cost that a key stands for; `None` exactly for [`NO_KEY`]. A key up to [`GREATEST_KEY`] gives back the cost
+    /// that it was made of.
+    #[tactic(auto, unfolding(crate::specs::Keys::cost_if_key, crate::specs::Keys::cost_of_key, crate::specs::Keys::diagonal_of))]
+    pub fn of_key(key: u32) -> Option<Cost>
+        ensures value { result ≡ cost_if_key key }
+        ensures none { IsNone result ↔ (key ≡ NO_KEY) }
+        ensures back { key ≤ GREATEST_KEY → GivesBack key result }
+    {
+        if key == NO_KEY {
+            return None;
+        }
+        let diagonal = (u64::from(key) * READING_FACTOR % u64::from(STRAIGHT_KEY)) as u32;
+        let straight = key.saturating_sub(DIAGONAL_KEY * diagonal) / STRAIGHT_KEY;
+        Some(Cost { straight, diagonal })
     }
 }
 
@@ -127,8 +203,8 @@ impl PartialOrd for Cost {
 }
 
 /// The law of the cost order, for all numbers: it is total and transitive, two costs are at most each other only as
-/// equal pairs, and `cmp` answers by it; what is added on both sides changes nothing, and `p` straight moves are at
-/// most `q` diagonal ones exactly where `p² ≤ 2q²`.
+/// equal pairs, `cmp` answers by it, and no cost is below [`Cost::ZERO`]; what is added on both sides changes nothing,
+/// and `p` straight moves are at most `q` diagonal ones exactly where `p² ≤ 2q²`.
 pub fn order_is_lawful()
     ensures { OrderIsLawful }
 {}
@@ -138,177 +214,43 @@ pub fn keys_order()
     ensures { KeysOrderCosts }
 {}
 
-// Below 2^64, so that its double fits as well.
-fn square(n: u32) -> u128
-    ensures value { result ≡ n * n }
-    ensures bound { result < 2 ^ 64 }
+/// The key of one step, diagonal or straight.
+pub fn step_key(diagonal_step: bool) -> u32
+    ensures key { result ≡ step_key diagonal_step }
+    ensures limit { result ≤ DIAGONAL_KEY }
 {
-    u128::from(n) * u128::from(n)
+    if diagonal_step {
+        DIAGONAL_KEY
+    } else {
+        STRAIGHT_KEY
+    }
 }
 
-#[cfg(test)]
-mod tests {
-    use super::*;
-    use std::alloc::AllocError;
-    use std::cmp::Reverse;
-    use std::collections::{BTreeMap, BinaryHeap};
+/// Is `n` at most `straight + diagonal · √2`?
+#[tactic(auto, unfolding(crate::specs::Costs::IsAtMost))]
+fn is_reached(n: u64, straight: u64, diagonal: u64) -> bool
+    requires n { n < 2 ^ 63 }
+    requires diagonal { diagonal < 2 ^ 63 }
+    ensures { IsTrue result ↔ IsAtMost (whole n) (pair_of straight diagonal) }
+{
+    n <= straight || square(n - straight) <= 2 * square(diagonal)
+}
 
-    #[test]
-    fn costs_compare_as_their_lengths(rt: HostRuntime) {
-        let table = [
-            (7, 0, 0, 5, Ordering::Less),
-            (1393, 0, 0, 985, Ordering::Less),
-            (3363, 0, 0, 2378, Ordering::Greater),
-            (0, 5, 7, 0, Ordering::Greater),
-            (5, 3, 5, 3, Ordering::Equal),
-            (0, 0, 0, 0, Ordering::Equal),
-            (1, 0, 0, 1, Ordering::Less),
-            (2, 0, 0, 1, Ordering::Greater),
-            (10, 4, 3, 9, Ordering::Less),
-            (10, 4, 2, 9, Ordering::Greater),
-            (3, 9, 10, 4, Ordering::Greater),
-            (2, 9, 10, 4, Ordering::Less),
-            (1_855_077_841, 0, 0, 1_311_738_121, Ordering::Less),
-            (768_398_401, 0, 0, 543_339_720, Ordering::Greater),
-            (u32::MAX, 0, 0, 3_037_000_499, Ordering::Greater),
-            (u32::MAX, 0, 0, 3_037_000_500, Ordering::Less),
-            (0, u32::MAX, u32::MAX, 0, Ordering::Greater),
-            (u32::MAX, u32::MAX, u32::MAX, u32::MAX, Ordering::Equal),
-            (0, u32::MAX, 1, u32::MAX - 1, Ordering::Greater),
-            (0, u32::MAX, 2, u32::MAX - 1, Ordering::Less),
-        ];
-        for (a, b, c, d, want) in table {
-            let left = Cost {
-                straight: a,
-                diagonal: b,
-            };
-            let right = Cost {
-                straight: c,
-                diagonal: d,
-            };
-            assert_eq!(rt; left.cmp(&right), want, "({a}, {b}) against ({c}, {d})");
-            assert_eq!(rt;
-                left.at_most(right),
-                want != Ordering::Greater,
-                "({a}, {b}) at most ({c}, {d})"
-            );
-            assert_eq!(rt;
-                left < right,
-                want == Ordering::Less,
-                "({a}, {b}) below ({c}, {d})"
-            );
-        }
-    }
+/// Is `n` at least `straight + diagonal · √2`?
+#[tactic(auto, unfolding(crate::specs::Costs::IsAtMost))]
+fn is_not_passed(n: u64, straight: u64, diagonal: u64) -> bool
+    requires n { n < 2 ^ 63 }
+    requires diagonal { diagonal < 2 ^ 63 }
+    ensures { IsTrue result ↔ IsAtMost (pair_of straight diagonal) (whole n) }
+{
+    straight <= n && 2 * square(diagonal) <= square(n - straight)
+}
 
-    #[test]
-    fn lengths_in_millionths_and_keys(rt: HostRuntime) {
-        assert_eq!(rt;
-            Cost::ZERO.plus(true).plus(false),
-            Cost {
-                straight: 1,
-                diagonal: 1
-            }
-        );
-        let lengths: [(u16, u16, u64); 7] = [
-            (0, 0, 0),
-            (2, 0, 2_000_000),
-            (0, 1, 1_414_213),
-            (1, 1, 2_414_213),
-            (0, 2, 2_828_427),
-            (1393, 985, 2_786_000_358),
-            (65_535, 65_535, 158_215_485_810),
-        ];
-        for (straight, diagonal, want) in lengths {
-            let cost = Cost {
-                straight: u32::from(straight),
-                diagonal: u32::from(diagonal),
-            };
-            assert_eq!(rt;
-                cost.micro(),
-                want,
-                "the length of ({straight}, {diagonal})"
-            );
-        }
-        // where the keys are closest, and the first two costs that share one: 33461 diagonal moves and 47321 straight ones
-        let keys = [
-            (19_601, 13_860, Ordering::Greater),
-            (8119, 5741, Ordering::Less),
-            (39_202, 27_720, Ordering::Greater),
-            (47_319, 33_460, Ordering::Less),
-            (47_320, 33_460, Ordering::Greater),
-            (47_321, 33_461, Ordering::Equal),
-        ];
-        for (straight, diagonal, want) in keys {
-            let left = Cost {
-                straight,
-                diagonal: 0,
-            }
-            .key();
-            let right = Cost {
-                straight: 0,
-                diagonal,
-            }
-            .key();
-            assert_eq!(rt;
-                left.cmp(&right),
-                want,
-                "the keys of ({straight}, 0) and (0, {diagonal})"
-            );
-        }
-    }
-
-    #[test]
-    fn ordered_collections_hold_costs(rt: HostRuntime) -> Result<(), AllocError> {
-        let risen = [
-            (0, 0),
-            (1, 1),
-            (0, 2),
-            (3, 0),
-            (7, 0),
-            (0, 5),
-            (1393, 0),
-            (0, 985),
-            (0, 2378),
-            (3363, 0),
-        ];
-        let shuffled = [
-            (7, 0),
-            (0, 5),
-            (1393, 0),
-            (0, 985),
-            (3363, 0),
-            (0, 2378),
-            (1, 1),
-            (0, 2),
-            (3, 0),
-            (0, 0),
-        ];
-        let mut list = Vec::new(rt.alloc());
-        let mut heap = BinaryHeap::new(rt.alloc());
-        let mut map = BTreeMap::new(rt.alloc());
-        for (straight, diagonal) in shuffled {
-            let cost = Cost { straight, diagonal };
-            list.push(cost)?;
-            heap.push(Reverse((cost, straight)))?;
-            map.insert(cost, diagonal)?;
-        }
-        list.sort()?;
-        let mut entries = map.iter();
-        for (i, (straight, diagonal)) in risen.iter().enumerate() {
-            let want = Cost {
-                straight: *straight,
-                diagonal: *diagonal,
-            };
-            assert!(rt; list.get(i) == Some(&want), "place {i} of the list");
-            assert!(rt;
-                heap.pop() == Some(Reverse((want, *straight))),
-                "pop {i} of the heap"
-            );
-            assert!(rt;
-                entries.next() == Some((&want, diagonal)),
-                "entry {i} of the map"
-            );
-        }
-        Ok(())
-    }
+/// The square, of which the double fits as well.
+fn square(n: u64) -> u128
+    requires { n < 2 ^ 63 }
+    ensures value { result ≡ n * n }
+    ensures bound { result < 2 ^ 126 }
+{
+    u128::from(n) * u128::from(n)
 }
