@@ -11,8 +11,9 @@ use Rattle.moves.specs.Paths.{Leads, IsBest, IsLeastCost}
 use Rattle.moves.specs.FirstSets.{IsFirstMove}
 use Rattle.moves.specs.Components.{IsComponent}
 use Rattle.moves.specs.StraightPaths.{GoesThrough, IsConnected}
-use Rattle.moves.specs.ComponentLaws.{IsOnly, ComponentsKeepMoves, ComponentsKeepBestPaths, ComponentsKeepCosts, ComponentsKeepFirstSets, ComponentsAreConnected, ComponentsStayComponents}
-use Rattle.moves.proofs.LawsOfPaths.{one_move}
+use Rattle.moves.specs.ComponentLaws.{HasJust, ComponentsKeepMoves, ComponentsKeepBestPaths, ComponentsKeepCosts, ComponentsKeepFirstSets, ComponentsAreConnected, ComponentsStayComponents}
+use Rattle.moves.proofs.LawsOfPaths.{one_move, leads_kept}
+use Rattle.moves.proofs.MoveLaws.{legal_near}
 use Rattle.moves.proofs.StraightPaths.{replaced, straight_path}
 
 module _ (map : Map) (cells : List Cell) (component : IsComponent map cells) where
@@ -24,7 +25,8 @@ module _ (map : Map) (cells : List Cell) (component : IsComponent map cells) whe
   member_is_passable a c = All-contains (IsPassable map) cells a component.passable c
 
   -- a path of straight moves goes through cells of the component
-  pub goes_through : (from : Cell) (moves : List Move) (to : Cell) → Contains cells from → Leads map from moves to → All (λ move. IsFalse (is_diagonal move)) moves → GoesThrough cells from moves to
+  pub goes_through : (from : Cell) (moves : List Move) (to : Cell) → Contains cells from → Leads map from moves to
+      → All (λ move. IsFalse (is_diagonal move)) moves → GoesThrough cells from moves to
   goes_through from [] to c leads straight = leads.1
   goes_through from (move ∷ moves) to c leads straight =
       let next = stays_inside from move leads.0 c leads.1 in (
@@ -43,7 +45,7 @@ module _ (map : Map) (cells : List Cell) (component : IsComponent map cells) whe
         (straight.0, goes_through from straight.0 to a straight.1 straight.2);
   }
 
-  module _ (part : Map) (only : IsOnly map cells part) where
+  module _ (part : Map) (only : HasJust part cells) where
     pub passable_in_part : (a : Cell) → Contains cells a → IsPassable part a
     passable_in_part a c = (only.just_these a).1 c
 
@@ -51,12 +53,7 @@ module _ (map : Map) (cells : List Cell) (component : IsComponent map cells) whe
     passable_in_map a p = member_is_passable a ((only.just_these a).0 p)
 
     pub legal_in_map : (a : Cell) (move : Move) (b : Cell) → IsLegal part a move b → IsLegal map a move b
-    legal_in_map a move b legal = record {
-      target = legal.target;
-      leaves = passable_in_map a legal.leaves;
-      enters = passable_in_map b legal.enters;
-      corners = λ d. (passable_in_map (corner a b) (legal.corners d).0, passable_in_map (corner b a) (legal.corners d).1);
-    }
+    legal_in_map a move b legal = legal_near part map a move b (λ c near. passable_in_map c) legal
 
     pub legal_in_part : (a : Cell) (move : Move) (b : Cell) → Contains cells a → IsLegal map a move b → IsLegal part a move b
     legal_in_part a move b c legal = record {
@@ -69,35 +66,47 @@ module _ (map : Map) (cells : List Cell) (component : IsComponent map cells) whe
     }
 
     pub leads_in_map : (from : Cell) (moves : List Move) (to : Cell) → Leads part from moves to → Leads map from moves to
-    leads_in_map from [] to leads = (passable_in_map from leads.0, leads.1)
-    leads_in_map from (move ∷ moves) to leads = (leads.0, legal_in_map from move leads.0 leads.1, leads_in_map leads.0 moves to leads.2)
+    leads_in_map from moves to leads = leads_kept part map passable_in_map from moves to leads
 
-    pub leads_in_part : (from : Cell) (moves : List Move) (to : Cell) → Contains cells from → Leads map from moves to → Leads part from moves to
+    pub leads_in_part : (from : Cell) (moves : List Move) (to : Cell) → Contains cells from → Leads map from moves to
+        → Leads part from moves to
     leads_in_part from [] to c leads = (passable_in_part from c, leads.1)
     leads_in_part from (move ∷ moves) to c leads =
         (leads.0, legal_in_part from move leads.0 c leads.1, leads_in_part leads.0 moves to (stays_inside from move leads.0 c leads.1) leads.2)
 
-    pub best_in_map : (from : Cell) (moves : List Move) (to : Cell) → Contains cells from → IsBest part from moves to → IsBest map from moves to
+    pub best_in_map : (from : Cell) (moves : List Move) (to : Cell) → Contains cells from → IsBest part from moves to
+        → IsBest map from moves to
     best_in_map from moves to c best =
         record { leads = leads_in_map from moves to best.leads; least = λ others leads. best.least others (leads_in_part from others to c leads) }
 
-    pub best_in_part : (from : Cell) (moves : List Move) (to : Cell) → Contains cells from → IsBest map from moves to → IsBest part from moves to
+    pub best_in_part : (from : Cell) (moves : List Move) (to : Cell) → Contains cells from → IsBest map from moves to
+        → IsBest part from moves to
     best_in_part from moves to c best =
         record { leads = leads_in_part from moves to c best.leads; least = λ others leads. best.least others (leads_in_map from others to leads) }
 
-    pub cost_in_map : (from to : Cell) (cost : Option Cost) → Contains cells from → IsLeastCost part from to cost → IsLeastCost map from to cost
+    pub cost_in_map : (from to : Cell) (cost : Option Cost) → Contains cells from → IsLeastCost part from to cost
+        → IsLeastCost map from to cost
     cost_in_map from to None c none = λ reach. none (reach.0, leads_in_part from reach.0 to c reach.1)
     cost_in_map from to (Some least) c some = (some.0, best_in_map from some.0 to c some.1, some.2)
 
-    pub cost_in_part : (from to : Cell) (cost : Option Cost) → Contains cells from → IsLeastCost map from to cost → IsLeastCost part from to cost
+    pub cost_in_part : (from to : Cell) (cost : Option Cost) → Contains cells from → IsLeastCost map from to cost
+        → IsLeastCost part from to cost
     cost_in_part from to None c none = λ reach. none (reach.0, leads_in_map from reach.0 to reach.1)
     cost_in_part from to (Some least) c some = (some.0, best_in_part from some.0 to c some.1, some.2)
 
-    pub first_move_in_map : (from to : Cell) (move : Move) → Contains cells from → IsFirstMove part from to move → IsFirstMove map from to move
-    first_move_in_map from to move c first = elim first [ inl same ↦ inl (same.0, member_is_passable from c) | inr best ↦ inr (best.0, best_in_map from (move ∷ best.0) to c best.1) ]
+    pub first_move_in_map : (from to : Cell) (move : Move) → Contains cells from → IsFirstMove part from to move
+        → IsFirstMove map from to move
+    first_move_in_map from to move c first = elim first [
+      | inl same ↦ inl (same.0, member_is_passable from c)
+      | inr best ↦ inr (best.0, best_in_map from (move ∷ best.0) to c best.1)
+    ]
 
-    pub first_move_in_part : (from to : Cell) (move : Move) → Contains cells from → IsFirstMove map from to move → IsFirstMove part from to move
-    first_move_in_part from to move c first = elim first [ inl same ↦ inl (same.0, passable_in_part from c) | inr best ↦ inr (best.0, best_in_part from (move ∷ best.0) to c best.1) ]
+    pub first_move_in_part : (from to : Cell) (move : Move) → Contains cells from → IsFirstMove map from to move
+        → IsFirstMove part from to move
+    first_move_in_part from to move c first = elim first [
+      | inl same ↦ inl (same.0, passable_in_part from c)
+      | inr best ↦ inr (best.0, best_in_part from (move ∷ best.0) to c best.1)
+    ]
 
     pub component_of_part : IsComponent part cells
     component_of_part = record {
@@ -114,16 +123,28 @@ pub components_stay_components : ComponentsStayComponents
 components_stay_components map cells component part only = component_of_part map cells component part only
 
 pub components_keep_moves : ComponentsKeepMoves
-components_keep_moves map cells part component only from move to c = (legal_in_map map cells component part only from move to, legal_in_part map cells component part only from move to c)
+components_keep_moves map cells part component only from move to c = (
+  legal_in_map map cells component part only from move to,
+  legal_in_part map cells component part only from move to c,
+)
 
 pub components_keep_best_paths : ComponentsKeepBestPaths
-components_keep_best_paths map cells part component only from moves to c = (best_in_map map cells component part only from moves to c, best_in_part map cells component part only from moves to c)
+components_keep_best_paths map cells part component only from moves to c = (
+  best_in_map map cells component part only from moves to c,
+  best_in_part map cells component part only from moves to c,
+)
 
 pub components_keep_costs : ComponentsKeepCosts
-components_keep_costs map cells part component only from to cost c = (cost_in_map map cells component part only from to cost c, cost_in_part map cells component part only from to cost c)
+components_keep_costs map cells part component only from to cost c = (
+  cost_in_map map cells component part only from to cost c,
+  cost_in_part map cells component part only from to cost c,
+)
 
 pub components_keep_first_sets : ComponentsKeepFirstSets
-components_keep_first_sets map cells part component only from to move c = (first_move_in_map map cells component part only from to move c, first_move_in_part map cells component part only from to move c)
+components_keep_first_sets map cells part component only from to move c = (
+  first_move_in_map map cells component part only from to move c,
+  first_move_in_part map cells component part only from to move c,
+)
 
 pub components_are_connected : ComponentsAreConnected
 components_are_connected = component_is_connected

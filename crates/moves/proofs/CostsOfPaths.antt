@@ -41,7 +41,10 @@ moves_of_cost (move ∷ moves) =
     let more = cost_of-cons move moves in
     let all = moves_of_cost moves in
     let step : (b : Bool) → (plus_step (cost_of moves) b).straight + (plus_step (cost_of moves) b).diagonal ≡ length moves + 1
-    = λ b. elim b as (λ v. (plus_step (cost_of moves) v).straight + (plus_step (cost_of moves) v).diagonal ≡ length moves + 1) [ true ↦ omega arith | false ↦ omega arith ] in
+    = λ b. elim b as (λ v. (plus_step (cost_of moves) v).straight + (plus_step (cost_of moves) v).diagonal ≡ length moves + 1) [
+      | true ↦ omega arith
+      | false ↦ omega arith
+    ] in
     ap (λ c. c.straight + c.diagonal) more ∙ step (is_diagonal move) ∙ add-one (length moves)
 
 -- back along the moves, the last one first

@@ -40,13 +40,16 @@ found_push map from n found pair before legal number = record {
         let whole : (move, to) ≡ pair = (λ i. (same i, target i)) in
         subst (Contains (found ++ pair ∷ [])) (sym whole) (Contains-push found pair)
   ];
-  by_number = all_pairs_push (λ a b. number_of a.0 < number_of b.0) found pair before.by_number (λ k d h. let low = All-get_or (λ p. number_of p.0 < n) found k d h before.below in omega (arith, low));
-  below = All-push (λ p. number_of p.0 < n + 1) found pair (All-weaker (λ p. number_of p.0 < n) (λ p. number_of p.0 < n + 1) (λ p h. omega arith) found before.below) (omega arith);
+  by_number = all_pairs_push (λ a b. number_of a.0 < number_of b.0) found pair before.by_number
+      (λ k d h. let low = All-get_or (λ p. number_of p.0 < n) found k d h before.below in omega (arith, low));
+  below = All-push (λ p. number_of p.0 < n + 1) found pair
+      (All-weaker (λ p. number_of p.0 < n) (λ p. number_of p.0 < n + 1) (λ p h. omega arith) found before.below) (omega arith);
   few = omega (arith, length_push found pair, before.few);
 }
 
 pub found_no_more : (map : Map) (from : Cell) (n : ℕ) (found : List (Move × Cell))
-    → FoundBelow map from n found → ((move : Move) (to : Cell) → number_of move ≡ n → IsLegal map from move to → ⊥) → FoundBelow map from (n + 1) found
+    → FoundBelow map from n found → ((move : Move) (to : Cell) → number_of move ≡ n → IsLegal map from move to → ⊥)
+    → FoundBelow map from (n + 1) found
 found_no_more map from n found before none = record {
   legal = before.legal;
   every = λ move to h here. elim (cases_lt (number_of move) n) [

@@ -68,12 +68,16 @@ module _ (map : Map) (source to : Cell) (cost : Cost) (move : Move) (apart : sou
   first_if_local before last comes (inl h) =
       let way = comes.is_least in
       let stays : way.0 ≡ [] = best_none map source way.0 (subst (λ x. IsBest map source way.0 x) h.0 way.1) in
-      let best : IsBest map source (way.0 ++ last ∷ []) to = best_more map source before to way.0 last cost least way.1 comes.legal (comes.same ∙ ap (λ c. after_step c last) (sym way.2)) in
+      let whole : cost ≡ after_step (cost_of way.0) last = comes.same ∙ ap (λ c. after_step c last) (sym way.2) in
+      let best : IsBest map source (way.0 ++ last ∷ []) to = best_more map source before to way.0 last cost least way.1 comes.legal whole in
       inr ([], subst (λ m. IsBest map source (m ∷ []) to) (sym h.1) (subst (λ moves. IsBest map source (moves ++ last ∷ []) to) stays best))
   first_if_local before last comes (inr (away, inl here)) = absurd (away (sym here.0))
   first_if_local before last comes (inr (away, inr way)) =
-      let cheap : cost_of (move ∷ way.0) ≡ comes.least = same_cost_of_best map source before (move ∷ way.0) comes.is_least.0 way.1 comes.is_least.1 ∙ comes.is_least.2 in
-      inr (way.0 ++ last ∷ [], best_more map source before to (move ∷ way.0) last cost least way.1 comes.legal (comes.same ∙ ap (λ c. after_step c last) (sym cheap)))
+      let known = comes.is_least in
+      let cheap : cost_of (move ∷ way.0) ≡ comes.least =
+      same_cost_of_best map source before (move ∷ way.0) known.0 way.1 known.1 ∙ known.2 in
+      let whole : cost ≡ after_step (cost_of (move ∷ way.0)) last = comes.same ∙ ap (λ c. after_step c last) (sym cheap) in
+      inr (way.0 ++ last ∷ [], best_more map source before to (move ∷ way.0) last cost least way.1 comes.legal whole)
 
   local_if_best : (rest : List Move) → IsBest map source (move ∷ rest) to → IsLocal map source to cost move
   local_if_best [] best =
@@ -85,7 +89,8 @@ module _ (map : Map) (source to : Cell) (cost : Cost) (move : Move) (apart : sou
       let last = parts.1 in
       let same : move ∷ next ∷ rest ≡ (move ∷ front) ++ last ∷ [] = ap (λ moves. move ∷ moves) parts.2 in
       let cut = best_less map source to (move ∷ front) last cost least (subst (λ moves. IsBest map source moves to) same best) in
-      let away : cut.0 ≢ source = λ e. let none : move ∷ front ≡ [] = best_none map source (move ∷ front) (subst (λ x. IsBest map source (move ∷ front) x) e cut.1) in cc in
+      let away : cut.0 ≢ source = λ e.
+      let none : move ∷ front ≡ [] = best_none map source (move ∷ front) (subst (λ x. IsBest map source (move ∷ front) x) e cut.1) in cc in
       (cut.0, last, cut.2, inr (away, inr (front, cut.1)))
 
   local_if_first : IsFirstMove map source to move → IsLocal map source to cost move

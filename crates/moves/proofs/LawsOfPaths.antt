@@ -8,7 +8,7 @@ use Rattle.moves.specs.Maps.{Map, IsPassable}
 use Rattle.moves.specs.Moves.{opposite, IsLegal}
 use Rattle.moves.specs.Paths.{IsPath, Leads, cost_of, IsBest}
 use Rattle.moves.specs.PathLaws.{back_along, EndsAt, LawsOfPaths}
-use Rattle.moves.proofs.MoveLaws.{legal_back}
+use Rattle.moves.proofs.MoveLaws.{legal_back, legal_near}
 use Rattle.moves.proofs.CostsOfPaths.{cost_of-append, back_along-cons, cost_of-back_along}
 
 -- a path begins at a passable cell
@@ -31,11 +31,13 @@ pub one_move : (map : Map) (a b : Cell) (move : Move) → IsLegal map a move b �
 one_move map a b move legal = (b, legal, (legal.enters, refl))
 
 -- a path and one legal move more
-pub one_more : (map : Map) (a b c : Cell) (moves : List Move) (move : Move) → Leads map a moves b → IsLegal map b move c → Leads map a (moves ++ move ∷ []) c
+pub one_more : (map : Map) (a b c : Cell) (moves : List Move) (move : Move) → Leads map a moves b → IsLegal map b move c
+    → Leads map a (moves ++ move ∷ []) c
 one_more map a b c moves move path legal = joined map a b c moves (move ∷ []) path (one_move map b c move legal)
 
 -- a path can be cut anywhere
-pub cut : (map : Map) (a c : Cell) (first rest : List Move) → Leads map a (first ++ rest) c → (b : Cell) × Leads map a first b × Leads map b rest c
+pub cut : (map : Map) (a c : Cell) (first rest : List Move) → Leads map a (first ++ rest) c
+    → (b : Cell) × Leads map a first b × Leads map b rest c
 cut map a c [] rest path = (a, (leads_from map a c rest path, refl), path)
 cut map a c (move ∷ first) rest path =
     let later = cut map path.0 c first rest path.2 in
@@ -61,7 +63,8 @@ best_parts map a c first rest best =
     )
 
 -- all best paths between two cells cost the same
-pub same_cost_of_best : (map : Map) (a b : Cell) (moves others : List Move) → IsBest map a moves b → IsBest map a others b → cost_of moves ≡ cost_of others
+pub same_cost_of_best : (map : Map) (a b : Cell) (moves others : List Move) → IsBest map a moves b
+    → IsBest map a others b → cost_of moves ≡ cost_of others
 same_cost_of_best map a b moves others p q = at_most_antisymmetric _ _ (p.least others q.leads) (q.least moves p.leads)
 
 pieces : (map : Map) (a d : Cell) (front middle back : List Move) → IsBest map a (front ++ middle ++ back) d
@@ -92,6 +95,13 @@ walked map from to [] path = ([], (path.0, tt), path.1, refl)
 walked map from to (move ∷ moves) path =
     let later = walked map path.0 to moves path.2 in
     (path.0 ∷ later.0, (path.1.leaves, ((move, path.1), later.1.1)), later.2, ap suc later.3)
+
+-- a path is a path in each map where the passable cells are so as well
+pub leads_kept : (a b : Map) → ((c : Cell) → IsPassable a c → IsPassable b c)
+    → (from : Cell) (moves : List Move) (to : Cell) → Leads a from moves to → Leads b from moves to
+leads_kept a b keep from [] to path = (keep from path.0, path.1)
+leads_kept a b keep from (move ∷ moves) to path =
+    (path.0, legal_near a b from move path.0 (λ c near. keep c) path.1, leads_kept a b keep path.0 moves to path.2)
 
 pub laws_of_paths : LawsOfPaths
 laws_of_paths = record {

@@ -12,7 +12,8 @@ use Rattle.moves.proofs.CostsOfPaths.{cost_of-cons, cost_of-back_along}
 use Rattle.moves.proofs.LawsOfPaths.{best_parts, leads_back, same_cost_of_best}
 
 -- a path of the least cost is best
-pub best_of_least : (map : Map) (a b : Cell) (moves : List Move) (cost : Cost) → IsLeastCost map a b (Some cost) → Leads map a moves b → cost_of moves ≡ cost → IsBest map a moves b
+pub best_of_least : (map : Map) (a b : Cell) (moves : List Move) (cost : Cost) → IsLeastCost map a b (Some cost)
+    → Leads map a moves b → cost_of moves ≡ cost → IsBest map a moves b
 best_of_least map a b moves cost least path same = record {
   leads = path;
   least = λ others other. rw (same, ← least.2) (least.1.least others other);

@@ -1,6 +1,9 @@
+pub mod OneValue
 pub mod StraightPaths
 pub mod ComponentLaws
+pub mod Connected
 pub mod RowMajor
+pub mod Drawn
 pub mod MoveLaws
 pub mod MovesInSets
 pub mod Finding
@@ -9,5 +12,8 @@ pub mod Terrains
 pub mod CostsOfPaths
 pub mod LawsOfPaths
 pub mod LeastCosts
+pub mod BestPaths
 pub mod FirstMoves
+pub mod SamePaths
 pub mod TableLaws
+pub mod Rectangles

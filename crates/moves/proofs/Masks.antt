@@ -35,7 +35,8 @@ pub record MaskBelow (P : Move → Type 0) (n mask : ℕ) : Type 0 where
 pub mask_none : (P : Move → Type 0) → MaskBelow P 0 0
 mask_none P = record { clear = λ k h. bit_at-zero k; only = λ move h. absurd (omega arith); every = λ move h. absurd (omega arith) }
 
-pub mask_yes : (P : Move → Type 0) (n mask : ℕ) → n < 8 → MaskBelow P n mask → ((move : Move) → number_of move ≡ n → P move) → MaskBelow P (n + 1) (bit_or mask (1 * 2 ^ n % 2 ^ 8))
+pub mask_yes : (P : Move → Type 0) (n mask : ℕ) → n < 8 → MaskBelow P n mask
+    → ((move : Move) → number_of move ≡ n → P move) → MaskBelow P (n + 1) (bit_or mask (1 * 2 ^ n % 2 ^ 8))
 mask_yes P n mask small below here = record {
   clear = λ k h. bit_at_set_other w8 mask n small k (omega arith) ∙ below.clear k (omega arith);
   only = λ move h one. elim (cases_eq (number_of move) n) [
@@ -48,7 +49,8 @@ mask_yes P n mask small below here = record {
   ];
 }
 
-pub mask_no : (P : Move → Type 0) (n mask : ℕ) → MaskBelow P n mask → ((move : Move) → number_of move ≡ n → P move → ⊥) → MaskBelow P (n + 1) mask
+pub mask_no : (P : Move → Type 0) (n mask : ℕ) → MaskBelow P n mask → ((move : Move) → number_of move ≡ n → P move → ⊥)
+    → MaskBelow P (n + 1) mask
 mask_no P n mask below none = record {
   clear = λ k h. below.clear k (omega arith);
   only = λ move h one. elim (cases_eq (number_of move) n) [
@@ -62,7 +64,8 @@ mask_no P n mask below none = record {
 }
 
 -- all numbers were asked
-pub mask_done : (P : Move → Type 0) (n mask : ℕ) → 8 ≤ n → n ≤ 8 → MaskBelow P n mask → (move : Move) → (IsBitSet mask (number_of move) ↔ P move)
+pub mask_done : (P : Move → Type 0) (n mask : ℕ) → 8 ≤ n → n ≤ 8 → MaskBelow P n mask → (move : Move)
+    → (IsBitSet mask (number_of move) ↔ P move)
 mask_done P n mask low high below move =
     let small : number_of move < n = omega (arith, number_below move) in
     (λ is_set. below.only move small (one_if_bit_set mask (number_of move) is_set), λ has. bit_set_if_one mask (number_of move) (below.every move small has))
@@ -72,7 +75,8 @@ pub mask_of_blocked : (map : Map) (from : Cell) → (IsPassable map from → ⊥
 mask_of_blocked map from blocked move = (λ is_set. absurd (is_set refl), λ has. absurd (blocked has.1.leaves))
 
 -- a straight move to a passable cell is legal from a passable cell
-straight : (map : Map) (from : Cell) (move : Move) → IsPassable map from → is_diagonal move ≡ false → (HasFree map from move ↔ HasLegal map from move)
+straight : (map : Map) (from : Cell) (move : Move) → IsPassable map from → is_diagonal move ≡ false
+    → (HasFree map from move ↔ HasLegal map from move)
 straight map from move free even = (
   λ has. (has.0, record { target = has.1; leaves = free; enters = has.2; corners = λ odd. absurd (false≢true (sym even ∙ odd)) }),
   λ legal. (legal.0, legal.1.target, legal.1.enters),
@@ -103,7 +107,8 @@ diagonal map from move vertical horizontal free odd beside = (
 )
 
 -- the mask of the moves to passable cells tells the legal moves
-pub legal_among : (map : Map) (from : Cell) (mask : ℕ) → IsPassable map from → IsFreeMask map from mask → (move : Move) → (IsLegalAmong mask move ↔ HasLegal map from move)
+pub legal_among : (map : Map) (from : Cell) (mask : ℕ) → IsPassable map from → IsFreeMask map from mask → (move : Move)
+    → (IsLegalAmong mask move ↔ HasLegal map from move)
 legal_among map from mask free around N = let s = straight map from N free refl in (λ h. s.0 ((around N).0 h), λ h. (around N).1 (s.1 h))
 legal_among map from mask free around E = let s = straight map from E free refl in (λ h. s.0 ((around E).0 h), λ h. (around E).1 (s.1 h))
 legal_among map from mask free around S = let s = straight map from S free refl in (λ h. s.0 ((around S).0 h), λ h. (around S).1 (s.1 h))

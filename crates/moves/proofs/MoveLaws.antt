@@ -1,10 +1,10 @@
 -- Laws of single moves.
-use Rattle.std.proofs.Common.{◌≡◌, ◌<◌, refl, arith}
+use Rattle.std.proofs.Common.{◌≡◌, ◌+◌, ◌<◌, ◌≤◌, refl, arith}
 use Rattle.moves.specs.declared.Cell.{Cell}
 use Rattle.moves.specs.declared.Move.{Move}
 use Rattle.moves.specs.declared.Move.TheVariants.{N, NE, E, SE, S, SW, W, NW}
-use Rattle.moves.specs.Maps.{Map}
-use Rattle.moves.specs.Moves.{number_of, is_diagonal, opposite, IsTarget, IsLegal}
+use Rattle.moves.specs.Maps.{Map, IsPassable}
+use Rattle.moves.specs.Moves.{number_of, is_diagonal, opposite, corner, IsTarget, IsLegal}
 
 -- cells are equal where their columns and rows are
 pub same_cell : (a b : Cell) → a.x ≡ b.x → a.y ≡ b.y → a ≡ b
@@ -62,6 +62,41 @@ legal_back map a move b legal = record {
   enters = legal.leaves;
   corners = λ diagonal. let free = legal.corners (rw (is_diagonal-opposite move) at diagonal) in (free.1, free.0);
 }
+
+-- the cells are at most one column and one row apart
+pub record IsNear (a b : Cell) : Type 0 where
+  pub left : a.x ≤ b.x + 1
+  pub right : b.x ≤ a.x + 1
+  pub above : a.y ≤ b.y + 1
+  pub below : b.y ≤ a.y + 1
+
+-- a move leads to a near cell
+pub target_near : (a : Cell) (move : Move) (b : Cell) → IsTarget a move b → IsNear a b
+target_near a N b p = record { left = omega arith; right = omega arith; above = omega arith; below = omega arith }
+target_near a NE b p = record { left = omega arith; right = omega arith; above = omega arith; below = omega arith }
+target_near a E b p = record { left = omega arith; right = omega arith; above = omega arith; below = omega arith }
+target_near a SE b p = record { left = omega arith; right = omega arith; above = omega arith; below = omega arith }
+target_near a S b p = record { left = omega arith; right = omega arith; above = omega arith; below = omega arith }
+target_near a SW b p = record { left = omega arith; right = omega arith; above = omega arith; below = omega arith }
+target_near a W b p = record { left = omega arith; right = omega arith; above = omega arith; below = omega arith }
+target_near a NW b p = record { left = omega arith; right = omega arith; above = omega arith; below = omega arith }
+
+-- a legal move is legal in each map where the cells near it that are passable are so as well
+pub legal_near : (a b : Map) (from : Cell) (move : Move) (to : Cell)
+    → ((c : Cell) → IsNear from c → IsPassable a c → IsPassable b c) → IsLegal a from move to → IsLegal b from move to
+legal_near a b from move to keep legal =
+    let near = target_near from move to legal.target in
+    let here : IsNear from from = record { left = omega arith; right = omega arith; above = omega arith; below = omega arith } in
+    let up : IsNear from (corner from to) =
+    record { left = omega arith; right = omega arith; above = near.above; below = near.below } in
+    let aside : IsNear from (corner to from) =
+    record { left = near.left; right = near.right; above = omega arith; below = omega arith } in
+    record {
+      target = legal.target;
+      leaves = keep from here legal.leaves;
+      enters = keep to near legal.enters;
+      corners = λ d. (keep (corner from to) up (legal.corners d).0, keep (corner to from) aside (legal.corners d).1);
+    }
 
 -- equal numbers, equal moves
 pub same_move : (a b : Move) → number_of a ≡ number_of b → a ≡ b

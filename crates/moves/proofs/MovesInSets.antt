@@ -63,8 +63,11 @@ Has-with a m k =
           let same : bit_at (bit_or a (1 * 2 ^ number_of k % 256)) (number_of k) ≡ 1 = bit_at_set_same w8 a (number_of k) below in
           (λ h. inr (same_move m k e), λ h. Has-from_bit _ m (ap (bit_at (bit_or a (1 * 2 ^ number_of k % 256))) e ∙ same))
       | inr n ↦
-          let other : bit_at (bit_or a (1 * 2 ^ number_of k % 256)) (number_of m) ≡ bit_at a (number_of m) = bit_at_set_other w8 a (number_of k) below (number_of m) n in
-          (λ h. inl (Has-from_bit a m (sym other ∙ Has-bit _ m h)), λ h. elim h [ inl e ↦ Has-from_bit _ m (other ∙ Has-bit a m e) | inr e ↦ absurd (n (ap number_of e)) ])
+          let other : bit_at (bit_or a (1 * 2 ^ number_of k % 256)) (number_of m) ≡ bit_at a (number_of m) =
+          bit_at_set_other w8 a (number_of k) below (number_of m) n in (
+            λ h. inl (Has-from_bit a m (sym other ∙ Has-bit _ m h)),
+            λ h. elim h [ inl e ↦ Has-from_bit _ m (other ∙ Has-bit a m e) | inr e ↦ absurd (n (ap number_of e)) ],
+          )
     ]
 
 -- ---- none, all, one
@@ -143,7 +146,8 @@ no_zeros_in_none : (set : ℕ) → set ≡ 0 → trailing_zeros w8 set ≡ 8
 unfolding count_trailing_zeros
 no_zeros_in_none set e = rw e refl
 
-pub least_answer : (set : ℕ) (found : Option Move) → set < 256 → MatchOption found (7 < trailing_zeros w8 set) (λ m. number_of m ≡ trailing_zeros w8 set)
+pub least_answer : (set : ℕ) (found : Option Move) → set < 256
+    → MatchOption found (7 < trailing_zeros w8 set) (λ m. number_of m ≡ trailing_zeros w8 set)
     → MatchOption found (IsEmpty set) (IsLeastIn set)
 least_answer set None l h = elim (cases_eq set 0) [
   | inl e ↦ none_is_empty set e

@@ -61,7 +61,8 @@ pub contains_later : {X : Type 0} (y : X) (xs : List X) (x : X) → Contains xs 
 contains_later y xs x h = (suc h.0, omega arith, h.2)
 
 -- an element that passes the test is in what the filter keeps
-pub contains_filtered : {X : Type 0} (p : X → Bool) (xs : List X) (x : X) (k : ℕ) → k < length xs → get_or xs k x ≡ x → p x ≡ true → Contains (filter p xs) x
+pub contains_filtered : {X : Type 0} (p : X → Bool) (xs : List X) (x : X) (k : ℕ) → k < length xs → get_or xs k x ≡ x
+    → p x ≡ true → Contains (filter p xs) x
 contains_filtered p [] x k less at passes = absurd (omega arith)
 contains_filtered p (y ∷ ys) x zero less at passes =
     let good : p y ≡ true = ap p at ∙ passes in
@@ -142,13 +143,12 @@ passable_cells_listed m limits whole =
       just_these = λ c. (
         λ h.
             let f = passes_where m.width (length m.passable) p some c h in
-            record {
-              inside = record { column = f.column; row = row_inside m.width m.height c (let p : place_of m.width c < length m.passable = f.place in omega arith) };
-              passable = f.passes;
-            },
+            let below : place_of m.width c < length m.passable = f.place in
+            record { inside = record { column = f.column; row = row_inside m.width m.height c (omega arith) }; passable = f.passes },
         λ h.
+            let below = place_inside m.width m.height c h.inside.column h.inside.row in
             contained_where m.width (length m.passable) p some c
-            (record { column = h.inside.column; place = (let p = place_inside m.width m.height c h.inside.column h.inside.row in omega arith); passes = h.passable }),
+            (record { column = h.inside.column; place = omega arith; passes = h.passable }),
       );
       in_order = in_order_where m.width (length m.passable) p some;
     }
@@ -164,7 +164,10 @@ pub before_later : (a b c : Cell) → ComesBefore a b → ComesBefore b c → Co
 before_later a b c p q =
     elim p [
       | inl up ↦ elim q [ inl more ↦ inl (omega arith) | inr same ↦ inl (let e = same.0 in omega arith) ]
-      | inr beside ↦ elim q [ inl more ↦ inl (let e = beside.0 in omega arith) | inr same ↦ inr (beside.0 ∙ same.0, let l = beside.1 in let m = same.1 in omega arith) ]
+      | inr beside ↦ elim q [
+        | inl more ↦ inl (let e = beside.0 in omega arith)
+        | inr same ↦ inr (beside.0 ∙ same.0, let l = beside.1 in let m = same.1 in omega arith)
+      ]
     ]
 
 -- what comes before is another cell

@@ -69,7 +69,8 @@ halves a W b t d = absurd (false≢true d)
 halves a NW b t d = record { rise = (omega arith, omega arith); then_aside = (omega arith, omega arith); aside = (omega arith, omega arith) }
 
 -- a straight move cuts no corner
-pub straight_is_legal : (map : Map) (a : Cell) (move : Move) (b : Cell) → is_diagonal move ≡ false → IsTarget a move b → IsPassable map a → IsPassable map b → IsLegal map a move b
+pub straight_is_legal : (map : Map) (a : Cell) (move : Move) (b : Cell) → is_diagonal move ≡ false → IsTarget a move b
+    → IsPassable map a → IsPassable map b → IsLegal map a move b
 straight_is_legal map a move b straight target leaves enters =
     record { target = target; leaves = leaves; enters = enters; corners = λ d. absurd (let e : false ≡ true = cc in false≢true e) }
 
@@ -95,7 +96,8 @@ diagonals_replaceable map from move to legal d =
     (vertical move, sideways move, vertical_is_straight move, sideways_is_straight move, (corner from to, r.rise, (to, r.then_aside, (legal.enters, refl))))
 
 -- a path with no diagonal move, and one straight move before it
-longer : (map : Map) (a : Cell) (move : Move) (b to : Cell) → is_diagonal move ≡ false → IsLegal map a move b → ReachesStraight map b to → ReachesStraight map a to
+longer : (map : Map) (a : Cell) (move : Move) (b to : Cell) → is_diagonal move ≡ false → IsLegal map a move b
+    → ReachesStraight map b to → ReachesStraight map a to
 longer map a move b to straight legal rest = (move ∷ rest.0, (b, legal, rest.1), All-cons (λ m. IsFalse (is_diagonal m)) move rest.0 straight rest.2)
 
 pub straight_path : (map : Map) (from : Cell) (moves : List Move) (to : Cell) → Leads map from moves to → ReachesStraight map from to
@@ -114,7 +116,10 @@ pub straight_moves_reach_all : StraightMovesReachAll
 straight_moves_reach_all map from to = (λ r. straight_path map from r.0 to r.1, λ r. (r.0, r.1))
 
 -- what each legal straight move keeps, each path keeps
-pub kept_along : (map : Map) (P : Cell → Type 0) (kept : (a : Cell) (move : Move) (b : Cell) → is_diagonal move ≡ false → IsLegal map a move b → P a → P b) (from : Cell) (moves : List Move) (to : Cell) → Leads map from moves to → P from → P to
+pub kept_along : (map : Map) (P : Cell → Type 0)
+    (kept : (a : Cell) (move : Move) (b : Cell) → is_diagonal move ≡ false → IsLegal map a move b → P a → P b)
+    (from : Cell) (moves : List Move) (to : Cell)
+    → Leads map from moves to → P from → P to
 kept_along map P kept from [] to leads p = subst P leads.1 p
 kept_along map P kept from (move ∷ moves) to leads p =
     kept_along map P kept leads.0 moves to leads.2

@@ -6,11 +6,10 @@ use Rattle.std.proofs.lemmas.List.{get_or-set_other, length-set, take-append-le,
 use Rattle.std.proofs.lemmas.Grind.{get_or-set_at}
 use Rattle.moves.specs.declared.Cell.{Cell}
 use Rattle.moves.specs.declared.Move.{Move}
-use Rattle.moves.specs.declared.Move.TheVariants.{N, NE, E, SE, S, SW, W, NW}
 use Rattle.moves.specs.Maps.{Map, IsInside, IsPassable, place_of, with_cell}
-use Rattle.moves.specs.Moves.{corner, IsTarget, HasLegal}
+use Rattle.moves.specs.Moves.{HasLegal}
 use Rattle.moves.specs.MoveMasks.{AreMoveMasks, IsMoveMask, IsWithin, WritesMasks}
-use Rattle.moves.proofs.MoveLaws.{same_cell}
+use Rattle.moves.proofs.MoveLaws.{same_cell, IsNear, legal_near}
 
 -- two cells inside with one place are one cell
 pub same_from_places : (map : Map) (a b : Cell) → IsInside map a → IsInside map b → place_of map.width a ≡ place_of map.width b → a ≡ b
@@ -41,24 +40,6 @@ passable_before map changed other passable inside apart free =
           (λ same. apart (same_from_places map other changed here inside same))) ∙ free.passable;
     }
 
--- the cells are at most one column and one row apart
-pub record IsNear (a b : Cell) : Type 0 where
-  pub left : a.x ≤ b.x + 1
-  pub right : b.x ≤ a.x + 1
-  pub above : a.y ≤ b.y + 1
-  pub below : b.y ≤ a.y + 1
-
--- a move leads to a near cell
-pub target_near : (a : Cell) (move : Move) (b : Cell) → IsTarget a move b → IsNear a b
-target_near a N b p = record { left = omega arith; right = omega arith; above = omega arith; below = omega arith }
-target_near a NE b p = record { left = omega arith; right = omega arith; above = omega arith; below = omega arith }
-target_near a E b p = record { left = omega arith; right = omega arith; above = omega arith; below = omega arith }
-target_near a SE b p = record { left = omega arith; right = omega arith; above = omega arith; below = omega arith }
-target_near a S b p = record { left = omega arith; right = omega arith; above = omega arith; below = omega arith }
-target_near a SW b p = record { left = omega arith; right = omega arith; above = omega arith; below = omega arith }
-target_near a W b p = record { left = omega arith; right = omega arith; above = omega arith; below = omega arith }
-target_near a NW b p = record { left = omega arith; right = omega arith; above = omega arith; below = omega arith }
-
 -- a cell that is near is not one that is not
 apart_if_near : (a b c : Cell) → IsNear a b → (IsNear a c → ⊥) → b ≢ c
 apart_if_near a b c near far same = far (subst (IsNear a) same near)
@@ -66,39 +47,19 @@ apart_if_near a b c near far same = far (subst (IsNear a) same near)
 -- each move is as legal as before from a cell that is not near the changed one
 pub legal_after : (map : Map) (changed from : Cell) (passable : Bool) (move : Move) → IsInside map changed → (IsNear from changed → ⊥)
     → HasLegal map from move → HasLegal (with_cell map changed passable) from move
-legal_after map changed from passable move inside far (to, legal) =
-    let near = target_near from move to legal.target in
-    let keep : (c : Cell) → IsNear from c → IsPassable map c → IsPassable (with_cell map changed passable) c
-    = λ c n. passable_after map changed c passable inside (apart_if_near from c changed n far) in (
-      to,
-      record {
-        target = legal.target;
-        leaves = keep from (record { left = omega arith; right = omega arith; above = omega arith; below = omega arith }) legal.leaves;
-        enters = keep to near legal.enters;
-        corners = λ d. (
-          keep (corner from to) (record { left = omega arith; right = omega arith; above = near.above; below = near.below }) (legal.corners d).0,
-          keep (corner to from) (record { left = near.left; right = near.right; above = omega arith; below = omega arith }) (legal.corners d).1,
-        );
-      },
-    )
+legal_after map changed from passable move inside far (to, legal) = (
+  to,
+  legal_near map (with_cell map changed passable) from move to
+      (λ c near. passable_after map changed c passable inside (apart_if_near from c changed near far)) legal,
+)
 
 pub legal_before : (map : Map) (changed from : Cell) (passable : Bool) (move : Move) → IsInside map changed → (IsNear from changed → ⊥)
     → HasLegal (with_cell map changed passable) from move → HasLegal map from move
-legal_before map changed from passable move inside far (to, legal) =
-    let near = target_near from move to legal.target in
-    let keep : (c : Cell) → IsNear from c → IsPassable (with_cell map changed passable) c → IsPassable map c
-    = λ c n. passable_before map changed c passable inside (apart_if_near from c changed n far) in (
-      to,
-      record {
-        target = legal.target;
-        leaves = keep from (record { left = omega arith; right = omega arith; above = omega arith; below = omega arith }) legal.leaves;
-        enters = keep to near legal.enters;
-        corners = λ d. (
-          keep (corner from to) (record { left = omega arith; right = omega arith; above = near.above; below = near.below }) (legal.corners d).0,
-          keep (corner to from) (record { left = near.left; right = near.right; above = omega arith; below = omega arith }) (legal.corners d).1,
-        );
-      },
-    )
+legal_before map changed from passable move inside far (to, legal) = (
+  to,
+  legal_near (with_cell map changed passable) map from move to
+      (λ c near. passable_before map changed c passable inside (apart_if_near from c changed near far)) legal,
+)
 
 -- no cell lies in no columns
 pub writes_no_columns : (map : Map) (left top bottom : ℕ) (old : List ℕ) → WritesMasks map left left top bottom old old
@@ -129,7 +90,8 @@ writes_cell map left x y old mid mask place whole from column row at legal writt
       within = λ cell is. elim (cases_lt cell.x x) [
         | inl less ↦
             let in_cell : IsInside map cell = record { column = omega arith; row = omega (arith, is.to_bottom) } in
-            let apart : place_of map.width cell ≢ place = λ same. let one = same_from_place cell.y cell.x y x map.width in_cell.column column (same ∙ at) in omega (arith, one.1) in
+            let apart : place_of map.width cell ≢ place = λ same.
+            let one = same_from_place cell.y cell.x y x map.width in_cell.column column (same ∙ at) in omega (arith, one.1) in
             rw (get_or-set_other mid place (place_of map.width cell) mask 0 apart)
             (written.within cell (record { from_left = is.from_left; to_right = less; from_top = is.from_top; to_bottom = is.to_bottom }))
         | inr more ↦
@@ -141,9 +103,19 @@ writes_cell map left x y old mid mask place whole from column row at legal writt
       beyond = λ cell in_cell away.
           let apart : place_of map.width cell ≢ place = λ same.
           let one = same_from_place cell.y cell.x y x map.width in_cell.column column (same ∙ at) in
-          away (record { from_left = omega (arith, one.1); to_right = omega (arith, one.1); from_top = omega (arith, one.0); to_bottom = omega (arith, one.0) }) in
+          away (record {
+            from_left = omega (arith, one.1);
+            to_right = omega (arith, one.1);
+            from_top = omega (arith, one.0);
+            to_bottom = omega (arith, one.0);
+          }) in
           get_or-set_other mid place (place_of map.width cell) mask 0 apart
-          ∙ written.beyond cell in_cell (λ is. away (record { from_left = is.from_left; to_right = omega (arith, is.to_right); from_top = is.from_top; to_bottom = is.to_bottom }));
+          ∙ written.beyond cell in_cell (λ is. away (record {
+            from_left = is.from_left;
+            to_right = omega (arith, is.to_right);
+            from_top = is.from_top;
+            to_bottom = is.to_bottom;
+          }));
     }
 
 -- one row more
@@ -158,12 +130,23 @@ writes_row map left right top y old mid new columns row from above here = record
     | inr more ↦ here.within cell (record { from_left = is.from_left; to_right = is.to_right; from_top = more; to_bottom = is.to_bottom })
   ];
   beyond = λ cell inside away.
-      here.beyond cell inside (λ at. away (record { from_left = at.from_left; to_right = at.to_right; from_top = omega (arith, at.from_top); to_bottom = at.to_bottom }))
-      ∙ above.beyond cell inside (λ at. away (record { from_left = at.from_left; to_right = at.to_right; from_top = at.from_top; to_bottom = omega (arith, at.to_bottom) }));
+      here.beyond cell inside (λ at. away (record {
+        from_left = at.from_left;
+        to_right = at.to_right;
+        from_top = omega (arith, at.from_top);
+        to_bottom = at.to_bottom;
+      }))
+      ∙ above.beyond cell inside (λ at. away (record {
+        from_left = at.from_left;
+        to_right = at.to_right;
+        from_top = at.from_top;
+        to_bottom = omega (arith, at.to_bottom);
+      }));
 }
 
 -- all columns and rows
-pub writes_all : (map : Map) (old new : List ℕ) → length old ≡ map.width * map.height → WritesMasks map 0 map.width 0 map.height old new → AreMoveMasks map new
+pub writes_all : (map : Map) (old new : List ℕ) → length old ≡ map.width * map.height
+    → WritesMasks map 0 map.width 0 map.height old new → AreMoveMasks map new
 writes_all map old new whole written = record {
   whole = written.whole ∙ whole;
   each = λ cell inside. written.within cell (record { from_left = omega arith; to_right = inside.column; from_top = omega arith; to_bottom = inside.row });

@@ -10,39 +10,42 @@ use Rattle.moves.specs.FirstSets.{IsFirstMove}
 use Rattle.moves.specs.Components.{IsComponent}
 use Rattle.moves.specs.StraightPaths.{IsConnected}
 
--- the map of the same sides whose passable cells are just these
-pub record IsOnly (map : Map) (cells : List Cell) (part : Map) : Type 0 where
-  pub columns : part.width ≡ map.width
-  pub rows : part.height ≡ map.height
-  pub just_these : (cell : Cell) → IsPassable part cell ↔ Contains cells cell
+-- the map's passable cells are just these, whatever its sides are
+pub record HasJust (map : Map) (cells : List Cell) : Type 0 where
+  pub just_these : (cell : Cell) → IsPassable map cell ↔ Contains cells cell
 
 -- which moves are legal inside a component depends on its cells alone
 abbrev pub ComponentsKeepMoves : Type 0
 ComponentsKeepMoves =
-    (map : Map) (cells : List Cell) (part : Map) → IsComponent map cells → IsOnly map cells part
-    → (from : Cell) (move : Move) (to : Cell) → Contains cells from → IsLegal part from move to ↔ IsLegal map from move to
+    (map : Map) (cells : List Cell) (part : Map) → IsComponent map cells → HasJust part cells
+    → (from : Cell) (move : Move) (to : Cell) → Contains cells from
+    → IsLegal part from move to ↔ IsLegal map from move to
 
 -- which paths from a cell of a component are best depends on its cells alone
 abbrev pub ComponentsKeepBestPaths : Type 0
 ComponentsKeepBestPaths =
-    (map : Map) (cells : List Cell) (part : Map) → IsComponent map cells → IsOnly map cells part
-    → (from : Cell) (moves : List Move) (to : Cell) → Contains cells from → IsBest part from moves to ↔ IsBest map from moves to
+    (map : Map) (cells : List Cell) (part : Map) → IsComponent map cells → HasJust part cells
+    → (from : Cell) (moves : List Move) (to : Cell) → Contains cells from
+    → IsBest part from moves to ↔ IsBest map from moves to
 
 -- what a best path from a cell of a component costs depends on its cells alone
 abbrev pub ComponentsKeepCosts : Type 0
 ComponentsKeepCosts =
-    (map : Map) (cells : List Cell) (part : Map) → IsComponent map cells → IsOnly map cells part
-    → (from to : Cell) (cost : Option Cost) → Contains cells from → IsLeastCost part from to cost ↔ IsLeastCost map from to cost
+    (map : Map) (cells : List Cell) (part : Map) → IsComponent map cells → HasJust part cells
+    → (from to : Cell) (cost : Option Cost) → Contains cells from
+    → IsLeastCost part from to cost ↔ IsLeastCost map from to cost
 
 -- the first sets from a cell of a component depend on its cells alone
 abbrev pub ComponentsKeepFirstSets : Type 0
 ComponentsKeepFirstSets =
-    (map : Map) (cells : List Cell) (part : Map) → IsComponent map cells → IsOnly map cells part
-    → (from to : Cell) (move : Move) → Contains cells from → IsFirstMove part from to move ↔ IsFirstMove map from to move
+    (map : Map) (cells : List Cell) (part : Map) → IsComponent map cells → HasJust part cells
+    → (from to : Cell) (move : Move) → Contains cells from
+    → IsFirstMove part from to move ↔ IsFirstMove map from to move
 
 -- the cells of a component are a component of the map that has these cells alone
 abbrev pub ComponentsStayComponents : Type 0
-ComponentsStayComponents = (map : Map) (cells : List Cell) → IsComponent map cells → (part : Map) → IsOnly map cells part → IsComponent part cells
+ComponentsStayComponents =
+    (map : Map) (cells : List Cell) → IsComponent map cells → (part : Map) → HasJust part cells → IsComponent part cells
 
 -- the cells of a component are connected by straight moves among themselves
 abbrev pub ComponentsAreConnected : Type 0
@@ -55,4 +58,5 @@ pub record IsListed (map : Map) : Type 0 where
 
 -- this holds for each map inside the limits that says of each cell whether it is passable
 abbrev pub PassableCellsAreListed : Type 0
-PassableCellsAreListed = (map : Map) → IsWithinLimits map.width map.height → length map.passable ≡ map.width * map.height → IsListed map
+PassableCellsAreListed =
+    (map : Map) → IsWithinLimits map.width map.height → length map.passable ≡ map.width * map.height → IsListed map

@@ -16,10 +16,12 @@ after_step cost move = plus_step cost (is_diagonal move)
 -- and each cost but the source's is attained by a move from a cell before it.
 pub record IsCostTable (map : Map) (source : Cell) (costs : Cell → Option Cost) : Type 0 where
   pub start : costs source ≡ Some no_cost
-  pub no_shorter : (from : Cell) (move : Move) (to : Cell) (cost : Cost) → costs from ≡ Some cost → IsLegal map from move to
+  pub no_shorter : (from : Cell) (move : Move) (to : Cell) (cost : Cost)
+      → costs from ≡ Some cost → IsLegal map from move to
       → (next : Cost) × (costs to ≡ Some next) × IsAtMost next (after_step cost move)
   pub attained : (to : Cell) (cost : Cost) → costs to ≡ Some cost → to ≢ source
-      → (from : Cell) × (move : Move) × (before : Cost) × (costs from ≡ Some before) × IsLegal map from move to × (cost ≡ after_step before move)
+      → (from : Cell) × (move : Move) × (before : Cost)
+      × (costs from ≡ Some before) × IsLegal map from move to × (cost ≡ after_step before move)
 
 -- each cost of such a table is the least, and no path reaches a cell without one
 abbrev pub CostTablesAreLeast : Type 0

@@ -1,17 +1,19 @@
--- First moves of best paths. Any of them may be stored in a path database. (Botea 2011; Strasser, Harabor and Botea 2014)
+-- First moves of best paths. Any of them may be stored in a path database.
+-- (Botea 2011; Strasser, Harabor and Botea 2014)
 use Rattle.std.specs.Prelude.{◌≡◌, ◌≢◌, ◌⊎◌, ◌↔◌, List, ◌∷◌, Some}
 use Rattle.root_cost.specs.declared.Cost.{Cost}
 use Rattle.moves.specs.declared.Cell.{Cell}
 use Rattle.moves.specs.declared.Move.{Move}
 use Rattle.moves.specs.Maps.{Map, IsPassable}
 use Rattle.moves.specs.Moves.{IsLegal}
-use Rattle.moves.specs.Paths.{IsBest, IsLeastCost}
+use Rattle.moves.specs.Paths.{IsBest, Reaches, IsLeastCost}
 use Rattle.moves.specs.CostTables.{after_step}
 
 -- The move is in the first set of two cells: it begins some best path from the one to the other.
 -- Where the two are one passable cell, every move is.
 abbrev pub IsFirstMove : Map → Cell → Cell → Move → Type 0
-IsFirstMove map from to move = ((from ≡ to) × IsPassable map from) ⊎ ((rest : List Move) × IsBest map from (move ∷ rest) to)
+IsFirstMove map from to move =
+    ((from ≡ to) × IsPassable map from) ⊎ ((rest : List Move) × IsBest map from (move ∷ rest) to)
 
 -- a best path of that cost to `to` ends with the move from `before`: it is legal there, and with it a best path to
 -- `before` costs as much
@@ -29,3 +31,8 @@ FirstMovesAreLocal =
     → IsFirstMove map source to move
     ↔ ((before : Cell) × (last : Move) × ComesBy map source before last to cost
     × (((before ≡ source) × (move ≡ last)) ⊎ ((before ≢ source) × IsFirstMove map source before move)))
+
+-- a first set has a move exactly where a path exists
+abbrev pub FirstMovesExist : Type 0
+FirstMovesExist =
+    (map : Map) (from to : Cell) → Reaches map from to ↔ ((move : Move) × IsFirstMove map from to move)

@@ -1,11 +1,15 @@
 pub mod Maps
+pub mod Drawings
 pub mod Moves
 pub mod Neighbours
 pub mod MoveMasks
 pub mod MoveSets
 pub mod Paths
 pub mod PathLaws
+pub mod SamePaths
 pub mod FirstSets
+pub mod FirstSetLists
+pub mod Rectangles
 pub mod Components
 pub mod CostTables
 pub mod StraightPaths

@@ -1,7 +1,9 @@
 -- Maps. The upper left cell is (0, 0), x grows to the right and y downwards. (MovingAI map format page)
-use Rattle.std.specs.Prelude.{◌≡◌, ℕ, ◌+◌, ◌*◌, ◌/◌, ◌%◌, ◌<◌, ◌≤◌, ◌⊎◌, Bool, false, true, List, map, filter, length, slice_index_or, slice_set, count_by}
-use Rattle.std.specs.List.{range_with_len}
+use Rattle.std.specs.Prelude.{◌≡◌, ℕ, ◌+◌, ◌*◌, ◌/◌, ◌%◌, ◌<◌, ◌≤◌, ◌⊎◌, ◌==◌, Bool, false, true, ◌&&◌}
+use Rattle.std.specs.Prelude.{List, map, filter, length, replicate, slice_index_or, slice_set, count_by}
+use Rattle.std.specs.List.{list_any, range_with_len}
 use Rattle.moves.specs.declared.Cell.{Cell}
+use Rattle.moves.specs.declared.TheConstants.{MAX_SIDE, MAX_CELLS, MAX_PASSABLE}
 
 -- a map: its sides, and for each cell, row by row, whether it is passable
 pub record Map : Type 0 where
@@ -9,13 +11,21 @@ pub record Map : Type 0 where
   pub height : ℕ
   pub passable : List Bool
 
+-- the map of these sides with these cells
+abbrev pub map_with : ℕ → ℕ → List Bool → Map
+map_with width height passable = record { width = width; height = height; passable = passable }
+
+-- the map of these sides whose cells are all blocked
+abbrev pub blocked_map : ℕ → ℕ → Map
+blocked_map width height = map_with width height (replicate (width * height) false)
+
 -- the limits on a map's sides and on the number of its cells
 pub record IsWithinLimits (width height : ℕ) : Type 0 where
   pub some_columns : 0 < width
   pub some_rows : 0 < height
-  pub columns : width ≤ 4096
-  pub rows : height ≤ 4096
-  pub cells : width * height ≤ 1048576
+  pub columns : width ≤ MAX_SIDE
+  pub rows : height ≤ MAX_SIDE
+  pub cells : width * height ≤ MAX_CELLS
 
 -- the place of a cell in a list that goes row by row
 abbrev pub place_of : ℕ → Cell → ℕ
@@ -43,10 +53,24 @@ with_cell map cell passable = record map { passable = slice_set map.passable (pl
 abbrev pub passable_count : Map → ℕ
 passable_count map = count_by (λ passable. passable) map.passable
 
+-- the map may be searched: it has no more passable cells than a search has room for
+abbrev pub IsSearchable : Map → Type 0
+IsSearchable map = passable_count map ≤ MAX_PASSABLE
+
 -- the passable cells, row by row and in each row from left to right
 abbrev pub passable_cells : Map → List Cell
-passable_cells m = map (cell_at m.width) (filter (λ place. slice_index_or m.passable place false) (range_with_len 0 (length m.passable)))
+passable_cells m =
+    let places = range_with_len 0 (length m.passable) in
+    map (cell_at m.width) (filter (λ place. slice_index_or m.passable place false) places)
 
 -- a is earlier than b in row-major order
 abbrev pub ComesBefore : Cell → Cell → Type 0
 ComesBefore a b = (a.y < b.y) ⊎ ((a.y ≡ b.y) × (a.x < b.x))
+
+-- whether two cells are one
+abbrev pub is_cell : Cell → Cell → Bool
+is_cell a b = (a.x == b.x) && (a.y == b.y)
+
+-- whether the cell is in the list
+abbrev pub has_cell : List Cell → Cell → Bool
+has_cell cells cell = list_any (is_cell cell) cells

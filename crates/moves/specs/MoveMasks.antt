@@ -45,6 +45,7 @@ pub record IsWithin (left right top bottom : ℕ) (cell : Cell) : Type 0 where
 -- the masks of the cells in these columns and rows are written, and no others
 pub record WritesMasks (map : Map) (left right top bottom : ℕ) (old new : List ℕ) : Type 0 where
   pub whole : length new ≡ length old
-  pub within : (cell : Cell) → IsWithin left right top bottom cell → IsMoveMask map cell (slice_index new (place_of map.width cell))
+  pub within : (cell : Cell) → IsWithin left right top bottom cell
+      → IsMoveMask map cell (slice_index new (place_of map.width cell))
   pub beyond : (cell : Cell) → IsInside map cell → (IsWithin left right top bottom cell → ⊥)
       → slice_index new (place_of map.width cell) ≡ slice_index old (place_of map.width cell)

@@ -1,5 +1,5 @@
 -- Sets of moves: numbers below 256, in which bit i stands for the move with number i.
-use Rattle.std.specs.Prelude.{◌≡◌, ℕ, ◌<◌, ◌≤◌, ◌↔◌, IsBitSet}
+use Rattle.std.specs.Prelude.{◌≡◌, ℕ, ◌<◌, ◌≤◌, ◌⊎◌, ◌↔◌, IsBitSet}
 use Rattle.moves.specs.declared.Move.{Move}
 use Rattle.moves.specs.Moves.{number_of}
 
@@ -10,6 +10,22 @@ Has set move = IsBitSet set (number_of move)
 -- no move is in the set
 abbrev pub IsEmpty : ℕ → Type 0
 IsEmpty set = (move : Move) → Has set move → ⊥
+
+-- each move is in the set
+abbrev pub HasAll : ℕ → Type 0
+HasAll set = (move : Move) → Has set move
+
+-- the set has the moves that both sets have
+abbrev pub IsMeet : ℕ → ℕ → ℕ → Type 0
+IsMeet set a b = (move : Move) → Has set move ↔ (Has a move × Has b move)
+
+-- the set has the moves that either set has
+abbrev pub IsJoin : ℕ → ℕ → ℕ → Type 0
+IsJoin set a b = (move : Move) → Has set move ↔ (Has a move ⊎ Has b move)
+
+-- the set has the moves of the other and that one
+abbrev pub IsWith : ℕ → ℕ → Move → Type 0
+IsWith set other m = (move : Move) → Has set move ↔ (Has other move ⊎ (move ≡ m))
 
 -- the move is in the set, and none with a lower number is
 pub record IsLeastIn (set : ℕ) (move : Move) : Type 0 where

@@ -1,9 +1,9 @@
 -- Legal moves: eight directions, and no corner is cut. (MovingAI scenario format page)
-use Rattle.std.specs.Prelude.{◌≡◌, ℕ, ◌+◌, Bool, false, true, IsTrue}
+use Rattle.std.specs.Prelude.{◌≡◌, ℕ, ◌+◌, Bool, false, true, IsTrue, List, codes}
 use Rattle.moves.specs.declared.Cell.{Cell}
 use Rattle.moves.specs.declared.Move.{Move}
 use Rattle.moves.specs.declared.Move.TheVariants.{N, NE, E, SE, S, SW, W, NW}
-use Rattle.moves.specs.Maps.{Map, IsPassable}
+use Rattle.moves.specs.Maps.{Map, IsInside, IsPassable}
 
 -- the number of a move: clockwise from north
 abbrev pub number_of : Move → ℕ
@@ -15,6 +15,17 @@ number_of S = 4
 number_of SW = 5
 number_of W = 6
 number_of NW = 7
+
+-- the name of a move
+abbrev pub move_name : Move → List ℕ
+move_name N = codes "N"
+move_name NE = codes "NE"
+move_name E = codes "E"
+move_name SE = codes "SE"
+move_name S = codes "S"
+move_name SW = codes "SW"
+move_name W = codes "W"
+move_name NW = codes "NW"
 
 -- odd moves are diagonal
 abbrev pub is_diagonal : Move → Bool
@@ -53,13 +64,21 @@ IsTarget a NW b = (b.x + 1 ≡ a.x) × (b.y + 1 ≡ a.y)
 abbrev pub corner : Cell → Cell → Cell
 corner a b = record { x = a.x; y = b.y }
 
+-- no cell inside is where the move ends
+abbrev pub LeadsOutside : Map → Cell → Move → Type 0
+LeadsOutside map from move = (to : Cell) → IsTarget from move to → IsInside map to → ⊥
+
+-- the two cells in the column of the one and the row of the other are passable
+abbrev pub HasFreeCorners : Map → Cell → Cell → Type 0
+HasFreeCorners map a b = IsPassable map (corner a b) × IsPassable map (corner b a)
+
 -- The move from `from` to `to` is legal: both cells are passable and, for a diagonal move,
 -- so are the two cells that are orthogonally adjacent to both.
 pub record IsLegal (map : Map) (from : Cell) (move : Move) (to : Cell) : Type 0 where
   pub target : IsTarget from move to
   pub leaves : IsPassable map from
   pub enters : IsPassable map to
-  pub corners : IsTrue (is_diagonal move) → IsPassable map (corner from to) × IsPassable map (corner to from)
+  pub corners : IsTrue (is_diagonal move) → HasFreeCorners map from to
 
 -- the move is legal from that cell
 abbrev pub HasLegal : Map → Cell → Move → Type 0

@@ -5,7 +5,7 @@ use Rattle.moves.specs.declared.Cell.{Cell}
 use Rattle.moves.specs.declared.Move.{Move}
 use Rattle.moves.specs.Maps.{Map}
 use Rattle.moves.specs.Moves.{opposite, IsLegal}
-use Rattle.moves.specs.Paths.{IsPath, Leads, cost_of, IsBest}
+use Rattle.moves.specs.Paths.{IsPath, Leads, cost_of, IsBest, Reaches}
 
 -- the moves that lead back along a path
 abbrev pub back_along : List Move → List Move
@@ -18,7 +18,8 @@ EndsAt from (next ∷ rest) to = EndsAt next rest to
 
 pub record LawsOfPaths : Type 0 where
   -- two paths that meet make one path, whose cost is the sum
-  pub joined : (map : Map) (a b c : Cell) (first rest : List Move) → Leads map a first b → Leads map b rest c → Leads map a (first ++ rest) c
+  pub joined : (map : Map) (a b c : Cell) (first rest : List Move)
+      → Leads map a first b → Leads map b rest c → Leads map a (first ++ rest) c
   pub sum : (first rest : List Move) → cost_of (first ++ rest) ≡ sum_of (cost_of first) (cost_of rest)
   -- each piece of a best path is best
   pub pieces : (map : Map) (a d : Cell) (front middle back : List Move) → IsBest map a (front ++ middle ++ back) d
@@ -34,3 +35,7 @@ pub record LawsOfPaths : Type 0 where
       → (moves : List Move) × Leads map from moves to × (length moves ≡ length rest)
   pub walked : (map : Map) (from to : Cell) (moves : List Move) → Leads map from moves to
       → (rest : List Cell) × IsPath map (from ∷ rest) × EndsAt from rest to × (length rest ≡ length moves)
+
+-- where a path exists, a best path exists
+abbrev pub BestPathsExist : Type 0
+BestPathsExist = (map : Map) (from to : Cell) → Reaches map from to → (best : List Move) × IsBest map from best to

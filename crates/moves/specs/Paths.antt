@@ -25,7 +25,10 @@ Leads map from (move ∷ moves) to = (next : Cell) × IsLegal map from move next
 
 -- the cost of a path: the number of its straight moves and of its diagonal moves
 abbrev pub cost_of : List Move → Cost
-cost_of moves = record { straight = count_by (λ move. not (is_diagonal move)) moves; diagonal = count_by is_diagonal moves }
+cost_of moves = record {
+  straight = count_by (λ move. not (is_diagonal move)) moves;
+  diagonal = count_by is_diagonal moves;
+}
 
 -- a best path: none with the same ends costs less
 pub record IsBest (map : Map) (from : Cell) (moves : List Move) (to : Cell) : Type 0 where
@@ -39,4 +42,5 @@ Reaches map from to = (moves : List Move) × Leads map from moves to
 -- the least cost: that of a best path, and none where no path exists
 abbrev pub IsLeastCost : Map → Cell → Cell → Option Cost → Type 0
 IsLeastCost map from to cost =
-    MatchOption cost (Reaches map from to → ⊥) (λ least. (moves : List Move) × IsBest map from moves to × (cost_of moves ≡ least))
+    MatchOption cost (Reaches map from to → ⊥)
+    (λ least. (moves : List Move) × IsBest map from moves to × (cost_of moves ≡ least))

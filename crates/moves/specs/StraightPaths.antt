@@ -8,23 +8,27 @@ use Rattle.moves.specs.Paths.{Leads, Reaches}
 
 -- some path of straight moves leads from the one cell to the other
 abbrev pub ReachesStraight : Map → Cell → Cell → Type 0
-ReachesStraight map from to = (moves : List Move) × Leads map from moves to × All (λ move. IsFalse (is_diagonal move)) moves
+ReachesStraight map from to =
+    (moves : List Move) × Leads map from moves to × All (λ move. IsFalse (is_diagonal move)) moves
 
 -- these straight moves lead from the one cell to the other, each to a cell of the list
 abbrev pub GoesThrough : List Cell → Cell → List Move → Cell → Type 0
 GoesThrough cells from [] to = from ≡ to
 GoesThrough cells from (move ∷ moves) to =
-    (next : Cell) × IsTarget from move next × IsFalse (is_diagonal move) × Contains cells next × GoesThrough cells next moves to
+    (next : Cell) × IsTarget from move next × IsFalse (is_diagonal move) × Contains cells next
+    × GoesThrough cells next moves to
 
 -- the cells are connected by straight moves among themselves
 pub record IsConnected (cells : List Cell) : Type 0 where
-  pub joined : (from to : Cell) → Contains cells from → Contains cells to → (moves : List Move) × GoesThrough cells from moves to
+  pub joined : (from to : Cell) → Contains cells from → Contains cells to
+      → (moves : List Move) × GoesThrough cells from moves to
 
 -- in place of each legal diagonal move two straight ones are legal, one after the other
 abbrev pub DiagonalsAreReplaceable : Type 0
 DiagonalsAreReplaceable =
     (map : Map) (from : Cell) (move : Move) (to : Cell) → IsLegal map from move to → IsTrue (is_diagonal move)
-    → (first second : Move) × IsFalse (is_diagonal first) × IsFalse (is_diagonal second) × Leads map from (first ∷ second ∷ []) to
+    → (first second : Move) × IsFalse (is_diagonal first) × IsFalse (is_diagonal second)
+    × Leads map from (first ∷ second ∷ []) to
 
 -- a cell is reached exactly where straight moves alone reach it
 abbrev pub StraightMovesReachAll : Type 0

@@ -1,10 +1,11 @@
 //! The grid of a map's cells, with the legal moves of each cell at hand.
 
 ghost use Rattle.std.specs.Prelude.{◌≡◌, ℕ, ◌+◌, ◌*◌, ◌<◌, ◌≤◌, ◌↔◌, Bool, false, List, IsTrue, IfOk, IfSome, IfNone, length, replicate, count_by};
+ghost use Rattle.moves.specs.Drawings.{IsDrawing, cells_between_marks, cells_drawn};
 ghost use Rattle.moves.specs.MoveMasks.{AreMoveMasks, IsMoveMask};
-ghost use Rattle.moves.specs.Moves.{HasLegal, IsTarget};
+ghost use Rattle.moves.specs.Moves.{HasLegal, IsTarget, LeadsOutside};
 ghost use Rattle.moves.specs.Neighbours.{AreNeighbours};
-ghost use Rattle.moves.specs.Maps.{Map, IsInside, IsPassable, IsWithinLimits, passable_count, with_cell};
+ghost use Rattle.moves.specs.Maps.{Map, IsInside, IsPassable, IsWithinLimits, blocked_map, map_with, passable_count, with_cell};
 
 use crate::terrain::Terrain;
 use crate::{Cell, Move};
@@ -12,7 +13,8 @@ use arrayvec::ArrayVec;
 use std::alloc::{AllocError, Global};
 use std::marker::Model;
 
-/// A map of passable and blocked cells: each side from 1 to 4,096, at most 1,048,576 cells.
+/// A map of passable and blocked cells: each side from 1 to [`MAX_SIDE`](crate::MAX_SIDE), and no more than
+/// [`MAX_CELLS`](crate::MAX_CELLS) cells.
 #[derive(Drop)]
 pub struct Grid {
     terrain: Terrain,
@@ -34,7 +36,7 @@ impl Grid {
     /// A grid of blocked cells.
     pub fn blocked(alloc: Global, width: u32, height: u32) -> Result<Grid, AllocError>
         requires { IsWithinLimits width height }
-        ensures { IfOk result (λ grid. grid ≡ record { width = width; height = height; passable = replicate (width * height) false }) }
+        ensures { IfOk result (λ grid. grid ≡ blocked_map width height) }
     {
         let cells = (width * height) as usize;
         Ok(Grid {
@@ -52,7 +54,7 @@ impl Grid {
     ) -> Result<Grid, AllocError>
         requires limits { IsWithinLimits width height }
         requires whole { length cells.items ≡ width * height }
-        ensures { IfOk result (λ grid. grid ≡ record { width = width; height = height; passable = cells.items }) }
+        ensures { IfOk result (λ grid. grid ≡ map_with width height cells.items) }
     {
         let places = cells.len();
         let terrain = Terrain::of_cells(width, height, cells);
@@ -61,7 +63,18 @@ impl Grid {
         Ok(Grid { terrain, masks })
     }
 
-    /// The number of columns, from 1 to 4,096.
+    /// A grid with the cells that are drawn, row by row with `/` between the rows: `.` for a passable cell and any
+    /// other byte for a blocked one. `../@.` has two rows of two cells; the first cell of the second row is blocked.
+    pub fn of_rows(alloc: Global, width: u32, height: u32, rows: &str) -> Result<Grid, AllocError>
+        requires limits { IsWithinLimits width height }
+        requires rows { IsDrawing width height rows.now }
+        ensures { IfOk result (λ grid. grid ≡ map_with width height (cells_drawn rows.now)) }
+    {
+        let cells = cells_of(alloc, rows)?;
+        Grid::of_cells(alloc, width, height, cells)
+    }
+
+    /// The number of columns, from 1 to [`MAX_SIDE`](crate::MAX_SIDE).
     pub fn width(&self) -> u32
         ensures width { result ≡ self.now.width }
         ensures limits { IsWithinLimits self.now.width self.now.height }
@@ -70,7 +83,7 @@ impl Grid {
         self.terrain.width()
     }
 
-    /// The number of rows, from 1 to 4,096.
+    /// The number of rows, from 1 to [`MAX_SIDE`](crate::MAX_SIDE).
     pub fn height(&self) -> u32
         ensures height { result ≡ self.now.height }
         ensures limits { IsWithinLimits self.now.width self.now.height }
@@ -117,7 +130,7 @@ impl Grid {
     pub fn step(&self, cell: Cell, by: Move) -> Option<Cell>
         requires { IsInside self.now cell }
         ensures inside { IfSome result (λ to. IsTarget cell by to × IsInside self.now to) }
-        ensures outside { IfNone result ((to : Cell) → IsTarget cell by to → IsInside self.now to → ⊥) }
+        ensures outside { IfNone result (LeadsOutside self.now cell by) }
     {
         self.terrain.step(cell, by)
     }
@@ -145,4 +158,14 @@ impl Grid {
     {
         self.masks.as_slice()
     }
+}
+
+/// The cells of a drawing, row by row.
+fn cells_of(alloc: Global, rows: &str) -> Result<Vec<bool>, AllocError>
+    ensures { IfOk result (λ cells. cells.items ≡ cells_between_marks rows.now) }
+{
+    rows.bytes()
+        .filter(|byte| *byte != b'/')
+        .map(|byte| byte == b'.')
+        .collect(alloc)
 }

@@ -2,21 +2,30 @@
 //! (MovingAI map format page and scenario format page.)
 #![tactic(auto)]
 
-ghost use Rattle.std.specs.Prelude.{◌≡◌, ℕ, ◌<◌, ◌↔◌, IsTrue, MatchOption};
+ghost use Rattle.std.specs.Prelude.{◌≡◌, ℕ, ◌<◌, ◌≤◌, ◌↔◌, IsTrue, MatchOption};
+ghost use Rattle.moves.specs.Maps.{place_of};
 ghost use Rattle.moves.specs.Moves.{number_of, is_diagonal};
 
-pub mod component_laws;
-pub mod cost_tables;
-pub mod first_moves;
+pub mod bounds;
 pub mod grid;
+pub mod laws;
 pub mod move_set;
-pub mod path_laws;
 mod terrain;
 
-pub use cost_tables::cost_tables_are_least;
-pub use first_moves::first_moves_are_local;
+pub use bounds::Bounds;
 pub use grid::Grid;
-pub use move_set::{MoveSet, sets_are_their_moves};
+pub use laws::{cost_tables_are_least, first_moves_are_local, sets_are_their_moves};
+pub use move_set::MoveSet;
+use std::fmt;
+
+/// The most columns and the most rows that a map has.
+pub const MAX_SIDE: u32 = 4096;
+
+/// The most cells that a map has, passable and blocked.
+pub const MAX_CELLS: u32 = 1_048_576;
+
+/// The most passable cells of a map that is searched.
+pub const MAX_PASSABLE: u32 = 32_768;
 
 /// A cell by its column and row. (0, 0) is the upper left cell, x grows to the right and y downwards.
 /// (MovingAI map format page.)
@@ -51,6 +60,18 @@ pub enum Move {
 }
 
 impl Move {
+    /// The eight moves by their numbers.
+    pub const ALL: [Move; 8] = [
+        Move::N,
+        Move::NE,
+        Move::E,
+        Move::SE,
+        Move::S,
+        Move::SW,
+        Move::W,
+        Move::NW,
+    ];
+
     /// The move's number, from 0 to 7.
     pub fn number(self) -> u8
         ensures number { result ≡ number_of self }
@@ -82,6 +103,34 @@ impl Move {
     {
         matches!(self, Move::NE | Move::SE | Move::SW | Move::NW)
     }
+}
+
+/// The move's name: N, NE, E, SE, S, SW, W or NW.
+impl fmt::Display for Move {
+    ghost use Rattle.std.specs.Prelude.{Some};
+    ghost use Rattle.moves.specs.Moves.{move_name};
+
+    ghost output = { λ move. Some (move_name move) };
+
+    fn fmt<W: fmt::Write>(&self, f: &mut fmt::Formatter<W>) -> fmt::Result {
+        match self {
+            Move::N => write!(f, "N"),
+            Move::NE => write!(f, "NE"),
+            Move::E => write!(f, "E"),
+            Move::SE => write!(f, "SE"),
+            Move::S => write!(f, "S"),
+            Move::SW => write!(f, "SW"),
+            Move::W => write!(f, "W"),
+            Move::NW => write!(f, "NW"),
+        }
+    }
+}
+
+/// The place of a cell in a list that goes row by row, where each row has so many cells.
+pub fn place(width: u32, cell: Cell) -> usize
+    ensures { result ≡ place_of width cell }
+{
+    usize::from(cell.y) * width as usize + usize::from(cell.x)
 }
 
 #[cfg(test)]

@@ -2,7 +2,7 @@
 
 ghost use Rattle.std.specs.Prelude.{◌≡◌, ℕ, ◌<◌, ◌⊎◌, ◌↔◌, IsTrue, MatchOption};
 ghost use Rattle.moves.specs.declared.Move.{Move};
-ghost use Rattle.moves.specs.MoveSets.{Has, IsEmpty, IsLeastIn, SetsAreTheirMoves};
+ghost use Rattle.moves.specs.MoveSets.{Has, IsEmpty, IsJoin, IsLeastIn, IsMeet, IsWith};
 
 use crate::Move;
 use std::marker::Model;
@@ -55,7 +55,7 @@ impl MoveSet {
 
     /// The moves that are in both sets.
     pub fn meet(self, other: MoveSet) -> MoveSet
-        ensures { (move : Move) → Has result move ↔ (Has self move × Has other move) }
+        ensures { IsMeet result self other }
     {
         MoveSet {
             mask: self.mask & other.mask,
@@ -64,7 +64,7 @@ impl MoveSet {
 
     /// The moves that are in either set.
     pub fn join(self, other: MoveSet) -> MoveSet
-        ensures { (move : Move) → Has result move ↔ (Has self move ⊎ Has other move) }
+        ensures { IsJoin result self other }
     {
         MoveSet {
             mask: self.mask | other.mask,
@@ -73,7 +73,7 @@ impl MoveSet {
 
     /// The set and that move.
     pub fn with(self, m: Move) -> MoveSet
-        ensures { (move : Move) → Has result move ↔ (Has self move ⊎ (move ≡ m)) }
+        ensures { IsWith result self m }
     {
         MoveSet {
             mask: self.mask | 1 << m.number(),
@@ -94,8 +94,3 @@ impl MoveSet {
         Move::of(self.mask.trailing_zeros() as u8)
     }
 }
-
-/// The law of sets: two sets that have the same moves are equal, and so have one mask.
-pub fn sets_are_their_moves()
-    ensures { SetsAreTheirMoves }
-{}

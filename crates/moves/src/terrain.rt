@@ -1,20 +1,21 @@
 //! The cells of a map and its rule of legal moves, without anything that is kept for speed.
 
 ghost use Rattle.std.specs.Prelude.{◌≡◌, ℕ, ◌+◌, ◌*◌, ◌<◌, ◌≤◌, ◌↔◌, Bool, false, List, IsTrue, IsBitSet, IfOk, IfSome, IfNone, length, replicate, count_by};
-ghost use Rattle.moves.specs.Maps.{Map, IsWithinLimits, IsInside, IsPassable, with_cell, passable_count, place_of};
+ghost use Rattle.moves.specs.Maps.{Map, IsWithinLimits, IsInside, IsPassable, blocked_map, map_with, with_cell, passable_count, place_of};
 ghost use Rattle.moves.specs.MoveMasks.{HasFree, IsFreeMask, IsLegalAmong, IsMoveMask, WritesMasks};
-ghost use Rattle.moves.specs.Neighbours.{AreNeighbours};
+ghost use Rattle.moves.specs.Neighbours.{AreNeighbours, NoneIsNumbered};
 ghost use Rattle.moves.specs.declared.Cell.{Cell};
 ghost use Rattle.moves.specs.declared.Move.{Move};
-ghost use Rattle.moves.specs.Moves.{number_of, is_diagonal, corner, IsTarget, IsLegal, HasLegal};
+ghost use Rattle.moves.specs.Moves.{number_of, is_diagonal, HasFreeCorners, IsTarget, IsLegal, HasLegal, LeadsOutside};
 
-use crate::{Cell, Move};
+use crate::{Cell, MAX_SIDE, Move, place};
 use arrayvec::ArrayVec;
 use std::alloc::{AllocError, Global};
 use std::marker::Model;
 use std::ops::Range;
 
-/// A map of passable and blocked cells: each side from 1 to 4,096, at most 1,048,576 cells.
+/// A map of passable and blocked cells: each side from 1 to [`MAX_SIDE`](crate::MAX_SIDE), and no more than
+/// [`MAX_CELLS`](crate::MAX_CELLS) cells.
 #[derive(Drop)]
 pub struct Terrain {
     width: u32,
@@ -37,7 +38,7 @@ impl Terrain {
     /// A grid of blocked cells.
     pub fn blocked(alloc: Global, width: u32, height: u32) -> Result<Terrain, AllocError>
         requires { IsWithinLimits width height }
-        ensures { IfOk result (λ terrain. terrain ≡ record { width = width; height = height; passable = replicate (width * height) false }) }
+        ensures { IfOk result (λ terrain. terrain ≡ blocked_map width height) }
     {
         let cells = (width * height) as usize;
         Ok(Terrain {
@@ -51,7 +52,7 @@ impl Terrain {
     pub fn of_cells(width: u32, height: u32, cells: Vec<bool>) -> Terrain
         requires limits { IsWithinLimits width height }
         requires whole { length cells.items ≡ width * height }
-        ensures { result ≡ record { width = width; height = height; passable = cells.items } }
+        ensures { result ≡ map_with width height cells.items }
     {
         Terrain {
             width,
@@ -60,7 +61,7 @@ impl Terrain {
         }
     }
 
-    /// The number of columns, from 1 to 4,096.
+    /// The number of columns, from 1 to [`MAX_SIDE`](crate::MAX_SIDE).
     pub fn width(&self) -> u32
         ensures width { result ≡ self.now.width }
         ensures limits { IsWithinLimits self.now.width self.now.height }
@@ -69,7 +70,7 @@ impl Terrain {
         self.width
     }
 
-    /// The number of rows, from 1 to 4,096.
+    /// The number of rows, from 1 to [`MAX_SIDE`](crate::MAX_SIDE).
     pub fn height(&self) -> u32
         ensures height { result ≡ self.now.height }
         ensures limits { IsWithinLimits self.now.width self.now.height }
@@ -112,7 +113,7 @@ impl Terrain {
     pub fn step(&self, cell: Cell, by: Move) -> Option<Cell>
         requires { IsInside self.now cell }
         ensures inside { IfSome result (λ to. IsTarget cell by to × IsInside self.now to) }
-        ensures outside { IfNone result ((to : Cell) → IsTarget cell by to → IsInside self.now to → ⊥) }
+        ensures outside { IfNone result (LeadsOutside self.now cell by) }
     {
         let _ = &self.width;
         let to = target(cell, by)?;
@@ -149,8 +150,9 @@ impl Terrain {
     fn numbered(&self, cell: Cell, number: u8) -> Option<(Move, Cell)>
         requires inside { IsInside self.now cell }
         requires number { number < 8 }
-        ensures legal { IfSome result (λ pair. IsLegal self.now cell pair.0 pair.1 × (number_of pair.0 ≡ number)) }
-        ensures illegal { IfNone result ((move : Move) (to : Cell) → number_of move ≡ number → IsLegal self.now cell move to → ⊥) }
+        ensures legal { IfSome result (λ pair. IsLegal self.now cell pair.0 pair.1) }
+        ensures numbered { IfSome result (λ pair. number_of pair.0 ≡ number) }
+        ensures illegal { IfNone result (NoneIsNumbered self.now cell number) }
     {
         let by = Move::of(number)?;
         let to = self.step(cell, by)?;
@@ -173,7 +175,7 @@ impl Terrain {
 
     /// Whether both cells in the column of the one and the row of the other are passable.
     fn corners_are_free(&self, from: Cell, to: Cell) -> bool
-        ensures { IsTrue result ↔ (IsPassable self.now (corner from to) × IsPassable self.now (corner to from)) }
+        ensures { IsTrue result ↔ HasFreeCorners self.now from to }
     {
         self.passable(Cell { x: from.x, y: to.y }) && self.passable(Cell { x: to.x, y: from.y })
     }
@@ -214,7 +216,8 @@ impl Terrain {
     fn is_free(&self, cell: Cell, number: u8) -> bool
         requires inside { IsInside self.now cell }
         requires number { number < 8 }
-        ensures { (move : Move) → number_of move ≡ number → (IsTrue result ↔ HasFree self.now cell move) }
+        ensures { (move : Move) → number_of move ≡ number
+            → (IsTrue result ↔ HasFree self.now cell move) }
     {
         let _ = &self.width;
         let Some(by) = Move::of(number) else {
@@ -231,7 +234,8 @@ impl Terrain {
         requires whole { length masks.old ≡ self.now.width * self.now.height }
         requires columns { (columns.start ≤ columns.end) × (columns.end ≤ self.now.width) }
         requires rows { (rows.start ≤ rows.end) × (rows.end ≤ self.now.height) }
-        ensures { WritesMasks self.now columns.start columns.end rows.start rows.end masks.old masks.new }
+        ensures { WritesMasks self.now columns.start columns.end rows.start rows.end
+            masks.old masks.new }
     {
         for y in rows.start..rows.end {
             self.write_row(columns.start, columns.end, y, masks);
@@ -261,7 +265,7 @@ impl Terrain {
         ensures place { result ≡ place_of self.now.width cell }
         ensures inside { result < length self.now.passable }
     {
-        (u32::from(cell.y) * self.width + u32::from(cell.x)) as usize
+        place(self.width, cell)
     }
 }
 
@@ -269,7 +273,8 @@ impl Terrain {
 /// passable cells.
 fn is_legal_among(mask: u8, number: u8) -> bool
     requires { number < 8 }
-    ensures { (move : Move) → number_of move ≡ number → (IsTrue result ↔ IsLegalAmong mask move) }
+    ensures { (move : Move) → number_of move ≡ number
+        → (IsTrue result ↔ IsLegalAmong mask move) }
 {
     match number {
         0 | 2 | 4 | 6 => has_bit(mask, number),
@@ -290,8 +295,8 @@ fn has_bit(mask: u8, number: u8) -> bool
 
 /// The cell that the move leads to, on a grid without a lower or right end.
 fn target(cell: Cell, by: Move) -> Option<Cell>
-    requires column { cell.x < 4096 }
-    requires row { cell.y < 4096 }
+    requires column { cell.x < MAX_SIDE }
+    requires row { cell.y < MAX_SIDE }
     ensures inside { IfSome result (IsTarget cell by) }
     ensures outside { IfNone result ((to : Cell) → IsTarget cell by to → ⊥) }
 {

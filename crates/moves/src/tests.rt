@@ -1,49 +1,14 @@
 //! Small maps, written as their rows with `/` between them.
 
-ghost use Rattle.std.specs.Prelude.{◌≡◌, ◌*◌, IfOk};
-ghost use Rattle.moves.specs.Maps.{IsWithinLimits};
-
-use crate::{Cell, Grid, Move, MoveSet};
-use std::alloc::{AllocError, Global};
+use crate::{Cell, Grid, Move, MoveSet, place};
+use std::alloc::AllocError;
 use std::process::Abort;
-
-const MOVES: [Move; 8] = [
-    Move::N,
-    Move::NE,
-    Move::E,
-    Move::SE,
-    Move::S,
-    Move::SW,
-    Move::W,
-    Move::NW,
-];
-
-/// The grid of those rows, `.` for a passable cell.
-fn grid_of(
-    rt: &impl Abort,
-    alloc: Global,
-    width: u32,
-    height: u32,
-    rows: &str,
-) -> Result<Grid, AllocError>
-    requires { IsWithinLimits width height }
-    ensures { IfOk result (λ grid. (grid.width ≡ width) × (grid.height ≡ height)) }
-{
-    let mut cells = Vec::new(alloc);
-    for byte in rows.as_bytes() {
-        if *byte != b'/' {
-            cells.push(*byte == b'.')?;
-        }
-    }
-    assert_eq!(rt; cells.len(), (width * height) as usize);
-    Grid::of_cells(alloc, width, height, cells)
-}
 
 /// The legal moves of a cell as bits, as `legal` tells them one by one.
 fn told_one_by_one(grid: &Grid, cell: Cell) -> u8 {
     let mut mask = 0u8;
     if grid.inside(cell) {
-        for by in MOVES {
+        for by in Move::ALL {
             if grid.legal(cell, by) {
                 mask |= 1 << by.number();
             }
@@ -86,7 +51,7 @@ fn corners_are_not_cut(rt: HostRuntime) -> Result<(), AllocError> {
     let table = [
         (2, 2, "../..", 0, 0, 0b0001_1100),
         (2, 2, ".@/..", 0, 0, 0b0001_0000),
-        (2, 2, "..@.", 0, 0, 0b0000_0100),
+        (2, 2, "../@.", 0, 0, 0b0000_0100),
         (2, 2, ".@/@.", 0, 0, 0),
         (2, 2, ".@/@.", 1, 1, 0),
         (2, 2, "@./..", 0, 0, 0),
@@ -101,7 +66,7 @@ fn corners_are_not_cut(rt: HostRuntime) -> Result<(), AllocError> {
         (1, 1, ".", 0, 0, 0),
     ];
     for (width, height, rows, x, y, want) in table {
-        let grid = grid_of(&rt, rt.alloc(), width, height, rows)?;
+        let grid = Grid::of_rows(rt.alloc(), width, height, rows)?;
         assert_eq!(rt;
             told_one_by_one(&grid, Cell { x, y }),
             want,
@@ -149,8 +114,33 @@ fn setting_a_cell_changes_it_alone(rt: HostRuntime) -> Result<(), AllocError> {
 }
 
 #[test]
+fn moves_have_names(rt: HostRuntime) -> Result<(), AllocError> {
+    let names = ["N", "NE", "E", "SE", "S", "SW", "W", "NW"];
+    for (by, name) in Move::ALL.iter().zip(names) {
+        assert_eq!(rt; by.to_string(rt.alloc())?.as_str(), name);
+    }
+    Ok(())
+}
+
+#[test]
+fn drawn_cells_are_passable(rt: HostRuntime) -> Result<(), AllocError> {
+    let cells = [true, true, false, true, false, true];
+    let drawn = Grid::of_rows(rt.alloc(), 3, 2, "..@/.T.")?;
+    let listed = Grid::of_cells(rt.alloc(), 3, 2, cells.to_vec(rt.alloc())?)?;
+    for (x, y) in [(0, 0), (1, 0), (2, 0), (0, 1), (1, 1), (2, 1)] {
+        let cell = Cell { x, y };
+        let place = place(3, cell);
+        assert!(rt; place < cells.len());
+        assert_eq!(rt; drawn.passable(cell), cells[place]);
+        assert_eq!(rt; listed.passable(cell), cells[place]);
+    }
+    assert_eq!(rt; drawn.passable_count(), 4);
+    Ok(())
+}
+
+#[test]
 fn moves_have_numbers(rt: HostRuntime) {
-    for (number, by) in MOVES.iter().enumerate() {
+    for (number, by) in Move::ALL.iter().enumerate() {
         assert_eq!(rt; usize::from(by.number()), number);
         assert_eq!(rt; Move::of(by.number()), Some(*by));
         assert_eq!(rt; by.is_diagonal(), number % 2 == 1);

@@ -13,7 +13,8 @@ pub loop-number-preserved : goal.loop-number-preserved
 loop-number-preserved c =
     let P = HasFree c.args.self.now c.args.cell in
     elim c.if-is_free.branch [
-      | then-is_free w ↦ rw w.mask-is (mask_yes P _ _ c.loop-number-test.true c.loop-number.invariant (λ move e. (c.is_free.ensures move e).0 w.if-is_free.true))
+      | then-is_free w ↦
+          rw w.mask-is (mask_yes P _ _ c.loop-number-test.true c.loop-number.invariant (λ move e. (c.is_free.ensures move e).0 w.if-is_free.true))
       | else-is_free w ↦
           rw w.mask-is (mask_no P _ _ c.loop-number.invariant (λ move e has. absurd (false≢true (sym w.if-is_free.false ∙ (c.is_free.ensures move e).1 has))))
     ]

@@ -15,7 +15,8 @@ loop-number-preserved c =
     let among = legal_among c.args.self.now c.args.cell _ (c.passable.ensures.0 c.if-not-passable.false) c.free_mask-around.ensures in
     elim c.if-is_legal_among.branch [
       | then-is_legal_among w ↦
-          rw w.mask-is (mask_yes P _ _ c.loop-number-test.true c.loop-number.invariant (λ move e. (among move).0 ((c.is_legal_among.ensures move e).0 w.if-is_legal_among.true)))
+          rw w.mask-is (mask_yes P _ _ c.loop-number-test.true c.loop-number.invariant
+          (λ move e. (among move).0 ((c.is_legal_among.ensures move e).0 w.if-is_legal_among.true)))
       | else-is_legal_among w ↦
           rw w.mask-is (mask_no P _ _ c.loop-number.invariant
           (λ move e has. absurd (false≢true (sym w.if-is_legal_among.false ∙ (c.is_legal_among.ensures move e).1 ((among move).1 has)))))

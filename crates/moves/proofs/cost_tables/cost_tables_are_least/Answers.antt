@@ -1,5 +1,0 @@
-use Rattle.moves.proofs.TableLaws.{tables_are_least}
-use Rattle.moves.proofs.cost_tables.cost_tables_are_least.Goals as goal
-
-pub returns : goal.returns
-returns c = tables_are_least

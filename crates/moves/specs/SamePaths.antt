@@ -1,0 +1,25 @@
+-- What paths a map has depends on its passable cells alone.
+use Rattle.std.specs.Prelude.{◌↔◌, List, Option}
+use Rattle.root_cost.specs.declared.Cost.{Cost}
+use Rattle.moves.specs.declared.Cell.{Cell}
+use Rattle.moves.specs.declared.Move.{Move}
+use Rattle.moves.specs.Maps.{Map, IsPassable}
+use Rattle.moves.specs.Moves.{IsLegal}
+use Rattle.moves.specs.Paths.{Leads, IsBest, IsLeastCost}
+use Rattle.moves.specs.FirstSets.{IsFirstMove}
+
+-- the same cells are passable in both maps, whatever their sides are
+abbrev pub SamePassable : Map → Map → Type 0
+SamePassable a b = (cell : Cell) → IsPassable a cell ↔ IsPassable b cell
+
+-- both maps have the same legal moves, paths, best paths, least costs and first moves
+pub record HaveSamePaths (a b : Map) : Type 0 where
+  pub moves : (from : Cell) (move : Move) (to : Cell) → IsLegal a from move to ↔ IsLegal b from move to
+  pub paths : (from : Cell) (moves : List Move) (to : Cell) → Leads a from moves to ↔ Leads b from moves to
+  pub best : (from : Cell) (moves : List Move) (to : Cell) → IsBest a from moves to ↔ IsBest b from moves to
+  pub costs : (from to : Cell) (cost : Option Cost) → IsLeastCost a from to cost ↔ IsLeastCost b from to cost
+  pub first : (from to : Cell) (move : Move) → IsFirstMove a from to move ↔ IsFirstMove b from to move
+
+-- maps that have the same passable cells have the same paths
+abbrev pub PassableCellsDecidePaths : Type 0
+PassableCellsDecidePaths = (a b : Map) → SamePassable a b → HaveSamePaths a b
