@@ -1,9 +1,7 @@
-pub mod LineLemmas
-pub mod WordLemmas
-pub mod HeaderLemmas
 pub mod SideLemmas
 pub mod RowLemmas
 pub mod MapLemmas
-pub mod CanonicalLemmas
 pub mod WritingLemmas
+pub mod CanonicalLemmas
 pub mod AcceptedLemmas
+pub mod RefusedLemmas

@@ -3,12 +3,13 @@ use Rattle.std.proofs.Common.{◌≡◌, ℕ, suc, ◌+◌, ◌-◌, ◌*◌, �
 use Rattle.std.proofs.lemmas.Bool.{cases_Bool, ltb-true}
 use Rattle.std.proofs.lemmas.List.{drop_more, drop_all, take_all, take_more_set, take-set, get_or-set_same, length-set, drop-drop}
 use Rattle.std.proofs.lemmas.List.Sums.{count_by_more_yes, count_by_more_no}
+use Rattle.text_lines.specs.Judging.{checked}
+use Rattle.text_lines.proofs.JudgingLemmas.{checked_ok}
 use Rattle.map_read.specs.declared.fault.MapFault.{MapFault}
-use Rattle.map_read.specs.declared.fault.MapFault.TheVariants.{MissingRows, TooManyCells}
-use Rattle.map_read.specs.declared.rows.CellKind.{CellKind}
-use Rattle.map_read.specs.declared.rows.CellKind.TheVariants.{Free, Wall, Sea, Other}
-use Rattle.map_read.specs.Lines.{is_blank}
-use Rattle.map_read.specs.MapText.{kind_of, cell_of, free_in, cells_in, row_in, rows_in, extra_in}
+use Rattle.map_read.specs.declared.fault.MapFault.TheVariants.{BadCell, Water, MissingRows, TooManyCells}
+use Rattle.text_lines.specs.Words.{is_blank}
+use Rattle.map_read.specs.MapText.{is_passable_byte, is_blocked_byte, is_water_byte, cell_of, free_in, cells_in, row_in, rows_in, extra_in}
+use Rattle.map_read.specs.Accepted.{stands_for}
 
 -- what has been read of a row: what follows gives what the whole row gives
 pub record IsFilledTo (y start x free : ℕ) (row : List ℕ) (before cells : List Bool) : Type 0 where
@@ -16,14 +17,50 @@ pub record IsFilledTo (y start x free : ℕ) (row : List ℕ) (before cells : Li
   pub count : free ≡ free_in (take (start + x) cells)
   pub limit : free ≤ 32768
 
-pub cell_limit : (x y byte free : ℕ) (kind : CellKind) (passable : Bool) → cell_of x y byte free kind ≡ Ok passable → free ≤ 32768 → free + cond passable 1 0 ≤ 32768
-cell_limit x y byte free Free passable e limit = elim (cases_Bool (ltb free 32768)) [
-  | inl below ↦ let lt : free < 32768 = ltb-true free 32768 below in elim passable as (λ (p : Bool). free + cond p 1 0 ≤ 32768) [ true ↦ omega arith | false ↦ omega arith ]
-  | inr full ↦ let no' : Err (TooManyCells x y) ≡ Ok passable = rw full at e in absurd cc
+-- what a cell's byte says
+pub cell_free : (x y byte free : ℕ) → is_passable_byte byte ≡ true → cell_of x y byte free ≡ checked (ltb free 32768) true (TooManyCells x y)
+unfolding cell_of
+cell_free x y byte free e = rw e refl
+
+pub cell_wall : (x y byte free : ℕ) → is_passable_byte byte ≡ false → is_blocked_byte byte ≡ true → cell_of x y byte free ≡ Ok false
+unfolding cell_of
+cell_wall x y byte free e f = rw (e, f) refl
+
+pub cell_sea : (x y byte free : ℕ) → is_passable_byte byte ≡ false → is_blocked_byte byte ≡ false → is_water_byte byte ≡ true → cell_of x y byte free ≡ Err (Water x y)
+unfolding cell_of
+cell_sea x y byte free e f g = rw (e, f, g) refl
+
+pub cell_other : (x y byte free : ℕ) → is_passable_byte byte ≡ false → is_blocked_byte byte ≡ false → is_water_byte byte ≡ false
+    → cell_of x y byte free ≡ Err (BadCell x y byte)
+unfolding cell_of
+cell_other x y byte free e f g = rw (e, f, g) refl
+
+-- a cell that is not refused: its byte stands for it, and there is room for it
+pub record IsCell (byte free : ℕ) (passable : Bool) : Type 0 where
+  pub stands : stands_for byte passable ≡ true
+  pub limit : free + cond passable 1 0 ≤ 32768
+
+pub cell_is : (x y byte free : ℕ) (passable : Bool) → free ≤ 32768 → cell_of x y byte free ≡ Ok passable → IsCell byte free passable
+cell_is x y byte free passable limit e = elim (cases_Bool (is_passable_byte byte)) [
+  | inl free-is ↦
+      let a : checked (ltb free 32768) true (TooManyCells x y) ≡ Ok passable = sym (cell_free x y byte free free-is) ∙ e in
+      let b = checked_ok (ltb free 32768) true passable (TooManyCells x y) a in
+      let lt : free < 32768 = ltb-true free 32768 b.0 in
+      rw (← b.1) (record { stands = free-is; limit = omega arith })
+  | inr other ↦ elim (cases_Bool (is_blocked_byte byte)) [
+    | inl wall ↦
+        let a : Ok false ≡ Ok passable = sym (cell_wall x y byte free other wall) ∙ e in
+        let p-is : false ≡ passable = cc in
+        rw (← p-is) (record { stands = wall; limit = omega arith })
+    | inr none ↦ elim (cases_Bool (is_water_byte byte)) [
+      | inl water ↦ let a : Err (Water x y) ≡ Ok passable = sym (cell_sea x y byte free other none water) ∙ e in absurd cc
+      | inr bad ↦ let a : Err (BadCell x y byte) ≡ Ok passable = sym (cell_other x y byte free other none bad) ∙ e in absurd cc
+    ]
+  ]
 ]
-cell_limit x y byte free Wall passable e limit = let p-is : passable ≡ false = cc in rw p-is (omega arith)
-cell_limit x y byte free Sea passable e limit = absurd cc
-cell_limit x y byte free Other passable e limit = absurd cc
+
+pub cell_limit : (x y byte free : ℕ) (passable : Bool) → cell_of x y byte free ≡ Ok passable → free ≤ 32768 → free + cond passable 1 0 ≤ 32768
+cell_limit x y byte free passable e limit = (cell_is x y byte free passable limit e).limit
 
 count_more : (cells : List Bool) (place : ℕ) (passable : Bool) → place < length cells → free_in (take (place + 1) (set cells place passable)) ≡ free_in (take place cells) + cond passable 1 0
 count_more cells place true lt =
@@ -35,18 +72,18 @@ count_more cells place false lt =
     omega (arith, more, same)
 
 -- one cell more
-cells_step : (x y byte free : ℕ) (before : List Bool) (row : List ℕ) (passable : Bool) → free ≡ free_in before → cell_of x y byte free (kind_of byte) ≡ Ok passable
+cells_step : (x y byte free : ℕ) (before : List Bool) (row : List ℕ) (passable : Bool) → free ≡ free_in before → cell_of x y byte free ≡ Ok passable
     → cells_in y x before (byte ∷ row) ≡ cells_in y (x + 1) (before ++ passable ∷ []) row
 unfolding cells_in
 cells_step x y byte free before row passable count e =
-    let e' : cell_of x y byte (free_in before) (kind_of byte) ≡ Ok passable = rw (← count) e in
+    let e' : cell_of x y byte (free_in before) ≡ Ok passable = rw (← count) e in
     rw e' refl
 
-cells_fault : (x y byte free : ℕ) (before : List Bool) (row : List ℕ) (fault : MapFault) → free ≡ free_in before → cell_of x y byte free (kind_of byte) ≡ Err fault
+cells_fault : (x y byte free : ℕ) (before : List Bool) (row : List ℕ) (fault : MapFault) → free ≡ free_in before → cell_of x y byte free ≡ Err fault
     → cells_in y x before (byte ∷ row) ≡ Err fault
 unfolding cells_in
 cells_fault x y byte free before row fault count e =
-    let e' : cell_of x y byte (free_in before) (kind_of byte) ≡ Err fault = rw (← count) e in
+    let e' : cell_of x y byte (free_in before) ≡ Err fault = rw (← count) e in
     rw e' refl
 
 no_cells : (x y : ℕ) (before : List Bool) → cells_in y x before [] ≡ Ok before
@@ -59,7 +96,7 @@ added_is added true yes' no' = yes' refl
 added_is added false yes' no' = no' refl
 
 pub filled_more : (y start x free added byte : ℕ) (passable : Bool) (row : List ℕ) (before cells : List Bool)
-    → x < length row → byte ≡ get_or row x 0 → start + x < length cells → cell_of x y byte free (kind_of byte) ≡ Ok passable
+    → x < length row → byte ≡ get_or row x 0 → start + x < length cells → cell_of x y byte free ≡ Ok passable
     → (passable ≡ true → added ≡ 1) → (passable ≡ false → added ≡ 0)
     → IsFilledTo y start x free row before cells → IsFilledTo y start (x + 1) (free + added) row before (set cells (start + x) passable)
 filled_more y start x free added byte passable row before cells lt is inside e one none so_far =
@@ -72,11 +109,11 @@ filled_more y start x free added byte passable row before cells lt is inside e o
     record {
       value = rw (place, front) (sym step ∙ so_far.value);
       count = rw (place, count_more cells (start + x) passable inside, ← so_far.count) next-is;
-      limit = rw next-is (cell_limit x y byte free (kind_of byte) passable e so_far.limit);
+      limit = rw next-is (cell_limit x y byte free passable e so_far.limit);
     }
 
 pub filled_fault : (y start x free byte : ℕ) (fault : MapFault) (row : List ℕ) (before cells : List Bool)
-    → x < length row → byte ≡ get_or row x 0 → cell_of x y byte free (kind_of byte) ≡ Err fault → IsFilledTo y start x free row before cells
+    → x < length row → byte ≡ get_or row x 0 → cell_of x y byte free ≡ Err fault → IsFilledTo y start x free row before cells
     → cells_in y 0 before row ≡ Err fault
 filled_fault y start x free byte fault row before cells lt is e so_far =
     let parts : drop x row ≡ byte ∷ drop (x + 1) row = rw is (drop_more row x 0 lt) in

@@ -1,17 +1,19 @@
 -- All lengths above 4,096 give one answer, and what the four lines of the header give.
 use Rattle.std.proofs.Common.{◌≡◌, ℕ, ◌*◌, true, false, leb, ◌&&◌, List, [], ◌∷◌, get_or, drop, Option, Some, None, Result, Ok, Err, refl, sym, ap, ◌∙◌, ◌⊎◌, arith, inl, inr}
-use Rattle.std.specs.Prelude.{option_and_then, codes}
+use Rattle.std.specs.Prelude.{option_and_then, codes, if◌then◌else◌}
 use Rattle.std.specs.Option.{option_map}
+use Rattle.std.specs.Str.{bytes_eq}
 use Rattle.std.proofs.lemmas.Bool.{cases_lt, cases_Bool, lt-leb, and_right, and_left, and_parts, leb-true, and_from, le-leb}
 use Rattle.std.proofs.lemmas.List.{get_or-drop, drop-drop}
+use Rattle.std.proofs.lemmas.Slice.Eq.{bytes_eq-Decides}
 use Rattle.moves.specs.Maps.{IsWithinLimits}
-use Rattle.map_read.specs.Inside.{capped, capped_side}
+use Rattle.text_lines.specs.Judging.{◌>>=◌, wanted}
+use Rattle.text_lines.specs.Numbers.{number_in}
+use Rattle.text_lines.specs.Words.{words_of, two_of, has_words}
+use Rattle.map_read.specs.Inside.{capped}
 use Rattle.map_read.specs.declared.fault.MapFault.{MapFault}
 use Rattle.map_read.specs.declared.fault.MapFault.TheVariants.{Header, Size}
-use Rattle.map_read.specs.declared.header.Side.{Side}
-use Rattle.map_read.specs.declared.header.Side.TheVariants.{Height, Width}
-use Rattle.map_read.specs.declared.header.Sides.{Sides}
-use Rattle.map_read.specs.MapText.{◌>>=◌, wanted, checked, side_in, length_of, both_sides, is_side_length, are_map_sides, sides_from, has_words, line_at, header_in}
+use Rattle.map_read.specs.MapText.{number_named, other_side, judged_sides, sides_given, sides_from, is_side_length, are_map_sides, line_at, header_in}
 
 -- a length is kept, or neither it nor what is given for it is one of a side
 capped_cases : (n : ℕ) → (capped n ≡ n) ⊎ ((is_side_length (capped n) ≡ false) × (is_side_length n ≡ false))
@@ -20,86 +22,102 @@ capped_cases n = elim (cases_lt 4096 n) [
   | inr within ↦ inl (omega arith)
 ]
 
--- what follows the first side
-abbrev after_first : Side → Option Side → Result Sides MapFault
-after_first first third = wanted (option_and_then (both_sides first) third) (Header 3) >>= λ sides. checked (are_map_sides sides) sides (Size 3)
-
-abbrev judged : ℕ → ℕ → Result Sides MapFault
-judged w h = checked (are_map_sides (record { width = w; height = h })) (record { width = w; height = h }) (Size 3)
-
-bad_width : (w h : ℕ) → is_side_length w ≡ false → judged w h ≡ Err (Size 3)
+bad_width : (w h : ℕ) → is_side_length w ≡ false → judged_sides w h ≡ Err (Size 3)
 bad_width w h e = rw e refl
 
-bad_height : (w h : ℕ) → is_side_length h ≡ false → judged w h ≡ Err (Size 3)
+bad_height : (w h : ℕ) → is_side_length h ≡ false → judged_sides w h ≡ Err (Size 3)
 bad_height w h e =
-    let none : are_map_sides (record { width = w; height = h }) ≡ false = and_left _ _ (and_right (is_side_length w) _ e) in
+    let none : are_map_sides w h ≡ false = and_left _ _ (and_right (is_side_length w) _ e) in
     rw none refl
 
-width_capped : (w h : ℕ) → judged (capped w) h ≡ judged w h
+width_capped : (w h : ℕ) → judged_sides (capped w) h ≡ judged_sides w h
 width_capped w h = elim (capped_cases w) [
-  | inl same ↦ ap (λ (n : ℕ). judged n h) same
+  | inl same ↦ ap (λ (n : ℕ). judged_sides n h) same
   | inr off ↦ bad_width (capped w) h off.0 ∙ sym (bad_width w h off.1)
 ]
 
-height_capped : (w h : ℕ) → judged w (capped h) ≡ judged w h
+height_capped : (w h : ℕ) → judged_sides w (capped h) ≡ judged_sides w h
 height_capped w h = elim (capped_cases h) [
-  | inl same ↦ ap (λ (n : ℕ). judged w n) same
+  | inl same ↦ ap (λ (n : ℕ). judged_sides w n) same
   | inr off ↦ bad_height w (capped h) off.0 ∙ sym (bad_height w h off.1)
 ]
 
-second_capped : (first : Side) (third : Option Side) → after_first first (option_map capped_side third) ≡ after_first first third
-second_capped (Height h) None = refl
-second_capped (Height h) (Some (Height g)) = refl
-second_capped (Height h) (Some (Width w)) = width_capped w h
-second_capped (Width w) None = refl
-second_capped (Width w) (Some (Height h)) = height_capped w h
-second_capped (Width w) (Some (Width v)) = refl
+bad_one : (n : ℕ) (other : Option ℕ) → is_side_length n ≡ false → other_side n other ≡ Err (Size 2)
+bad_one n other e = rw e refl
 
-third_capped : (second third : Option Side) → sides_from second (option_map capped_side third) ≡ sides_from second third
-unfolding sides_from
-third_capped None third = refl
-third_capped (Some side) third = elim (cases_Bool (is_side_length (length_of side))) [
-  | inl good ↦ rw good (second_capped side third)
+good_one : (n : ℕ) (other : Option ℕ) → is_side_length n ≡ true → other_side n other ≡ wanted other (Header 3)
+good_one n other e = rw e refl
+
+one_capped : (n : ℕ) (other : Option ℕ) → other_side (capped n) other ≡ other_side n other
+one_capped n other = elim (capped_cases n) [
+  | inl same ↦ ap (λ (k : ℕ). other_side k other) same
+  | inr off ↦ bad_one (capped n) other off.0 ∙ sym (bad_one n other off.1)
+]
+
+-- what follows may give one answer at a length and at what is given for it
+after_wanted : (next : ℕ → Result (ℕ × ℕ) MapFault) → ((k : ℕ) → next (capped k) ≡ next k) → (other : Option ℕ)
+    → (wanted (option_map capped other) (Header 3) >>= next) ≡ (wanted other (Header 3) >>= next)
+after_wanted next same None = refl
+after_wanted next same (Some k) = same k
+
+other_capped : (next : ℕ → Result (ℕ × ℕ) MapFault) → ((k : ℕ) → next (capped k) ≡ next k) → (n : ℕ) (other : Option ℕ)
+    → (other_side n (option_map capped other) >>= next) ≡ (other_side n other >>= next)
+other_capped next same n other = elim (cases_Bool (is_side_length n)) [
+  | inl good ↦ rw good (after_wanted next same other)
   | inr bad ↦ rw bad refl
 ]
 
-bad_first : (side : Side) (third : Option Side) → is_side_length (length_of side) ≡ false → sides_from (Some side) third ≡ Err (Size 2)
-unfolding sides_from
-bad_first side third bad = rw bad refl
+bind_same : (r : Result ℕ MapFault) (f g : ℕ → Result (ℕ × ℕ) MapFault) → ((x : ℕ) → f x ≡ g x) → (r >>= f) ≡ (r >>= g)
+bind_same (Ok x) f g same = same x
+bind_same (Err fault) f g same = refl
 
-first_capped : (second third : Option Side) → sides_from (option_map capped_side second) third ≡ sides_from second third
-unfolding sides_from
-first_capped None third = refl
-first_capped (Some (Height n)) third = elim (capped_cases n) [
-  | inl same ↦ ap (λ (k : ℕ). sides_from (Some (Height k)) third) same
-  | inr off ↦ bad_first (Height (capped n)) third off.0 ∙ sym (bad_first (Height n) third off.1)
-]
-first_capped (Some (Width n)) third = elim (capped_cases n) [
-  | inl same ↦ ap (λ (k : ℕ). sides_from (Some (Width k)) third) same
-  | inr off ↦ bad_first (Width (capped n)) third off.0 ∙ sym (bad_first (Width n) third off.1)
+pub sides_capped : (second_height second_width third_height third_width : Option ℕ)
+    → sides_given (option_map capped second_height) (option_map capped second_width) (option_map capped third_height) (option_map capped third_width)
+    ≡ sides_given second_height second_width third_height third_width
+unfolding sides_given
+sides_capped (Some h) second_width third_height third_width =
+    bind_same (other_side (capped h) (option_map capped third_width)) (λ w. judged_sides w (capped h)) (λ w. judged_sides w h) (λ w. height_capped w h)
+    ∙ ap (λ (r : Result ℕ MapFault). r >>= λ w. judged_sides w h) (one_capped h (option_map capped third_width))
+    ∙ other_capped (λ w. judged_sides w h) (λ w. width_capped w h) h third_width
+sides_capped None (Some w) third_height third_width =
+    bind_same (other_side (capped w) (option_map capped third_height)) (λ h. judged_sides (capped w) h) (λ h. judged_sides w h) (λ h. width_capped w h)
+    ∙ ap (λ (r : Result ℕ MapFault). r >>= λ h. judged_sides w h) (one_capped w (option_map capped third_height))
+    ∙ other_capped (λ h. judged_sides w h) (λ h. height_capped w h) w third_height
+sides_capped None None third_height third_width = refl
+
+-- ---- names
+
+named_once : (two : Option (List ℕ × List ℕ)) (name other : List ℕ) (n : ℕ) → bytes_eq name other ≡ false
+    → option_and_then (λ t. if bytes_eq t.0 name then number_in t.1 else None) two ≡ Some n
+    → option_and_then (λ t. if bytes_eq t.0 other then number_in t.1 else None) two ≡ None
+named_once None name other n differ e = refl
+named_once (Some (word, digits)) name other n differ e = elim (cases_Bool (bytes_eq word name)) [
+  | inl same ↦
+      let word-is : word ≡ name = (bytes_eq-Decides word name).0 same in
+      let not_other : bytes_eq word other ≡ false = rw word-is differ in
+      rw not_other refl
+  | inr not_same ↦ let none : None ≡ Some n = rw not_same at e in absurd cc
 ]
 
-pub sides_capped : (second third : Option Side) → sides_from (option_map capped_side second) (option_map capped_side third) ≡ sides_from second third
-sides_capped second third = first_capped second (option_map capped_side third) ∙ third_capped second third
+-- a line gives a number under one name at most
+pub one_name : (line name other : List ℕ) (n : ℕ) → bytes_eq name other ≡ false → number_named name line ≡ Some n → number_named other line ≡ None
+unfolding number_named
+one_name line name other n differ e = named_once (two_of (words_of line)) name other n differ e
 
 -- ---- the four lines
 
 -- the lines of the header, taken one after another
-pub record AreTaken (lines one two three four : List (List ℕ)) : Type 0 where
+pub record AreTaken (lines one two three : List (List ℕ)) : Type 0 where
   pub first : one ≡ drop 1 lines
   pub second : two ≡ drop 1 one
   pub third : three ≡ drop 1 two
-  pub fourth : four ≡ drop 1 three
 
-module _ (lines one two three four : List (List ℕ)) (taken : AreTaken lines one two three four) where
+module _ (lines one two three : List (List ℕ)) (taken : AreTaken lines one two three) where
   two_is : two ≡ drop 2 lines
   two_is = taken.second ∙ ap (λ (ls : List (List ℕ)). drop 1 ls) taken.first ∙ drop-drop 1 1 lines
 
   three_is : three ≡ drop 3 lines
   three_is = taken.third ∙ ap (λ (ls : List (List ℕ)). drop 1 ls) two_is ∙ drop-drop 1 2 lines
-
-  pub four_is : four ≡ drop 4 lines
-  four_is = taken.fourth ∙ ap (λ (ls : List (List ℕ)). drop 1 ls) three_is ∙ drop-drop 1 3 lines
 
   pub line_two : get_or one 0 [] ≡ line_at lines 2
   line_two = ap (λ (ls : List (List ℕ)). get_or ls 0 []) taken.first ∙ get_or-drop 1 lines 0 []
@@ -111,11 +129,10 @@ module _ (lines one two three four : List (List ℕ)) (taken : AreTaken lines on
   line_four = ap (λ (ls : List (List ℕ)). get_or ls 0 []) three_is ∙ get_or-drop 3 lines 0 []
 
   -- what was made of the second and the third line
-  pub sides_taken : (result : Result Sides MapFault) (second third : Option Side) (line other : List ℕ) → result ≡ sides_from second third
-      → second ≡ option_map capped_side (side_in line) → third ≡ option_map capped_side (side_in other) → line ≡ get_or one 0 [] → other ≡ get_or two 0 []
-      → sides_from (side_in (line_at lines 2)) (side_in (line_at lines 3)) ≡ result
-  sides_taken result second third line other is second-is third-is line-is other-is =
-      rw (is, second-is, third-is, line-is, other-is, line_two, line_three) (sym (sides_capped (side_in (line_at lines 2)) (side_in (line_at lines 3))))
+  pub sides_taken : (result : Result (ℕ × ℕ) MapFault) (second third : List ℕ) → sides_from second third ≡ result
+      → second ≡ get_or one 0 [] → third ≡ get_or two 0 [] → sides_from (line_at lines 2) (line_at lines 3) ≡ result
+  sides_taken result second third is second-is third-is =
+      rw (← line_two, ← line_three, ← second-is, ← third-is) is
 
 abbrev type_words : List (List ℕ)
 type_words = codes "type" ∷ codes "octile" ∷ []
@@ -128,38 +145,43 @@ unfolding header_in
 header_no_type lines no' = rw no' refl
 
 pub header_no_sides : (lines : List (List ℕ)) (fault : MapFault) → has_words type_words (line_at lines 1) ≡ true
-    → sides_from (side_in (line_at lines 2)) (side_in (line_at lines 3)) ≡ Err fault → header_in lines ≡ Err fault
+    → sides_from (line_at lines 2) (line_at lines 3) ≡ Err fault → header_in lines ≡ Err fault
 unfolding header_in
 header_no_sides lines fault kind e = rw (kind, e) refl
 
-pub header_no_map : (lines : List (List ℕ)) (sides : Sides) → has_words type_words (line_at lines 1) ≡ true
-    → sides_from (side_in (line_at lines 2)) (side_in (line_at lines 3)) ≡ Ok sides → has_words map_words (line_at lines 4) ≡ false → header_in lines ≡ Err (Header 4)
+pub header_no_map : (lines : List (List ℕ)) (sides : ℕ × ℕ) → has_words type_words (line_at lines 1) ≡ true
+    → sides_from (line_at lines 2) (line_at lines 3) ≡ Ok sides → has_words map_words (line_at lines 4) ≡ false → header_in lines ≡ Err (Header 4)
 unfolding header_in
 header_no_map lines sides kind e end = rw (kind, e, end) refl
 
-pub header_yes : (lines : List (List ℕ)) (sides : Sides) → has_words type_words (line_at lines 1) ≡ true
-    → sides_from (side_in (line_at lines 2)) (side_in (line_at lines 3)) ≡ Ok sides → has_words map_words (line_at lines 4) ≡ true → header_in lines ≡ Ok sides
+pub header_yes : (lines : List (List ℕ)) (sides : ℕ × ℕ) → has_words type_words (line_at lines 1) ≡ true
+    → sides_from (line_at lines 2) (line_at lines 3) ≡ Ok sides → has_words map_words (line_at lines 4) ≡ true → header_in lines ≡ Ok sides
 unfolding header_in
 header_yes lines sides kind e end = rw (kind, e, end) refl
 
 -- ---- the limits
 
-pub sides_within : (s : Sides) → are_map_sides s ≡ true → IsWithinLimits s.width s.height
-sides_within s e =
-    let all = and_parts (is_side_length s.width && is_side_length s.height) (leb (s.width * s.height) 1048576) e in
-    let both = and_parts (is_side_length s.width) (is_side_length s.height) all.0 in
-    let columns = and_parts (leb 1 s.width) (leb s.width 4096) both.0 in
-    let rows = and_parts (leb 1 s.height) (leb s.height 4096) both.1 in
+pub sides_within : (w h : ℕ) → are_map_sides w h ≡ true → IsWithinLimits w h
+sides_within w h e =
+    let all = and_parts (is_side_length w && is_side_length h) (leb (w * h) 1048576) e in
+    let both = and_parts (is_side_length w) (is_side_length h) all.0 in
+    let columns = and_parts (leb 1 w) (leb w 4096) both.0 in
+    let rows = and_parts (leb 1 h) (leb h 4096) both.1 in
     record {
-      some_columns = leb-true 1 s.width columns.0;
-      some_rows = leb-true 1 s.height rows.0;
-      columns = leb-true s.width 4096 columns.1;
-      rows = leb-true s.height 4096 rows.1;
-      cells = leb-true (s.width * s.height) 1048576 all.1;
+      some_columns = leb-true 1 w columns.0;
+      some_rows = leb-true 1 h rows.0;
+      columns = leb-true w 4096 columns.1;
+      rows = leb-true h 4096 rows.1;
+      cells = leb-true (w * h) 1048576 all.1;
     }
 
-pub within_sides : (w h : ℕ) → IsWithinLimits w h → are_map_sides (record { width = w; height = h }) ≡ true
+pub width_within : (w h : ℕ) → IsWithinLimits w h → is_side_length w ≡ true
+width_within w h within = and_from (leb 1 w) (leb w 4096) (le-leb 1 w within.some_columns) (le-leb w 4096 within.columns)
+
+pub height_within : (w h : ℕ) → IsWithinLimits w h → is_side_length h ≡ true
+height_within w h within = and_from (leb 1 h) (leb h 4096) (le-leb 1 h within.some_rows) (le-leb h 4096 within.rows)
+
+pub within_sides : (w h : ℕ) → IsWithinLimits w h → are_map_sides w h ≡ true
 within_sides w h within =
-    let wide = and_from (leb 1 w) (leb w 4096) (le-leb 1 w within.some_columns) (le-leb w 4096 within.columns) in
-    let tall = and_from (leb 1 h) (leb h 4096) (le-leb 1 h within.some_rows) (le-leb h 4096 within.rows) in
-    and_from (is_side_length w && is_side_length h) (leb (w * h) 1048576) (and_from (is_side_length w) (is_side_length h) wide tall) (le-leb (w * h) 1048576 within.cells)
+    let sides = and_from (is_side_length w) (is_side_length h) (width_within w h within) (height_within w h within) in
+    and_from (is_side_length w && is_side_length h) (leb (w * h) 1048576) sides (le-leb (w * h) 1048576 within.cells)

@@ -1,16 +1,18 @@
 -- The canonical text, cell by cell and row by row.
-use Rattle.std.proofs.Common.{◌≡◌, ℕ, suc, ◌+◌, ◌-◌, ◌*◌, ◌<◌, ◌≤◌, Bool, true, false, List, [], ◌∷◌, ◌++◌, length, get_or, take, drop, refl, sym, ap, ◌∙◌, append_assoc, arith}
+use Rattle.std.proofs.Common.{◌≡◌, ℕ, zero, suc, ◌+◌, ◌-◌, ◌*◌, ◌<◌, ◌≤◌, Bool, true, false, List, [], ◌∷◌, ◌++◌, length, get_or, take, drop, refl, sym, ap, ◌∙◌, append_assoc, arith}
 use Rattle.std.specs.Prelude.{map, codes, IsTrue, ◌↔◌}
 use Rattle.std.specs.Fmt.{decimal}
 use Rattle.std.specs.List.{flat_map}
 use Rattle.std.proofs.lemmas.Bool.{false≢true, false_from_ne_true}
-use Rattle.std.proofs.lemmas.List.{append-nil, map_more, drop-drop, length-drop, get_or-drop}
+use Rattle.std.proofs.lemmas.List.{append-nil, length-append, length-map, length-take, map_more, drop-drop, length-drop, get_or-drop}
 use Rattle.std.proofs.lemmas.Grind.{flat_map-append}
 use Rattle.std.proofs.lemmas.Nat.{mul-add-lt}
 use Rattle.moves.specs.declared.Cell.{Cell}
-use Rattle.moves.specs.Maps.{Map, IsInside, IsPassable, place_of}
-use Rattle.map_read.specs.Inside.{header_text}
-use Rattle.map_read.specs.MapText.{glyph, row_texts, header_texts, with_feed, text_of}
+use Rattle.std.proofs.lemmas.Fmt.{length-decimal-le}
+use Rattle.moves.specs.Maps.{Map, IsInside, IsPassable, IsWithinLimits, place_of}
+use Rattle.text_lines.specs.Lines.{with_feed}
+use Rattle.map_read.specs.Inside.{header_text, row_text}
+use Rattle.map_read.specs.MapText.{glyph, row_texts, header_texts, text_of}
 
 -- the truth value of a cell
 passable_is : (m : Map) (cell : Cell) (p : Bool) → IsInside m cell → (IsTrue p ↔ IsPassable m cell) → p ≡ get_or m.passable (place_of m.width cell) false
@@ -36,7 +38,7 @@ IsWrittenTo m text y = text ++ flat_map with_feed (row_texts m.width (m.height -
 
 -- one row more
 pub written_more : (m : Map) (text next : List ℕ) (y : ℕ) → y < m.height
-    → next ≡ text ++ with_feed (map glyph (take m.width (drop (y * m.width) m.passable))) → IsWrittenTo m text y → IsWrittenTo m next (y + 1)
+    → next ≡ text ++ with_feed (row_text m y) → IsWrittenTo m text y → IsWrittenTo m next (y + 1)
 unfolding row_texts
 written_more m text next y lt next-is so_far =
     let cells = drop (y * m.width) m.passable in
@@ -75,3 +77,31 @@ written_none m text text-is =
     let start : 0 * m.width ≡ 0 = omega arith in
     let all : m.height - 0 ≡ m.height = omega arith in
     rw (start, all, is) (sym (flat_map-append with_feed (header_texts m.width m.height) rows))
+
+-- ---- how long the text is
+
+rows_length : (width rows : ℕ) (cells : List Bool) → length (flat_map with_feed (row_texts width rows cells)) ≤ rows * (width + 1)
+unfolding row_texts
+rows_length width zero cells = omega arith
+rows_length width (suc rows) cells =
+    let row = map glyph (take width cells) in
+    let rest = flat_map with_feed (row_texts width rows (drop width cells)) in
+    let more = rows_length width rows (drop width cells) in
+    omega (arith, more, length-append (row ++ 10 ∷ []) rest, length-append row (10 ∷ []), length-map (take width cells) glyph, length-take width cells)
+
+pub text_length : (m : Map) → IsWithinLimits m.width m.height → length (text_of m) ≤ 2097152
+unfolding text_of
+text_length m within =
+    let rows = row_texts m.width m.height m.passable in
+    let parts = flat_map-append with_feed (header_texts m.width m.height) rows in
+    let whole = ap (λ (text : List ℕ). length text) parts in
+    let joined = length-append (flat_map with_feed (header_texts m.width m.height)) (flat_map with_feed rows) in
+    let header = ap (λ (text : List ℕ). length text) (header_is m.width m.height) in
+    let end = codes "map" ++ 10 ∷ [] in
+    let h = length-decimal-le 4 m.height (omega arith) (omega (arith, within.rows)) (omega (arith, within.rows)) in
+    let w = length-decimal-le 4 m.width (omega arith) (omega (arith, within.columns)) (omega (arith, within.columns)) in
+    let first = length-append (codes "type octile" ++ 10 ∷ codes "height ") (decimal m.height ++ ((10 ∷ codes "width ") ++ (decimal m.width ++ (10 ∷ end)))) in
+    let second = length-append (decimal m.height) ((10 ∷ codes "width ") ++ (decimal m.width ++ (10 ∷ end))) in
+    let third = length-append (10 ∷ codes "width ") (decimal m.width ++ (10 ∷ end)) in
+    let fourth = length-append (decimal m.width) (10 ∷ end) in
+    omega (arith, whole, joined, header, h, w, first, second, third, fourth, rows_length m.width m.height m.passable, within.rows, within.columns, within.cells)

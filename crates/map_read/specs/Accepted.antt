@@ -1,43 +1,57 @@
 -- The texts that stand for a map, told line by line.
-use Rattle.std.specs.Prelude.{◌≡◌, ℕ, zero, suc, ◌+◌, ◌≤◌, ◌⊎◌, ◌↔◌, Bool, true, false, IsTrue, List, [], ◌∷◌, map, length, take, drop, Option, Some, Ok, codes}
+use Rattle.std.specs.Prelude.{◌≡◌, ℕ, zero, suc, ◌+◌, ◌⊎◌, ◌↔◌, Bool, true, false, IsTrue, List, [], ◌∷◌, length, take, drop, Some, Ok, codes}
 use Rattle.std.specs.List.{AllByRecursion}
-use Rattle.moves.specs.Maps.{Map, IsWithinLimits, passable_count}
-use Rattle.map_read.specs.declared.header.Side.{Side}
-use Rattle.map_read.specs.declared.header.Side.TheVariants.{Height, Width}
-use Rattle.map_read.specs.declared.rows.CellKind.{CellKind}
-use Rattle.map_read.specs.declared.rows.CellKind.TheVariants.{Free, Wall}
-use Rattle.map_read.specs.Lines.{lines_of, words_of, is_blank, without_gaps_at_end}
-use Rattle.map_read.specs.MapText.{side_in, line_at, kind_of, map_of}
+use Rattle.moves.specs.Maps.{Map, IsWithinLimits, IsSearchable}
+use Rattle.text_lines.specs.Lines.{lines_of}
+use Rattle.text_lines.specs.Words.{words_of, is_blank, without_gaps_at_end}
+use Rattle.map_read.specs.MapText.{number_named, line_at, is_passable_byte, is_blocked_byte, map_of}
 
--- the kind of byte that stands for a cell
-abbrev pub kind_for : Bool → CellKind
-kind_for true = Free
-kind_for false = Wall
+-- the byte stands for a passable cell, or for a blocked one
+abbrev pub stands_for : ℕ → Bool → Bool
+stands_for byte true = is_passable_byte byte
+stands_for byte false = is_blocked_byte byte
+
+-- each byte stands for the cell at its place, and there are as many of both
+unfoldable pub StandFor : List ℕ → List Bool → Type 0
+StandFor [] [] = Unit {0}
+StandFor [] (cell ∷ cells) = ⊥
+StandFor (byte ∷ bytes) [] = ⊥
+StandFor (byte ∷ bytes) (cell ∷ cells) = (stands_for byte cell ≡ true) × StandFor bytes cells
 
 -- the line is a row of these cells: a byte for each, and spaces and tabs at its end
 pub record IsRow (width : ℕ) (cells : List Bool) (line : List ℕ) : Type 0 where
   pub wide : length cells ≡ width
-  pub bytes : map kind_of (without_gaps_at_end line) ≡ map kind_for cells
+  pub bytes : StandFor (without_gaps_at_end line) cells
 
 -- the lines begin with the rows of these cells, a line for each
 unfoldable pub AreRows : ℕ → ℕ → List Bool → List (List ℕ) → Type 0
 AreRows width zero cells lines = cells ≡ []
 AreRows width (suc rows) cells [] = ⊥
-AreRows width (suc rows) cells (line ∷ lines) = IsRow width (take width cells) line × AreRows width rows (drop width cells) lines
+AreRows width (suc rows) cells (line ∷ lines) =
+    IsRow width (take width cells) line × AreRows width rows (drop width cells) lines
 
--- two lines give one side each, in either order
-abbrev pub AreSides : Option Side → Option Side → ℕ → ℕ → Type 0
-AreSides second third width height =
-    ((second ≡ Some (Height height)) × (third ≡ Some (Width width))) ⊎ ((second ≡ Some (Width width)) × (third ≡ Some (Height height)))
+-- one line gives the height and the other the width
+abbrev pub AreSides : List ℕ → List ℕ → ℕ → ℕ → Type 0
+AreSides one other width height =
+    (number_named (codes "height") one ≡ Some height) × (number_named (codes "width") other ≡ Some width)
+
+-- the first three lines give a width and a height that a map may have; these two stand in either order
+pub record AreSidesGiven (lines : List (List ℕ)) (width height : ℕ) : Type 0 where
+  pub kind : words_of (line_at lines 1) ≡ codes "type" ∷ codes "octile" ∷ []
+  pub sides : AreSides (line_at lines 2) (line_at lines 3) width height
+      ⊎ AreSides (line_at lines 3) (line_at lines 2) width height
+  pub limits : IsWithinLimits width height
+
+-- so they do, and the fourth line is the word `map`
+pub record IsHeader (lines : List (List ℕ)) (width height : ℕ) : Type 0 where
+  pub given : AreSidesGiven lines width height
+  pub mark : words_of (line_at lines 4) ≡ codes "map" ∷ []
 
 -- the text stands for the map
 pub record IsMapText (text : List ℕ) (m : Map) : Type 0 where
-  pub kind : words_of (line_at (lines_of text) 1) ≡ codes "type" ∷ codes "octile" ∷ []
-  pub sides : AreSides (side_in (line_at (lines_of text) 2)) (side_in (line_at (lines_of text) 3)) m.width m.height
-  pub mark : words_of (line_at (lines_of text) 4) ≡ codes "map" ∷ []
-  pub limits : IsWithinLimits m.width m.height
+  pub header : IsHeader (lines_of text) m.width m.height
   pub rows : AreRows m.width m.height m.passable (drop 4 (lines_of text))
-  pub few : passable_count m ≤ 32768
+  pub few : IsSearchable m
   pub after : AllByRecursion (λ line. IsTrue (is_blank line)) (drop (4 + m.height) (lines_of text))
 
 -- a text is accepted exactly where it stands for a map, and then with that map

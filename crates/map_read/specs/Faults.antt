@@ -14,7 +14,8 @@ place_text x y = decimal x ++ codes " " ++ decimal y
 abbrev pub fault_text : MapFault → List ℕ
 fault_text (Header line) = codes "header at line " ++ decimal line
 fault_text (Size line) = codes "size at line " ++ decimal line
-fault_text (RowLength line expected found) = codes "line " ++ decimal line ++ codes " has " ++ decimal found ++ codes " cells" ++ (codes ", not " ++ decimal expected)
+fault_text (RowLength line expected found) =
+    codes "line " ++ decimal line ++ codes " has " ++ decimal found ++ codes " cells" ++ (codes ", not " ++ decimal expected)
 fault_text (BadCell x y byte) = codes "byte " ++ decimal byte ++ codes " at " ++ place_text x y
 fault_text (Water x y) = codes "water at " ++ place_text x y
 fault_text (MissingRows found) = decimal found ++ codes " rows found"

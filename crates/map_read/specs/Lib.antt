@@ -1,5 +1,5 @@
-pub mod Lines
 pub mod MapText
+pub mod Accepted
+pub mod Refused
 pub mod Faults
 pub mod Inside
-pub mod Accepted

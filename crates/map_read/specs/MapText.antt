@@ -1,117 +1,92 @@
 -- The text of a map. (MovingAI map format page)
 -- The rows and the header are judged from the first line to the last, and the first refusal is the answer.
-use Rattle.std.specs.Prelude.{◌≡◌, ℕ, zero, suc, ◌+◌, ◌-◌, ◌*◌, ◌≤◌, Bool, true, false, ◌&&◌, ◌||◌, ◌==◌, nat_lt, nat_le, if◌then◌else◌, List, [], ◌∷◌, ◌++◌, map, length, take, drop, count_by, slice_index_or, Option, Some, None, option_and_then, Result, Ok, Err, codes}
-use Rattle.std.specs.Option.{option_map}
-use Rattle.std.specs.List.{flat_map}
-use Rattle.std.specs.Cmp.Lexicographic.{pointwise}
-use Rattle.std.specs.Str.{all_ascii_digits, bytes_eq}
+use Rattle.std.specs.Prelude.{◌≡◌, ℕ, zero, suc, ◌+◌, ◌-◌, ◌*◌, Bool, true, false, ◌&&◌, ◌||◌, ◌==◌, nat_lt, nat_le, if◌then◌else◌, List, [], ◌∷◌, ◌++◌, map, length, take, drop, count_by, slice_index_or, Option, Some, None, option_and_then, Result, Ok, Err, codes}
+use Rattle.std.specs.Str.{bytes_eq}
 use Rattle.std.specs.Fmt.{decimal}
-use Rattle.moves.specs.Maps.{Map, IsWithinLimits, passable_count}
+use Rattle.moves.specs.Maps.{Map, IsWithinLimits, IsSearchable}
+use Rattle.moves.specs.declared.TheConstants.{MAX_SIDE, MAX_CELLS, MAX_PASSABLE}
+use Rattle.text_lines.specs.Judging.{◌>>=◌, wanted, checked}
+use Rattle.text_lines.specs.Lines.{lines_of, text_with_lines}
+use Rattle.text_lines.specs.Numbers.{number_in}
+use Rattle.text_lines.specs.Words.{words_of, two_of, has_words, is_blank, without_gaps_at_end}
 use Rattle.map_read.specs.declared.fault.MapFault.{MapFault}
 use Rattle.map_read.specs.declared.fault.MapFault.TheVariants.{Header, Size, RowLength, BadCell, Water, MissingRows, Extra, TooManyCells}
-use Rattle.map_read.specs.declared.header.Side.{Side}
-use Rattle.map_read.specs.declared.header.Side.TheVariants.{Height, Width}
-use Rattle.map_read.specs.declared.header.Sides.{Sides}
-use Rattle.map_read.specs.declared.rows.CellKind.{CellKind}
-use Rattle.map_read.specs.declared.rows.CellKind.TheVariants.{Free, Wall, Sea, Other}
-use Rattle.map_read.specs.Lines.{lines_of, words_of, two_of, is_blank, without_gaps_at_end}
-
--- one step after another; the first refusal is the answer
-infixl 10 ◌>>=◌
-abbrev pub ◌>>=◌ : {A B : Type 0} → Result A MapFault → (A → Result B MapFault) → Result B MapFault
-(Ok x) >>= f = f x
-(Err fault) >>= f = Err fault
-
--- the value that is there, or else the refusal
-abbrev pub wanted : {A : Type 0} → Option A → MapFault → Result A MapFault
-wanted (Some x) fault = Ok x
-wanted None fault = Err fault
-
--- the value where the test holds, or else the refusal
-abbrev pub checked : {A : Type 0} → Bool → A → MapFault → Result A MapFault
-checked true x fault = Ok x
-checked false x fault = Err fault
 
 -- ---- the header
 
--- the number that digits write, after the number of the digits before them
-abbrev pub number_after : ℕ → List ℕ → ℕ
-number_after n [] = n
-number_after n (digit ∷ digits) = number_after (10 * n + (digit - 48)) digits
-
--- the number that a word is: one digit or more, leading zeros allowed, of any size
-unfoldable pub number_in : List ℕ → Option ℕ
-number_in word = if nat_lt 0 (length word) && all_ascii_digits word then Some (number_after 0 word) else None
-
--- the side that two words give: `height` or `width`, and a number
-abbrev pub side_named : List ℕ → List ℕ → Option Side
-side_named name number =
-    if bytes_eq name (codes "height") then option_map Height (number_in number)
-    else (if bytes_eq name (codes "width") then option_map Width (number_in number) else None)
-
--- the side that a line of the header gives: two words, and no more
-unfoldable pub side_in : List ℕ → Option Side
-side_in line = option_and_then (λ two. side_named two.0 two.1) (two_of (words_of line))
-
--- how long a side is
-abbrev pub length_of : Side → ℕ
-length_of (Height n) = n
-length_of (Width n) = n
-
--- two lines give both sides where they give one each, in either order
-abbrev pub both_sides : Side → Side → Option Sides
-both_sides (Height h) (Width w) = Some (record { width = w; height = h })
-both_sides (Width w) (Height h) = Some (record { width = w; height = h })
-both_sides (Height g) (Height h) = None
-both_sides (Width v) (Width w) = None
+-- the number that a line gives under a name: the line's words are the name and a number, and no more
+unfoldable pub number_named : List ℕ → List ℕ → Option ℕ
+number_named name line =
+    option_and_then (λ two. if bytes_eq two.0 name then number_in two.1 else None) (two_of (words_of line))
 
 -- a side that a map may have
 abbrev pub is_side_length : ℕ → Bool
-is_side_length n = nat_le 1 n && nat_le n 4096
+is_side_length n = nat_le 1 n && nat_le n MAX_SIDE
 
--- sides that a map may have
-abbrev pub are_map_sides : Sides → Bool
-are_map_sides s = is_side_length s.width && is_side_length s.height && nat_le (s.width * s.height) 1048576
+-- a width and a height that a map may have
+abbrev pub are_map_sides : ℕ → ℕ → Bool
+are_map_sides width height =
+    is_side_length width && is_side_length height && nat_le (width * height) MAX_CELLS
 
--- the sides that lines 2 and 3 give. The form of a line is judged before its range.
-unfoldable pub sides_from : Option Side → Option Side → Result Sides MapFault
-sides_from second third = do
-  one ← wanted second (Header 2)
-  first ← checked (is_side_length (length_of one)) one (Size 2)
-  sides ← wanted (option_and_then (both_sides first) third) (Header 3)
-  checked (are_map_sides sides) sides (Size 3)
+-- line 2 gives one side, and line 3 the other
+abbrev pub other_side : ℕ → Option ℕ → Result ℕ MapFault
+other_side one other = do
+  line_two ← checked (is_side_length one) one (Size 2)
+  wanted other (Header 3)
 
--- the line has exactly these words
-unfoldable pub has_words : List (List ℕ) → List ℕ → Bool
-has_words words line = pointwise bytes_eq (words_of line) words
+-- the width and the height, where a map may have these
+abbrev pub judged_sides : ℕ → ℕ → Result (ℕ × ℕ) MapFault
+judged_sides width height = checked (are_map_sides width height) (width, height) (Size 3)
+
+-- The width and the height, from what lines 2 and 3 give as height and as width.
+-- The form of a line is judged before its range.
+unfoldable pub sides_given : Option ℕ → Option ℕ → Option ℕ → Option ℕ → Result (ℕ × ℕ) MapFault
+sides_given (Some height) second_width third_height third_width = do
+  width ← other_side height third_width
+  judged_sides width height
+sides_given None (Some width) third_height third_width = do
+  height ← other_side width third_height
+  judged_sides width height
+sides_given None None third_height third_width = Err (Header 2)
+
+-- the width and the height that lines 2 and 3 give
+abbrev pub sides_from : List ℕ → List ℕ → Result (ℕ × ℕ) MapFault
+sides_from second third =
+    sides_given (number_named (codes "height") second) (number_named (codes "width") second)
+    (number_named (codes "height") third) (number_named (codes "width") third)
 
 -- The line with that number, from 1. One that is not there is an empty one: no line of the header may be empty,
 -- so it is refused alike.
 abbrev pub line_at : List (List ℕ) → ℕ → List ℕ
 line_at lines number = slice_index_or lines (number - 1) []
 
--- the sides that the first four lines give
-unfoldable pub header_in : List (List ℕ) → Result Sides MapFault
+-- the width and the height that the first four lines give
+unfoldable pub header_in : List (List ℕ) → Result (ℕ × ℕ) MapFault
 header_in lines = do
   kind ← checked (has_words (codes "type" ∷ codes "octile" ∷ []) (line_at lines 1)) lines (Header 1)
-  sides ← sides_from (side_in (line_at lines 2)) (side_in (line_at lines 3))
+  sides ← sides_from (line_at lines 2) (line_at lines 3)
   checked (has_words (codes "map" ∷ []) (line_at lines 4)) sides (Header 4)
 
 -- ---- the rows
 
--- what a byte of a row stands for: `.`, `G` and `S` are passable, `@`, `O` and `T` are blocked, `W` is water
-abbrev pub kind_of : ℕ → CellKind
-kind_of byte =
-    if (byte == 46) || (byte == 71) || (byte == 83) then Free
-    else (if (byte == 64) || (byte == 79) || (byte == 84) then Wall
-    else (if byte == 87 then Sea else Other))
+-- `.`, `G` and `S` are passable
+abbrev pub is_passable_byte : ℕ → Bool
+is_passable_byte byte = (byte == 46) || (byte == 71) || (byte == 83)
+
+-- `@`, `O` and `T` are blocked
+abbrev pub is_blocked_byte : ℕ → Bool
+is_blocked_byte byte = (byte == 64) || (byte == 79) || (byte == 84)
+
+-- `W` is water
+abbrev pub is_water_byte : ℕ → Bool
+is_water_byte byte = byte == 87
 
 -- one cell, where so many cells before it are passable: whether it is. A map has at most 32,768 passable cells.
-abbrev pub cell_of : ℕ → ℕ → ℕ → ℕ → CellKind → Result Bool MapFault
-cell_of x y byte free Free = checked (nat_lt free 32768) true (TooManyCells x y)
-cell_of x y byte free Wall = Ok false
-cell_of x y byte free Sea = Err (Water x y)
-cell_of x y byte free Other = Err (BadCell x y byte)
+unfoldable pub cell_of : ℕ → ℕ → ℕ → ℕ → Result Bool MapFault
+cell_of x y byte free =
+    if is_passable_byte byte then checked (nat_lt free MAX_PASSABLE) true (TooManyCells x y)
+    else (if is_blocked_byte byte then Ok false
+    else (if is_water_byte byte then Err (Water x y) else Err (BadCell x y byte)))
 
 -- how many of the cells are passable
 abbrev pub free_in : List Bool → ℕ
@@ -121,7 +96,7 @@ free_in cells = count_by (λ passable. passable) cells
 unfoldable pub cells_in : ℕ → ℕ → List Bool → List ℕ → Result (List Bool) MapFault
 cells_in y x before [] = Ok before
 cells_in y x before (byte ∷ row) = do
-  passable ← cell_of x y byte (free_in before) (kind_of byte)
+  passable ← cell_of x y byte (free_in before)
   cells_in y (x + 1) (before ++ passable ∷ []) row
 
 -- the bytes of row y: the spaces and tabs at the line's end are dropped, then its length is judged
@@ -155,9 +130,9 @@ ended m (Some line) = Err (Extra line)
 unfoldable pub map_of : List ℕ → Result Map MapFault
 map_of text = do
   sides ← header_in (lines_of text)
-  cells ← rows_in sides.width 0 sides.height [] (drop 4 (lines_of text))
-  ended (record { width = sides.width; height = sides.height; passable = cells })
-      (extra_in (5 + sides.height) (drop (4 + sides.height) (lines_of text)))
+  cells ← rows_in sides.0 0 sides.1 [] (drop 4 (lines_of text))
+  ended (record { width = sides.0; height = sides.1; passable = cells })
+      (extra_in (5 + sides.1) (drop (4 + sides.1) (lines_of text)))
 
 -- ---- the canonical text
 
@@ -173,22 +148,20 @@ row_texts width (suc more) cells = map glyph (take width cells) ∷ row_texts wi
 
 -- the header of the canonical text
 abbrev pub header_texts : ℕ → ℕ → List (List ℕ)
-header_texts width height = codes "type octile" ∷ (codes "height " ++ decimal height) ∷ (codes "width " ++ decimal width) ∷ codes "map" ∷ []
+header_texts width height =
+    codes "type octile" ∷ (codes "height " ++ decimal height) ∷ (codes "width " ++ decimal width)
+    ∷ codes "map" ∷ []
 
 -- the lines of the canonical text
 abbrev pub line_texts : Map → List (List ℕ)
 line_texts m = header_texts m.width m.height ++ row_texts m.width m.height m.passable
 
--- a line with its line feed
-abbrev pub with_feed : List ℕ → List ℕ
-with_feed line = line ++ 10 ∷ []
-
 -- the canonical text
 unfoldable pub text_of : Map → List ℕ
-text_of m = flat_map with_feed (line_texts m)
+text_of m = text_with_lines (line_texts m)
 
 -- reading the canonical text of a map gives that map
 abbrev pub CanonicalTextReadsBack : Type 0
 CanonicalTextReadsBack =
-    (m : Map) → IsWithinLimits m.width m.height → length m.passable ≡ m.width * m.height → passable_count m ≤ 32768
+    (m : Map) → IsWithinLimits m.width m.height → length m.passable ≡ m.width * m.height → IsSearchable m
     → map_of (text_of m) ≡ Ok m

@@ -1,62 +1,44 @@
 //! The header: four lines before the rows.
 
-ghost use Rattle.std.specs.Prelude.{◌≡◌, ◌+◌, ◌*◌, ◌-◌, ◌<◌, ◌≤◌, Bool, List, [], ◌∷◌, ℕ, drop, length, min, slice_index_or, Some, None, codes, MatchOption, OnOk, IfOk, true, false};
+ghost use Rattle.std.specs.Prelude.{◌≡◌, ◌*◌, ◌≤◌, [], ◌∷◌, drop, Some, None, Ok, Err, codes, MatchOption, MatchResult, OnOk, IfOk};
 ghost use Rattle.std.specs.Option.{option_map};
-ghost use Rattle.map_read.specs.Inside.{capped, capped_side};
-ghost use Rattle.map_read.specs.Lines.{words_of, two_of};
-ghost use Rattle.map_read.specs.MapText.{number_in, side_named, side_in, length_of, both_sides, is_side_length, are_map_sides, sides_from, has_words, header_in};
+ghost use Rattle.moves.specs.Maps.{IsWithinLimits};
+ghost use Rattle.text_lines.specs.Words.{has_words};
+ghost use Rattle.map_read.specs.Inside.{capped};
+ghost use Rattle.map_read.specs.MapText.{number_named, other_side, judged_sides, sides_given, sides_from, is_side_length, are_map_sides, header_in};
 
+use crate::MapLines;
 use crate::fault::MapFault;
-use crate::lines::{Lines, cut_word};
-
-/// The longest side that a map may have.
-const MAX_SIDE: u32 = 4096;
-
-/// The greatest number of cells that a map may have.
-const MAX_CELLS: u32 = 1_048_576;
-
-/// One side of the map, as a line of the header gives it. All lengths above 4,096 are given as 4,097.
-#[derive(Clone, Copy, Debug)]
-pub enum Side {
-    /// The number of rows.
-    Height(u32),
-    /// The number of columns.
-    Width(u32),
-}
+use moves::{MAX_CELLS, MAX_SIDE};
+use text_lines::{cut_word, number_capped, two_words};
 
 /// The sides of the map.
 #[derive(Clone, Copy, Debug)]
 pub struct Sides {
-    /// The number of columns.
+    /// The number of columns, from 1 to 4,096.
     pub width: u32,
-    /// The number of rows.
+    /// The number of rows, from 1 to 4,096.
     pub height: u32,
 }
 
 /// Reads the first four lines: the sides that they give, or the first refusal.
-pub fn read_header(lines: &mut Lines) -> Result<Sides, MapFault>
-    ensures sides { result ≡ header_in lines.old }
+pub fn read_header(lines: &mut MapLines) -> Result<Sides, MapFault>
+    ensures sides { MatchResult result
+        (λ sides. header_in lines.old ≡ Ok (sides.width, sides.height))
+        (λ fault. header_in lines.old ≡ Err fault) }
     ensures rest { OnOk result (lines.new ≡ drop 4 lines.old) }
-    ensures limits { IfOk result (λ sides. are_map_sides sides ≡ true) }
+    ensures limits { IfOk result (λ sides. IsWithinLimits sides.width sides.height) }
 {
-    if !is_type_line(next_or_empty(lines)) {
+    if !is_type_line(lines.next_or_empty()) {
         return Err(MapFault::Header { line: 1 });
     }
-    let second = side_in(next_or_empty(lines));
-    let third = side_in(next_or_empty(lines));
+    let second = lines.next_or_empty();
+    let third = lines.next_or_empty();
     let sides = sides_from(second, third)?;
-    if !is_map_line(next_or_empty(lines)) {
+    if !is_map_line(lines.next_or_empty()) {
         return Err(MapFault::Header { line: 4 });
     }
     Ok(sides)
-}
-
-/// The next line, or an empty one at the end of the text.
-fn next_or_empty<'a>(lines: &mut Lines<'a>) -> &'a [u8]
-    ensures line { result.now ≡ slice_index_or lines.old 0 [] }
-    ensures rest { lines.new ≡ drop 1 lines.old }
-{
-    lines.next().unwrap_or(&[])
 }
 
 /// Whether the line has exactly the words `type` and `octile`.
@@ -79,96 +61,80 @@ fn is_map_line(line: &[u8]) -> bool
     }
 }
 
-/// The words of a line that has two and no more.
-fn two_words(line: &[u8]) -> Option<(&[u8], &[u8])>
-    ensures { MatchOption result (two_of (words_of line.now) ≡ None) (λ two. two_of (words_of line.now) ≡ Some (two.0.now, two.1.now)) }
+/// The number that the line gives under this name, in cells. All numbers above 4,096 are given as 4,097.
+#[tactic(auto, unfolding(crate::specs::MapText::number_named))]
+fn number_named(name: &[u8], line: &[u8]) -> Option<u32>
+    ensures { result ≡ option_map capped (number_named name.now line.now) }
 {
-    let (first, rest) = cut_word(line)?;
-    let (second, rest) = cut_word(rest)?;
-    if cut_word(rest).is_some() {
+    let (word, number) = two_words(line)?;
+    if word != name {
         return None;
     }
-    Some((first, second))
-}
-
-/// The side that a line gives: the word `height` or `width`, and a number.
-#[tactic(auto, unfolding(crate::specs::MapText::side_in))]
-fn side_in(line: &[u8]) -> Option<Side>
-    ensures { result ≡ option_map capped_side (side_in line.now) }
-{
-    let (name, number) = two_words(line)?;
-    side_named(name, number)
-}
-
-/// The side with that name and that number for its length.
-fn side_named(name: &[u8], number: &[u8]) -> Option<Side>
-    ensures { result ≡ option_map capped_side (side_named name.now number.now) }
-{
-    if name == b"height".as_slice() {
-        return Some(Side::Height(number_in(number)?));
-    }
-    if name == b"width".as_slice() {
-        return Some(Side::Width(number_in(number)?));
-    }
-    None
-}
-
-/// The number that the word is: one digit or more. All numbers above 4,096 are given as 4,097.
-fn number_in(word: &[u8]) -> Option<u32>
-    ensures { result ≡ option_map capped (number_in word.now) }
-{
-    if word.is_empty() {
-        return None;
-    }
-    let mut number = 0;
-    for byte in word {
-        if !byte.is_ascii_digit() {
-            return None;
-        }
-        number = (number * 10 + u32::from(*byte - b'0')).min(MAX_SIDE + 1);
-    }
-    Some(number)
+    Some(number_capped(number, MAX_SIDE)? as u32)
 }
 
 /// The sides that two lines give, or the first refusal.
-#[tactic(auto, unfolding(crate::specs::MapText::sides_from))]
-fn sides_from(second: Option<Side>, third: Option<Side>) -> Result<Sides, MapFault>
-    ensures sides { result ≡ sides_from second third }
-    ensures limits { IfOk result (λ sides. are_map_sides sides ≡ true) }
+fn sides_from(second: &[u8], third: &[u8]) -> Result<Sides, MapFault>
+    ensures sides { MatchResult result
+        (λ sides. sides_from second.now third.now ≡ Ok (sides.width, sides.height))
+        (λ fault. sides_from second.now third.now ≡ Err fault) }
+    ensures limits { IfOk result (λ sides. IsWithinLimits sides.width sides.height) }
 {
-    let first = second.ok_or(MapFault::Header { line: 2 })?;
-    if !is_side_length(length_of(first)) {
+    let (height, width) = (b"height".as_slice(), b"width".as_slice());
+    sides_given(
+        number_named(height, second),
+        number_named(width, second),
+        number_named(height, third),
+        number_named(width, third),
+    )
+}
+
+/// The sides, from what each of two lines gives as height and as width, or the first refusal.
+#[tactic(auto, unfolding(crate::specs::MapText::sides_given))]
+fn sides_given(
+    second_height: Option<u32>,
+    second_width: Option<u32>,
+    third_height: Option<u32>,
+    third_width: Option<u32>,
+) -> Result<Sides, MapFault>
+    ensures sides { MatchResult result
+        (λ sides. sides_given second_height second_width third_height third_width
+        ≡ Ok (sides.width, sides.height))
+        (λ fault. sides_given second_height second_width third_height third_width ≡ Err fault) }
+    ensures limits { IfOk result (λ sides. IsWithinLimits sides.width sides.height) }
+{
+    if let Some(height) = second_height {
+        let width = other_side(height, third_width)?;
+        return judged_sides(width, height);
+    }
+    if let Some(width) = second_width {
+        let height = other_side(width, third_height)?;
+        return judged_sides(width, height);
+    }
+    Err(MapFault::Header { line: 2 })
+}
+
+/// The side that line 3 gives, where line 2 gives this one.
+fn other_side(one: u32, other: Option<u32>) -> Result<u32, MapFault>
+    ensures { result ≡ other_side one other }
+{
+    if !is_side_length(one) {
         return Err(MapFault::Size { line: 2 });
     }
-    let Some(other) = third else {
-        return Err(MapFault::Header { line: 3 });
-    };
-    let sides = both_sides(first, other).ok_or(MapFault::Header { line: 3 })?;
-    if !are_map_sides(sides) {
+    other.ok_or(MapFault::Header { line: 3 })
+}
+
+/// The sides, where a map may have these.
+fn judged_sides(width: u32, height: u32) -> Result<Sides, MapFault>
+    ensures sides { MatchResult result
+        (λ sides. judged_sides width height ≡ Ok (sides.width, sides.height))
+        (λ fault. judged_sides width height ≡ Err fault) }
+    ensures limits { IfOk result (λ sides. IsWithinLimits sides.width sides.height) }
+{
+    if !are_map_sides(width, height) {
         return Err(MapFault::Size { line: 3 });
     }
-    Ok(sides)
-}
-
-/// How long the side is.
-fn length_of(side: Side) -> u32
-    ensures { result ≡ length_of side }
-{
-    match side {
-        Side::Height(length) | Side::Width(length) => length,
-    }
-}
-
-/// Both sides, where each of the two is another one.
-fn both_sides(one: Side, other: Side) -> Option<Sides>
-    ensures { result ≡ both_sides one other }
-{
-    match (one, other) {
-        (Side::Height(height), Side::Width(width)) | (Side::Width(width), Side::Height(height)) => {
-            Some(Sides { width, height })
-        }
-        _ => None,
-    }
+    Ok(Sides { width, height })
 }
 
 /// Whether a side may be so long.
@@ -179,10 +145,8 @@ fn is_side_length(length: u32) -> bool
 }
 
 /// Whether a map may have these sides.
-fn are_map_sides(sides: Sides) -> bool
-    ensures { result ≡ are_map_sides sides }
+fn are_map_sides(width: u32, height: u32) -> bool
+    ensures { result ≡ are_map_sides width height }
 {
-    is_side_length(sides.width)
-        && is_side_length(sides.height)
-        && sides.width * sides.height <= MAX_CELLS
+    is_side_length(width) && is_side_length(height) && width * height <= MAX_CELLS
 }

@@ -2,36 +2,42 @@
 #![tactic(auto)]
 
 ghost use Rattle.std.specs.Prelude.{◌≡◌, ◌≤◌, Ok, Err, length, IfOk};
-ghost use Rattle.moves.specs.Maps.{passable_count};
+ghost use Rattle.moves.specs.Maps.{IsSearchable};
 ghost use Rattle.map_read.specs.declared.fault.MapFault.{MapFault};
 ghost use Rattle.map_read.specs.declared.fault.MapError.TheVariants.{Fault};
 ghost use Rattle.map_read.specs.Accepted.{AcceptsExactlyMapTexts};
+ghost use Rattle.map_read.specs.Refused.{RefusalsNameTheFirstFault};
 ghost use Rattle.map_read.specs.MapText.{map_of, CanonicalTextReadsBack};
 
 mod fault;
 mod header;
-mod lines;
 mod rows;
 mod writing;
 
 pub use fault::{MapError, MapFault};
 use header::read_header;
-use lines::Lines;
 use moves::Grid;
 use rows::{first_extra, read_rows};
 use std::alloc::Global;
+use text_lines::Lines;
 pub use writing::write_map;
 
-/// The map that a text of at most 2 MiB stands for, or why there is none: the first refusal in the order of the file.
+/// The greatest length of a map's text, in bytes.
+pub const MAX_MAP_BYTES: usize = 2_097_152;
+
+/// The lines of a map's text.
+type MapLines<'a> = Lines<'a, MAX_MAP_BYTES>;
+
+/// The map that a text of at most `MAX_MAP_BYTES` bytes stands for, or why there is none: the first refusal in the order of the file.
 /// Lines end with a line feed, or a carriage return and a line feed. The first four give the form and the sides, in either
 /// order. Each further line is a row: `.`, `G` and `S` are passable, `@`, `O` and `T` are not, and all else is refused.
 pub fn read_map(alloc: Global, bytes: &[u8]) -> Result<Grid, MapError>
-    requires { length bytes.now ≤ 2097152 }
+    requires { length bytes.now ≤ MAX_MAP_BYTES }
     ensures grid { IfOk result (λ grid. map_of bytes.now ≡ Ok grid) }
     ensures fault { (f : MapFault) → result ≡ Err (Fault f) → map_of bytes.now ≡ Err f }
-    ensures limit { IfOk result (λ grid. passable_count grid ≤ 32768) }
+    ensures limit { IfOk result (λ grid. IsSearchable grid) }
 {
-    let mut lines = Lines::of(bytes);
+    let mut lines = MapLines::of(bytes);
     let sides = read_header(&mut lines)?;
     let mut cells = vec![in alloc; false; (sides.width * sides.height) as usize]?;
     read_rows(&mut lines, sides, &mut cells)?;
@@ -46,7 +52,12 @@ pub fn accepts_exactly_map_texts()
     ensures { AcceptsExactlyMapTexts }
 {}
 
-/// A law, stated in the contract: reading the canonical text of a map with at most 32,768 passable cells gives that map.
+/// A law, stated in the contract: the refusal of a text names a line or a cell that is at fault, and nothing before it is.
+pub fn refusals_name_the_first_fault()
+    ensures { RefusalsNameTheFirstFault }
+{}
+
+/// A law, stated in the contract: reading the canonical text of a map that may be searched gives that map.
 pub fn canonical_text_reads_back()
     ensures { CanonicalTextReadsBack }
 {}

@@ -2,36 +2,24 @@
 
 ghost use Rattle.std.specs.Prelude.{◌≡◌, ◌+◌, ◌*◌, ◌-◌, ◌<◌, ◌≤◌, ◌^◌, Bool, List, [], ◌∷◌, ℕ, take, drop, length, Some, None, Ok, Err, MatchResult, OnOk, IfOk, true, false};
 ghost use Rattle.moves.specs.Maps.{IsWithinLimits};
-ghost use Rattle.map_read.specs.Lines.{is_blank};
-ghost use Rattle.map_read.specs.MapText.{kind_of, cell_of, free_in, cells_in, row_in, rows_in, extra_in};
+ghost use Rattle.text_lines.specs.Words.{is_blank};
+ghost use Rattle.map_read.specs.MapText.{cell_of, free_in, cells_in, row_in, rows_in, extra_in};
 
 use crate::fault::MapFault;
 use crate::header::Sides;
-use crate::lines::{Lines, is_blank, without_gaps_at_end};
-
-/// How many passable cells a map may have.
-const MAX_FREE: u32 = 32_768;
-
-/// What a byte of a row stands for.
-#[derive(Clone, Copy, Debug)]
-enum CellKind {
-    /// A passable cell.
-    Free,
-    /// A blocked cell.
-    Wall,
-    /// A cell of water.
-    Sea,
-    /// No cell.
-    Other,
-}
+use crate::{MAX_MAP_BYTES, MapLines};
+use moves::{MAX_PASSABLE, MAX_SIDE};
+use text_lines::{is_blank, without_gaps_at_end};
 
 /// Reads the rows into the cells, row by row; or gives the first refusal.
-pub fn read_rows(lines: &mut Lines, sides: Sides, cells: &mut [bool]) -> Result<(), MapFault>
+pub fn read_rows(lines: &mut MapLines, sides: Sides, cells: &mut [bool]) -> Result<(), MapFault>
     requires limits { IsWithinLimits sides.width sides.height }
     requires whole { length cells.old ≡ sides.width * sides.height }
-    ensures cells { MatchResult result (λ _. rows_in sides.width 0 sides.height [] lines.old ≡ Ok cells.new) (λ fault. rows_in sides.width 0 sides.height [] lines.old ≡ Err fault) }
+    ensures cells { MatchResult result
+        (λ _. rows_in sides.width 0 sides.height [] lines.old ≡ Ok cells.new)
+        (λ fault. rows_in sides.width 0 sides.height [] lines.old ≡ Err fault) }
     ensures rest { OnOk result (lines.new ≡ drop sides.height lines.old) }
-    ensures limit { OnOk result (free_in cells.new ≤ 32768) }
+    ensures limit { OnOk result (free_in cells.new ≤ MAX_PASSABLE) }
 {
     let mut free = 0;
     for y in 0..sides.height as u16 {
@@ -49,9 +37,11 @@ pub fn read_rows(lines: &mut Lines, sides: Sides, cells: &mut [bool]) -> Result<
 /// The bytes of row `y`: the line without the spaces and tabs at its end, which has to be as long as the map is wide.
 #[tactic(auto, unfolding(crate::specs::MapText::row_in))]
 fn row_in(line: &[u8], width: u32, y: u32) -> Result<&[u8], MapFault>
-    requires line { length line.now ≤ 2097152 }
-    requires row { y < 4096 }
-    ensures row { MatchResult result (λ row. row_in width y line.now ≡ Ok row.now) (λ fault. row_in width y line.now ≡ Err fault) }
+    requires line { length line.now ≤ MAX_MAP_BYTES }
+    requires row { y < MAX_SIDE }
+    ensures row { MatchResult result
+        (λ row. row_in width y line.now ≡ Ok row.now)
+        (λ fault. row_in width y line.now ≡ Err fault) }
     ensures width { IfOk result (λ row. length row.now ≡ width) }
 {
     let row = without_gaps_at_end(line);
@@ -67,16 +57,17 @@ fn row_in(line: &[u8], width: u32, y: u32) -> Result<&[u8], MapFault>
 
 /// Reads row `y` into its cells, where `free` cells before them are passable: how many are with those of the row.
 fn read_cells(row: &[u8], y: u16, free: u32, cells: &mut [bool]) -> Result<u32, MapFault>
-    requires width { length row.now ≤ 4096 }
+    requires width { length row.now ≤ MAX_SIDE }
     requires room { (y + 1) * length row.now ≤ length cells.old }
-    requires place { y < 4096 }
+    requires place { y < MAX_SIDE }
     requires free { free ≡ free_in (take (y * length row.now) cells.old) }
-    requires limit { free ≤ 32768 }
+    requires limit { free ≤ MAX_PASSABLE }
     ensures cells { MatchResult result
-        (λ _. cells_in y 0 (take (y * length row.now) cells.old) row.now ≡ Ok (take ((y + 1) * length row.now) cells.new))
+        (λ _. cells_in y 0 (take (y * length row.now) cells.old) row.now
+        ≡ Ok (take ((y + 1) * length row.now) cells.new))
         (λ fault. cells_in y 0 (take (y * length row.now) cells.old) row.now ≡ Err fault) }
     ensures free { IfOk result (λ now. now ≡ free_in (take ((y + 1) * length row.now) cells.new)) }
-    ensures limit { IfOk result (λ now. now ≤ 32768) }
+    ensures limit { IfOk result (λ now. now ≤ MAX_PASSABLE) }
 {
     let start = usize::from(y) * row.len();
     let mut count = free;
@@ -89,32 +80,21 @@ fn read_cells(row: &[u8], y: u16, free: u32, cells: &mut [bool]) -> Result<u32, 
 }
 
 /// Whether the cell is passable, where `free` cells before it are; or why it is refused.
+#[tactic(auto, unfolding(crate::specs::MapText::cell_of))]
 fn cell_of(x: u16, y: u16, byte: u8, free: u32) -> Result<bool, MapFault>
-    ensures { result ≡ cell_of x y byte free (kind_of byte) }
-{
-    match kind_of(byte) {
-        CellKind::Free if free < MAX_FREE => Ok(true),
-        CellKind::Free => Err(MapFault::TooManyCells { x, y }),
-        CellKind::Wall => Ok(false),
-        CellKind::Sea => Err(MapFault::Water { x, y }),
-        CellKind::Other => Err(MapFault::BadCell { x, y, byte }),
-    }
-}
-
-/// What the byte stands for.
-fn kind_of(byte: u8) -> CellKind
-    ensures { result ≡ kind_of byte }
+    ensures { result ≡ cell_of x y byte free }
 {
     match byte {
-        b'.' | b'G' | b'S' => CellKind::Free,
-        b'@' | b'O' | b'T' => CellKind::Wall,
-        b'W' => CellKind::Sea,
-        _ => CellKind::Other,
+        b'.' | b'G' | b'S' if free < MAX_PASSABLE => Ok(true),
+        b'.' | b'G' | b'S' => Err(MapFault::TooManyCells { x, y }),
+        b'@' | b'O' | b'T' => Ok(false),
+        b'W' => Err(MapFault::Water { x, y }),
+        _ => Err(MapFault::BadCell { x, y, byte }),
     }
 }
 
 /// The number of the first line that is not blank, where the next line has this number.
-pub fn first_extra(lines: &mut Lines, number: u32) -> Option<u32>
+pub fn first_extra(lines: &mut MapLines, number: u32) -> Option<u32>
     requires { number + length lines.old < 2 ^ 32 }
     ensures { result ≡ extra_in number lines.old }
 {

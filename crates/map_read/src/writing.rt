@@ -1,17 +1,20 @@
 //! The canonical text of a map.
 
-ghost use Rattle.std.specs.Prelude.{◌≡◌, ◌+◌, ◌*◌, ◌<◌, ◌∷◌, [], ◌++◌, map, take, drop, IfOk, OnOk};
+ghost use Rattle.std.specs.Prelude.{◌≡◌, ◌+◌, ◌*◌, ◌<◌, ◌∷◌, [], ◌++◌, ◌≤◌, IfOk, OnOk, vec_len};
 ghost use Rattle.std.specs.String.{string_bytes};
-ghost use Rattle.map_read.specs.Inside.{header_text};
-ghost use Rattle.map_read.specs.MapText.{glyph, with_feed, text_of};
+ghost use Rattle.text_lines.specs.Lines.{with_feed};
+ghost use Rattle.map_read.specs.Inside.{header_text, row_text};
+ghost use Rattle.map_read.specs.MapText.{glyph, text_of};
 
+use crate::MAX_MAP_BYTES;
 use moves::{Cell, Grid};
 use std::alloc::{AllocError, Global};
 
 /// The canonical text of the map: `type octile`, `height H`, `width W`, `map`, and the rows with `.` for a passable cell and
-/// `@` for a blocked one. A line feed ends each line.
+/// `@` for a blocked one. A line feed ends each line. The text is short enough to be read back.
 pub fn write_map(alloc: Global, grid: &Grid) -> Result<Vec<u8>, AllocError>
-    ensures { IfOk result (λ text. text.items ≡ text_of grid.now) }
+    ensures text { IfOk result (λ text. text.items ≡ text_of grid.now) }
+    ensures limit { IfOk result (λ text. vec_len text ≤ MAX_MAP_BYTES) }
 {
     let (width, height) = (grid.width(), grid.height());
     let header = header_text(alloc, width, height)?;
@@ -34,8 +37,7 @@ fn header_text(alloc: Global, width: u32, height: u32) -> Result<String, AllocEr
 /// Adds the text of row `y` with its line feed.
 fn push_row(text: &mut Vec<u8>, grid: &Grid, y: u16) -> Result<(), AllocError>
     requires { y < grid.now.height }
-    ensures { OnOk result
-        (text.new.items ≡ text.old.items ++ with_feed (map glyph (take grid.now.width (drop (y * grid.now.width) grid.now.passable)))) }
+    ensures { OnOk result (text.new.items ≡ text.old.items ++ with_feed (row_text grid.now y)) }
 {
     for x in 0..grid.width() as u16 {
         text.push(glyph(grid.passable(Cell { x, y })))?;

@@ -1,7 +1,7 @@
 use Rattle.std.proofs.Common.{eqb, sym, ap, ◌∙◌}
 use Rattle.std.specs.Cmp.Lexicographic.{pointwise}
-use Rattle.map_read.specs.Lines.{words_of}
-use Rattle.map_read.proofs.HeaderLemmas.{has_one_yes, has_one_no, has_none}
+use Rattle.text_lines.specs.Words.{words_of}
+use Rattle.text_lines.proofs.WordTests.{has_one_yes, has_one_no, has_none}
 use Rattle.map_read.proofs.header.is_map_line.Goals as goal
 
 pub returns-then-eq : goal.returns-then-eq

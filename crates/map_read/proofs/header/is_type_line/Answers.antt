@@ -1,6 +1,6 @@
 use Rattle.std.proofs.Common.{eqb, sym, ap, ◌∙◌}
 use Rattle.std.specs.Cmp.Lexicographic.{pointwise}
-use Rattle.map_read.proofs.HeaderLemmas.{has_two_yes, has_two_no, has_not_two}
+use Rattle.text_lines.proofs.WordTests.{has_two_yes, has_two_no, has_not_two}
 use Rattle.map_read.proofs.header.is_type_line.Goals as goal
 
 pub returns-then-eq : goal.returns-then-eq
