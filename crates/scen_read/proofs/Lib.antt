@@ -1,0 +1,9 @@
+pub mod FieldLemmas
+pub mod LengthLemmas
+pub mod ScenarioLemmas
+pub mod TextLemmas
+pub mod AcceptedLemmas
+pub mod RefusedLemmas
+pub mod WritingLemmas
+pub mod WrittenLemmas
+pub mod ReadLemmas
