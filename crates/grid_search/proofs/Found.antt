@@ -10,18 +10,22 @@ use Rattle.root_cost.proofs.Adding.{key_of-plus_step}
 use Rattle.root_cost.proofs.Keys.{at_most_if_key, same_if_key}
 use Rattle.moves.specs.declared.Cell.{Cell}
 use Rattle.moves.specs.declared.Move.{Move}
-use Rattle.moves.specs.Maps.{Map, IsInside, IsPassable, place_of, passable_count}
+use Rattle.moves.specs.Maps.{Map, IsInside, IsPassable, place_of, passable_count, IsSearchable}
 use Rattle.moves.specs.Moves.{is_diagonal, IsLegal}
 use Rattle.moves.specs.Paths.{IsLeastCost}
 use Rattle.moves.specs.CostTables.{IsCostTable, after_step}
 use Rattle.moves.proofs.TableLaws.{same_or_apart, tables_are_least}
-use Rattle.grid_search.specs.Keys.{no_key, step_key, key_at, cost_if_key}
+use Rattle.root_cost.specs.Keys.{cost_if_key}
+use Rattle.grid_search.specs.Keys.{move_key, key_at}
 use Rattle.grid_search.specs.Searches.{Searched, cost_at, HasCost, IsNoDearer, IsInOrder, HasSearched}
-use Rattle.grid_search.proofs.Keyed.{cost_if_of, cost_if_none}
+use Rattle.root_cost.proofs.Keys.{cost_if_of, cost_if_none}
 use Rattle.grid_search.proofs.Counting.{marked_once}
 use Rattle.grid_search.specs.Settling.{IsReached, IsProgress, IsNext, IsFinished}
 use Rattle.grid_search.proofs.Progress.{step_least, step_most}
 use Rattle.grid_search.proofs.Places.{cell_of_place, place_inside}
+use Rattle.grid_search.proofs.Preceding.{one_some}
+use Rattle.root_cost.specs.declared.TheConstants.{NO_KEY, STRAIGHT_KEY, DIAGONAL_KEY, KEYED_DIAGONALS, GREATEST_KEY}
+use Rattle.moves.specs.declared.TheConstants.{MAX_PASSABLE}
 
 -- whether the cell is inside
 is_inside : Map → Cell → Bool
@@ -47,9 +51,6 @@ table_inside m keys cell h = ap (λ b. cond b (cost_if_key (key_at m.width keys 
 
 none_some : (cost : Cost) → None ≡ Some cost → ⊥
 none_some cost e = cc
-
-one_some : (x y : Cost) → Some x ≡ Some y → x ≡ y
-one_some x y e = cc
 
 -- a map with a passable cell has some
 pub some_passable : (m : Map) (cell : Cell) → IsPassable m cell → 0 < passable_count m
@@ -90,18 +91,20 @@ module _ (m : Map) (source : Cell) (keys : List ℕ) (settled : List Cell) (pass
       omega arith
 
   -- a key leaves room for one step more
-  pub key_few : (b : Cell) → passable_count m ≤ 32768 → IsReached m keys b → key_at m.width keys b ≤ 1550614528
+  pub key_few : (b : Cell) → IsSearchable m → IsReached m keys b → key_at m.width keys b ≤ GREATEST_KEY
   key_few b few reached =
       let (cost, e, steps) = p.costs b reached in
       let count : length settled ≤ passable_count m = settled_count in
       omega arith
 
-  module _ (few : passable_count m ≤ 32768) (over : (b : Cell) → IsReached m keys b → Contains settled b) (limit : (b : Cell) → IsInside m b → key_at m.width keys b ≤ no_key) where
+  module _ (few : IsSearchable m) (over : (b : Cell) → IsReached m keys b → Contains settled b)
+      (limit : (b : Cell) → IsInside m b → key_at m.width keys b ≤ NO_KEY) where
     settled_reached : (cell : Cell) → Contains settled cell → IsReached m keys cell
     settled_reached cell was = All-contains (IsReached m keys) settled cell p.reached was
 
     -- a reached cell's cost
-    cost_of_reached : (cell : Cell) → IsReached m keys cell → (cost : Cost) × (table_of m keys cell ≡ Some cost) × (key_of cost ≡ key_at m.width keys cell) × (cost.straight + cost.diagonal < passable_count m)
+    cost_of_reached : (cell : Cell) → IsReached m keys cell → (cost : Cost) × (table_of m keys cell ≡ Some cost) × (key_of cost ≡ key_at m.width keys cell)
+        × (cost.straight + cost.diagonal < passable_count m)
     cost_of_reached cell reached =
         let (cost, e, steps) = p.shorter cell (over cell reached) in
         let count : length settled ≤ passable_count m = settled_count in
@@ -113,22 +116,23 @@ module _ (m : Map) (source : Cell) (keys : List ℕ) (settled : List Cell) (pass
       | inr no_inside ↦ absurd (none_some cost (ap (λ b. cond b (cost_if_key (key_at m.width keys cell)) None) (sym no_inside) ∙ e))
       | inl h ↦
           let inside : IsInside m cell = if_inside m cell h in
-          elim (cases_lt (key_at m.width keys cell) no_key) [
+          elim (cases_lt (key_at m.width keys cell) NO_KEY) [
             | inl k ↦ record { inside = inside; found = k }
             | inr k ↦
-                let most : key_at m.width keys cell ≤ no_key = limit cell inside in
-                let same : key_at m.width keys cell ≡ no_key = omega arith in
+                let most : key_at m.width keys cell ≤ NO_KEY = limit cell inside in
+                let same : key_at m.width keys cell ≡ NO_KEY = omega arith in
                 absurd (none_some cost (sym (ap cost_if_key same ∙ cost_if_none) ∙ sym (table_inside m keys cell inside) ∙ e))
           ]
     ]
 
-    key_if : (cell : Cell) (cost : Cost) → table_of m keys cell ≡ Some cost → (key_of cost ≡ key_at m.width keys cell) × (cost.straight + cost.diagonal ≤ 32768)
+    key_if : (cell : Cell) (cost : Cost) → table_of m keys cell ≡ Some cost
+        → (key_of cost ≡ key_at m.width keys cell) × (cost.straight + cost.diagonal ≤ MAX_PASSABLE)
     key_if cell cost e =
         let (own, t, k, steps) = cost_of_reached cell (reached_if cell cost e) in
         let same : own ≡ cost = one_some own cost (sym t ∙ e) in
-        (ap key_of (sym same) ∙ k, subst (λ c. c.straight + c.diagonal ≤ 32768) same (omega arith))
+        (ap key_of (sym same) ∙ k, subst (λ c. c.straight + c.diagonal ≤ MAX_PASSABLE) same (omega arith))
 
-    step_few : (cost : Cost) (d : Bool) → cost.straight + cost.diagonal ≤ 32768 → (plus_step cost d).diagonal < 33461
+    step_few : (cost : Cost) (d : Bool) → cost.straight + cost.diagonal ≤ MAX_PASSABLE → (plus_step cost d).diagonal < KEYED_DIAGONALS
     step_few cost true h = omega arith
     step_few cost false h = omega arith
 
@@ -136,13 +140,13 @@ module _ (m : Map) (source : Cell) (keys : List ℕ) (settled : List Cell) (pass
         → (next : Cost) × (table_of m keys to ≡ Some next) × IsAtMost next (after_step cost move)
     table_no_shorter from move to cost e legal =
         let reached : IsReached m keys from = reached_if from cost e in
-        let own : (key_of cost ≡ key_at m.width keys from) × (cost.straight + cost.diagonal ≤ 32768) = key_if from cost e in
+        let own : (key_of cost ≡ key_at m.width keys from) × (cost.straight + cost.diagonal ≤ MAX_PASSABLE) = key_if from cost e in
         let key_is : key_of cost ≡ key_at m.width keys from = own.0 in
-        let steps : cost.straight + cost.diagonal ≤ 32768 = own.1 in
-        let step : key_at m.width keys to ≤ key_at m.width keys from + step_key move = p.relaxed from to move (over from reached) legal in
-        let most : step_key move ≤ 47321 = step_most move in
+        let steps : cost.straight + cost.diagonal ≤ MAX_PASSABLE = own.1 in
+        let step : key_at m.width keys to ≤ key_at m.width keys from + move_key move = p.relaxed from to move (over from reached) legal in
+        let most : move_key move ≤ DIAGONAL_KEY = step_most move in
         let (next, t, k, few_next) = cost_of_reached to (record { inside = legal.enters.inside; found = omega arith }) in
-        let longer : key_of (after_step cost move) ≡ key_of cost + step_key move = key_of-plus_step cost (is_diagonal move) in
+        let longer : key_of (after_step cost move) ≡ key_of cost + move_key move = key_of-plus_step cost (is_diagonal move) in
         let low : key_of next ≤ key_of (after_step cost move) = rw (k, longer, key_is) step in
         (next, t, at_most_if_key next (after_step cost move) (omega arith) (step_few cost (is_diagonal move) steps) low)
 
@@ -151,16 +155,16 @@ module _ (m : Map) (source : Cell) (keys : List ℕ) (settled : List Cell) (pass
     table_attained to cost e apart =
         let (from, move, was, legal, k) = p.attained to (reached_if to cost e) apart in
         let (before, t, key_is, steps) = cost_of_reached from (settled_reached from was) in
-        let own : (key_of cost ≡ key_at m.width keys to) × (cost.straight + cost.diagonal ≤ 32768) = key_if to cost e in
-        let steps_to : cost.straight + cost.diagonal ≤ 32768 = own.1 in
-        let longer : key_of (after_step before move) ≡ key_of before + step_key move = key_of-plus_step before (is_diagonal move) in (
+        let own : (key_of cost ≡ key_at m.width keys to) × (cost.straight + cost.diagonal ≤ MAX_PASSABLE) = key_if to cost e in
+        let steps_to : cost.straight + cost.diagonal ≤ MAX_PASSABLE = own.1 in
+        let longer : key_of (after_step before move) ≡ key_of before + move_key move = key_of-plus_step before (is_diagonal move) in (
           from,
           move,
           before,
           t,
           legal,
           same_if_key cost (after_step before move) (omega arith) (step_few before (is_diagonal move) (omega arith))
-              (own.0 ∙ k ∙ ap (λ n. n + step_key move) (sym key_is) ∙ sym longer),
+              (own.0 ∙ k ∙ ap (λ n. n + move_key move) (sym key_is) ∙ sym longer),
         )
 
     table_start : table_of m keys source ≡ Some no_cost
@@ -172,7 +176,8 @@ module _ (m : Map) (source : Cell) (keys : List ℕ) (settled : List Cell) (pass
     is_table = record { start = table_start; no_shorter = table_no_shorter; attained = table_attained }
 
     costs_least : (cell : Cell) → IsInside m cell → IsLeastCost m source cell (cost_if_key (key_at m.width keys cell))
-    costs_least cell inside = subst (IsLeastCost m source cell) (table_inside m keys cell inside) (tables_are_least m source (table_of m keys) passable is_table cell)
+    costs_least cell inside = subst (IsLeastCost m source cell) (table_inside m keys cell inside)
+        (tables_are_least m source (table_of m keys) passable is_table cell)
 
     -- ---- what callers see
 
@@ -185,10 +190,11 @@ module _ (m : Map) (source : Cell) (keys : List ℕ) (settled : List Cell) (pass
       cost_found cell inside =
           let place : place_of m.width cell < m.width * m.height = place_inside m.width m.height cell inside.column inside.row in
           let cut : length (take (m.width * m.height) keys) ≡ m.width * m.height = length-take-le (m.width * m.height) keys fits in
-          get_or-map cost_if_key (take (m.width * m.height) keys) (place_of m.width cell) no_key None (omega arith)
-          ∙ ap cost_if_key (get_or-take (m.width * m.height) keys (place_of m.width cell) no_key place)
+          get_or-map cost_if_key (take (m.width * m.height) keys) (place_of m.width cell) NO_KEY None (omega arith)
+          ∙ ap cost_if_key (get_or-take (m.width * m.height) keys (place_of m.width cell) NO_KEY place)
 
-      cost_reached : (cell : Cell) → IsReached m keys cell → (cost : Cost) × (cost_at found cell ≡ Some cost) × (key_of cost ≡ key_at m.width keys cell) × (cost.straight + cost.diagonal < passable_count m)
+      cost_reached : (cell : Cell) → IsReached m keys cell → (cost : Cost) × (cost_at found cell ≡ Some cost) × (key_of cost ≡ key_at m.width keys cell)
+          × (cost.straight + cost.diagonal < passable_count m)
       cost_reached cell reached =
           let (cost, t, k, steps) = cost_of_reached cell reached in
           (cost, cost_found cell reached.inside ∙ sym (table_inside m keys cell reached.inside) ∙ t, k, steps)
@@ -227,14 +233,15 @@ module _ (m : Map) (source : Cell) (keys : List ℕ) (settled : List Cell) (pass
         | inr apart ↦
             let (a, move, was, legal, k) = p.attained cell reached apart in
             let zero_key : key_at m.width keys source ≡ 0 = p.start in
-            let some : 33461 ≤ step_key move = step_least move in
+            let some : STRAIGHT_KEY ≤ move_key move = step_least move in
             absurd (omega arith)
       ]
 
       first_at : (k : ℕ) → k < length settled → get_or settled k source ≡ source → get_or settled 0 source ≡ source
       first_at zero h e = e
       first_at (suc k) h e =
-          let below : key_at m.width keys (get_or settled 0 source) ≤ key_at m.width keys (get_or settled (suc k) source) = p.rising 0 (suc k) source (omega arith) h in
+          let below : key_at m.width keys (get_or settled 0 source) ≤ key_at m.width keys (get_or settled (suc k) source) = p.rising 0 (suc k) source
+          (omega arith) h in
           let level : key_at m.width keys (get_or settled (suc k) source) ≡ key_at m.width keys source = ap (key_at m.width keys) e in
           first_is_source (get_or settled 0 source) (p.reached 0 source (omega arith)) (omega arith)
 
@@ -267,8 +274,15 @@ module _ (m : Map) (source : Cell) (keys : List ℕ) (settled : List Cell) (pass
       }
 
 -- what callers see of a finished search
-pub searched : (m : Map) (source : Cell) (keys : List ℕ) (settled : List Cell) → IsPassable m source → passable_count m ≤ 32768
+pub searched : (m : Map) (source : Cell) (keys : List ℕ) (settled : List Cell) → IsPassable m source → IsSearchable m
     → IsFinished m source keys settled → (room : ℕ) → m.width * m.height ≤ length keys
-    → HasSearched m source (record { room = room; width = m.width; height = m.height; costs = map cost_if_key (take (m.width * m.height) keys); settled = settled })
+    → HasSearched m source (record {
+      room = room;
+      width = m.width;
+      height = m.height;
+      costs = map cost_if_key
+          (take (m.width * m.height) keys);
+      settled = settled;
+    })
 unfolding found
 searched m source keys settled passable few f room fits = has_searched m source keys settled passable f.progress few f.over f.limit room fits

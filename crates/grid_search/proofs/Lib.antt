@@ -11,4 +11,3 @@ pub mod Queueing
 pub mod Stepping
 pub mod Turning
 pub mod Scanning
-pub mod Filled

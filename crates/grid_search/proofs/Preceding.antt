@@ -10,7 +10,7 @@ use Rattle.moves.specs.declared.Cell.{Cell}
 use Rattle.moves.specs.Maps.{Map, IsInside}
 use Rattle.grid_search.specs.Searches.{Searched, HasSearched, HasCost, cost_at, IsNoDearer}
 
-one_some : (x y : Cost) → Some x ≡ Some y → x ≡ y
+pub one_some : (x y : Cost) → Some x ≡ Some y → x ≡ y
 one_some x y e = cc
 
 -- where both cells have a cost, that of the first is at most that of the second

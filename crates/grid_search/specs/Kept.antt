@@ -3,7 +3,10 @@ use Rattle.std.specs.Prelude.{◌≡◌, ℕ, ◌*◌, ◌<◌, ◌≤◌, ◌�
 use Rattle.moves.specs.declared.Cell.{Cell}
 use Rattle.moves.specs.Maps.{place_of}
 use Rattle.grid_search.specs.Searches.{key_or_none}
-use Rattle.grid_search.specs.Keys.{no_key, cost_if_key}
+use Rattle.root_cost.specs.Keys.{cost_if_key}
+use Rattle.grid_search.specs.Queues.{Opened}
+use Rattle.root_cost.specs.declared.TheConstants.{NO_KEY}
+use Rattle.moves.specs.declared.TheConstants.{MAX_SIDE, MAX_PASSABLE}
 
 -- the cell is inside a map of those sides
 abbrev pub IsWithin : ℕ → ℕ → Cell → Type 0
@@ -11,18 +14,20 @@ IsWithin width height cell = (cell.x < width) × (cell.y < height)
 
 -- there is room for as many cells of a map as a search reaches: at most 32,768
 abbrev pub HasRoom : ℕ → ℕ → Type 0
-HasRoom cells room = (cells ≤ room) ⊎ (32768 ≤ room)
+HasRoom cells room = (cells ≤ room) ⊎ (MAX_PASSABLE ≤ room)
 
--- The lists and both queues have room for a search of the map, the keys of costs stand only at the places of the settled cells,
--- and each is the key of the cost that is read from it.
-pub record IsKept (width height : ℕ) (keys : List ℕ) (order : List Cell) (count straight diagonal : ℕ) : Type 0 where
-  pub columns : width ≤ 4096
-  pub rows : height ≤ 4096
-  pub fits : width * height ≤ length keys
-  pub order_room : HasRoom (length keys) (length order)
-  pub straight_room : HasRoom (length keys) straight
-  pub diagonal_room : HasRoom (length keys) diagonal
+-- The list of settled cells and both queues have room for a search of each map that has room for its keys; keys stand only
+-- at the places of the settled cells, and each is the key of the cost that is read from it.
+pub record IsKept (width height : ℕ) (front : Opened) (order : List Cell) (count : ℕ) : Type 0 where
+  pub columns : width ≤ MAX_SIDE
+  pub rows : height ≤ MAX_SIDE
+  pub fits : width * height ≤ length front.keys
+  pub order_room : HasRoom (length front.keys) (length order)
+  pub straight_room : HasRoom (length front.keys) front.straight.room
+  pub diagonal_room : HasRoom (length front.keys) front.diagonal.room
   pub counted : count ≤ length order
   pub inside : All (IsWithin width height) (take count order)
-  pub written : (place : ℕ) → (slice_index_or keys place no_key ≡ no_key → ⊥) → Any (λ cell. place_of width cell ≡ place) (take count order)
-  pub proper : (place : ℕ) → key_or_none (cost_if_key (slice_index_or keys place no_key)) ≡ slice_index_or keys place no_key
+  pub written : (place : ℕ) → (slice_index_or front.keys place NO_KEY ≡ NO_KEY → ⊥)
+      → Any (λ cell. place_of width cell ≡ place) (take count order)
+  pub proper : (place : ℕ)
+      → key_or_none (cost_if_key (slice_index_or front.keys place NO_KEY)) ≡ slice_index_or front.keys place NO_KEY

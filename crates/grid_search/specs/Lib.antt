@@ -4,3 +4,4 @@ pub mod Kept
 pub mod Settling
 pub mod Queues
 pub mod Scanning
+pub mod Forgetting

@@ -1,10 +1,11 @@
 -- What a search from one cell has found: the least cost of each cell, and the reached cells by rising cost.
-use Rattle.std.specs.Prelude.{◌≡◌, ℕ, ◌+◌, ◌*◌, ◌<◌, ◌≤◌, List, Option, Some, None, IsSome, MatchOption, map, length, slice_index_or, All, AllPairs, Contains}
+use Rattle.std.specs.Prelude.{◌≡◌, ℕ, ◌+◌, ◌*◌, ◌<◌, ◌≤◌, List, [], Option, Some, None, IsSome, MatchOption, map, length, slice_index_or, All, AllPairs, Contains}
 use Rattle.root_cost.specs.declared.Cost.{Cost}
 use Rattle.root_cost.specs.Costs.{IsAtMost, key_of}
 use Rattle.moves.specs.declared.Cell.{Cell}
-use Rattle.moves.specs.Maps.{Map, IsInside, place_of, passable_count}
+use Rattle.moves.specs.Maps.{Map, IsInside, place_of, passable_count, IsSearchable}
 use Rattle.moves.specs.Paths.{IsLeastCost}
+use Rattle.root_cost.specs.declared.TheConstants.{NO_KEY}
 
 -- a search as its callers see it: for how many cells it has room, the sides of the map that was searched last,
 -- the costs of that map's cells, row by row, and the cells that were reached, in the order in which they were settled
@@ -14,6 +15,10 @@ pub record Searched : Type 0 where
   pub height : ℕ
   pub costs : List (Option Cost)
   pub settled : List Cell
+
+-- nothing was searched yet, and there is room for that many cells
+abbrev pub nothing_searched : ℕ → Searched
+nothing_searched cells = record { room = cells; width = 0; height = 0; costs = []; settled = [] }
 
 -- the cost of a cell, none where it was not reached
 abbrev pub cost_at : Searched → Cell → Option Cost
@@ -27,7 +32,8 @@ pub record HasCost (search : Searched) (cell : Cell) : Type 0 where
 
 -- both cells have a cost, and that of the first is at most that of the second
 abbrev pub IsNoDearer : Searched → Cell → Cell → Type 0
-IsNoDearer search a b = MatchOption (cost_at search a) ⊥ (λ first. MatchOption (cost_at search b) ⊥ (λ second. IsAtMost first second))
+IsNoDearer search a b = MatchOption (cost_at search a) ⊥
+    (λ first. MatchOption (cost_at search b) ⊥ (λ second. IsAtMost first second))
 
 -- The settled cells are those that have a cost, each once, by rising cost, the source first.
 pub record IsInOrder (source : Cell) (search : Searched) : Type 0 where
@@ -45,14 +51,15 @@ pub record HasSearched (map : Map) (source : Cell) (search : Searched) : Type 0 
   pub height : search.height ≡ map.height
   pub cells : length search.costs ≡ map.width * map.height
   pub least : (cell : Cell) → IsInside map cell → IsLeastCost map source cell (cost_at search cell)
-  pub few : passable_count map ≤ 32768
-  pub short : (cell : Cell) (cost : Cost) → IsInside map cell → cost_at search cell ≡ Some cost → cost.straight + cost.diagonal < passable_count map
+  pub few : IsSearchable map
+  pub short : (cell : Cell) (cost : Cost) → IsInside map cell → cost_at search cell ≡ Some cost
+      → cost.straight + cost.diagonal < passable_count map
   pub order : IsInOrder source search
   pub counted : length search.settled ≤ passable_count map
 
 -- the key of a cost, and where there is no cost a number above every key
 abbrev pub key_or_none : Option Cost → ℕ
-key_or_none None = 4294967295
+key_or_none None = NO_KEY
 key_or_none (Some cost) = key_of cost
 
 -- the keys of a search's costs, row by row

@@ -4,35 +4,42 @@ use Rattle.root_cost.specs.declared.Cost.{Cost}
 use Rattle.root_cost.specs.Costs.{key_of}
 use Rattle.moves.specs.declared.Cell.{Cell}
 use Rattle.moves.specs.declared.Move.{Move}
-use Rattle.moves.specs.Maps.{Map, IsInside}
-use Rattle.moves.specs.Moves.{IsLegal}
-use Rattle.grid_search.specs.Keys.{no_key, step_key, key_at}
+use Rattle.moves.specs.Maps.{Map, IsInside, place_of}
+use Rattle.moves.specs.Moves.{IsTarget, IsLegal}
+use Rattle.grid_search.specs.Keys.{move_key, key_at}
+use Rattle.root_cost.specs.declared.TheConstants.{NO_KEY}
 
 -- the cell is inside and has a key
 pub record IsReached (map : Map) (keys : List ℕ) (cell : Cell) : Type 0 where
   pub inside : IsInside map cell
-  pub found : key_at map.width keys cell < no_key
+  pub found : key_at map.width keys cell < NO_KEY
 
 -- What holds between turns: no key of a settled cell is above those of cells that wait, no step from a settled cell is
 -- missed, and each key but the source's comes by a step from a settled cell.
 pub record IsProgress (map : Map) (source : Cell) (keys : List ℕ) (settled : List Cell) : Type 0 where
   pub start : key_at map.width keys source ≡ 0
-  pub relaxed : (a b : Cell) (move : Move) → Contains settled a → IsLegal map a move b → key_at map.width keys b ≤ key_at map.width keys a + step_key move
+  pub relaxed : (a b : Cell) (move : Move) → Contains settled a → IsLegal map a move b
+      → key_at map.width keys b ≤ key_at map.width keys a + move_key move
   pub attained : (b : Cell) → IsReached map keys b → (b ≡ source → ⊥)
-      → (a : Cell) × (move : Move) × Contains settled a × IsLegal map a move b × (key_at map.width keys b ≡ key_at map.width keys a + step_key move)
-  pub waits : (a b : Cell) → Contains settled a → IsReached map keys b → (Contains settled b → ⊥) → key_at map.width keys a ≤ key_at map.width keys b
-  pub costs : (b : Cell) → IsReached map keys b → (cost : Cost) × (key_of cost ≡ key_at map.width keys b) × (cost.straight + cost.diagonal ≤ length settled)
-  pub shorter : (b : Cell) → Contains settled b → (cost : Cost) × (key_of cost ≡ key_at map.width keys b) × (cost.straight + cost.diagonal < length settled)
+      → (a : Cell) × (move : Move) × Contains settled a × IsLegal map a move b
+      × (key_at map.width keys b ≡ key_at map.width keys a + move_key move)
+  pub waits : (a b : Cell) → Contains settled a → IsReached map keys b → (Contains settled b → ⊥)
+      → key_at map.width keys a ≤ key_at map.width keys b
+  pub costs : (b : Cell) → IsReached map keys b → (cost : Cost) × (key_of cost ≡ key_at map.width keys b)
+      × (cost.straight + cost.diagonal ≤ length settled)
+  pub shorter : (b : Cell) → Contains settled b → (cost : Cost) × (key_of cost ≡ key_at map.width keys b)
+      × (cost.straight + cost.diagonal < length settled)
   pub reached : All (IsReached map keys) settled
   pub once : AllPairs (λ a b. a ≡ b → ⊥) settled
   pub rising : AllPairs (λ a b. key_at map.width keys a ≤ key_at map.width keys b) settled
-  pub beyond : (place : ℕ) → map.width * map.height ≤ place → slice_index_or keys place no_key ≡ no_key
+  pub beyond : (place : ℕ) → map.width * map.height ≤ place → slice_index_or keys place NO_KEY ≡ NO_KEY
 
 -- the cell is one of least key among those that are reached and not yet settled
 pub record IsNext (map : Map) (keys : List ℕ) (settled : List Cell) (cell : Cell) : Type 0 where
   pub reached : IsReached map keys cell
   pub open_yet : Contains settled cell → ⊥
-  pub least : (b : Cell) → IsReached map keys b → (Contains settled b → ⊥) → key_at map.width keys cell ≤ key_at map.width keys b
+  pub least : (b : Cell) → IsReached map keys b → (Contains settled b → ⊥)
+      → key_at map.width keys cell ≤ key_at map.width keys b
 
 -- every move
 abbrev pub EveryMove : Move → Type 0
@@ -46,13 +53,23 @@ OnlyMove by move = by ≡ move
 -- moves leads, and each that fell is just a step above it.
 pub record IsRelaxed (map : Map) (from : Cell) (key : ℕ) (taken : Move → Type 0) (before after : List ℕ) : Type 0 where
   pub lower : (b : Cell) → IsInside map b → key_at map.width after b ≤ key_at map.width before b
-  pub moved : (b : Cell) (move : Move) → taken move → IsLegal map from move b → key_at map.width after b ≤ key + step_key move
+  pub moved : (b : Cell) (move : Move) → taken move → IsLegal map from move b
+      → key_at map.width after b ≤ key + move_key move
   pub from_there : (b : Cell) → IsInside map b → (key_at map.width after b ≡ key_at map.width before b)
-      ⊎ ((move : Move) × IsLegal map from move b × (key_at map.width after b ≡ key + step_key move))
-  pub beyond : (place : ℕ) → map.width * map.height ≤ place → slice_index_or after place no_key ≡ slice_index_or before place no_key
+      ⊎ ((move : Move) × IsLegal map from move b × (key_at map.width after b ≡ key + move_key move))
+  pub beyond : (place : ℕ) → map.width * map.height ≤ place
+      → slice_index_or after place NO_KEY ≡ slice_index_or before place NO_KEY
 
 -- every reached cell is settled
 pub record IsFinished (map : Map) (source : Cell) (keys : List ℕ) (settled : List Cell) : Type 0 where
   pub progress : IsProgress map source keys settled
   pub over : (b : Cell) → IsReached map keys b → Contains settled b
-  pub limit : (b : Cell) → IsInside map b → key_at map.width keys b ≤ no_key
+  pub limit : (b : Cell) → IsInside map b → key_at map.width keys b ≤ NO_KEY
+
+-- the move leads somewhere: to a column and a row that are not below 0
+abbrev pub HasTarget : Cell → Move → Type 0
+HasTarget from by = (to : Cell) × IsTarget from by to
+
+-- the place of the cell that the move leads to
+abbrev pub IsTargetPlace : ℕ → Cell → Move → ℕ → Type 0
+IsTargetPlace width from by place = (to : Cell) → IsTarget from by to → place ≡ place_of width to

@@ -1,18 +1,19 @@
 //! A queue in memory that is taken once. It is emptied whole: room that was used is free again only then.
 
 ghost use Rattle.std.specs.Prelude.{◌≡◌, ℕ, ◌+◌, ◌<◌, ◌≤◌, [], IfOk, IfSome, IfNone, length};
-ghost use Rattle.grid_search.specs.Keys.{no_key};
-ghost use Rattle.grid_search.specs.Queues.{IsFirst, push_to, rest_of};
+ghost use Rattle.grid_search.specs.Queues.{FirstHasKey, HasNoneLeft, TakesFirst, empty_with, push_to};
 
-use crate::NO_KEY;
 use moves::Cell;
+use root_cost::NO_KEY;
 use std::alloc::{AllocError, Global};
 use std::marker::Model;
 
 /// A cell that waits to be settled, and the key that it was reached with.
 #[derive(Clone, Copy)]
 pub struct Waiting {
+    /// The key of the path by which the cell was reached.
     pub key: u32,
+    /// The cell that was reached.
     pub cell: Cell,
 }
 
@@ -30,7 +31,11 @@ impl Model for Queue {
 
     ghost Value = { Pushes };
 
-    ghost view = { λ q. record { room = vec_len q.waiting; pushed = take q.end q.waiting.items; taken = q.taken } };
+    ghost view = { λ q. record {
+      room = vec_len q.waiting;
+      pushed = take q.end q.waiting.items;
+      taken = q.taken;
+    } };
 
     ghost invariant = { λ q. (q.taken ≤ q.end) × (q.end ≤ vec_len q.waiting) };
 }
@@ -38,7 +43,7 @@ impl Model for Queue {
 impl Queue {
     /// An empty queue with room for that many entries.
     pub fn new(alloc: Global, room: usize) -> Result<Queue, AllocError>
-        ensures { IfOk result (λ queue. queue ≡ record { room = room; pushed = []; taken = 0 }) }
+        ensures { IfOk result (λ queue. queue ≡ empty_with room) }
     {
         let filler = Waiting {
             key: NO_KEY,
@@ -53,7 +58,7 @@ impl Queue {
 
     /// Empties the queue.
     pub fn clear(&mut self)
-        ensures { self.new ≡ record { room = self.old.room; pushed = []; taken = 0 } }
+        ensures { self.new ≡ empty_with self.old.room }
     {
         self.taken = 0;
         self.end = 0;
@@ -68,10 +73,10 @@ impl Queue {
         self.end += 1;
     }
 
-    /// The key of the first entry; `u32::MAX` where none is left.
+    /// The key of the first entry; [`NO_KEY`] where none is left.
     pub fn first_key(&self) -> u32
-        ensures first { (entry : Waiting) → IsFirst self.now entry → result ≡ entry.key }
-        ensures none { length self.now.pushed ≤ self.now.taken → result ≡ no_key }
+        ensures first { FirstHasKey self.now result }
+        ensures none { HasNoneLeft self.now → result ≡ NO_KEY }
     {
         if self.taken < self.end {
             self.waiting[self.taken].key
@@ -82,8 +87,8 @@ impl Queue {
 
     /// Takes the first entry; `None` where none is left.
     pub fn take(&mut self) -> Option<Waiting>
-        ensures some { IfSome result (λ entry. IsFirst self.old entry × (self.new ≡ rest_of self.old)) }
-        ensures none { IfNone result ((length self.old.pushed ≤ self.old.taken) × (self.new ≡ self.old)) }
+        ensures some { IfSome result (λ entry. TakesFirst self.old entry self.new) }
+        ensures none { IfNone result (HasNoneLeft self.old × (self.new ≡ self.old)) }
     {
         if self.taken == self.end {
             return None;

@@ -1,142 +1,114 @@
 //! Settling the cells of a map one by one, by rising key.
 
-ghost use Rattle.std.specs.Prelude.{◌≡◌, ℕ, ◌+◌, ◌*◌, ◌<◌, ◌≤◌, ◌⊎◌, IfSome, IfNone, All, length, take, slice_index_or, slice_index};
-ghost use Rattle.moves.specs.declared.Cell.{Cell};
-ghost use Rattle.moves.specs.Maps.{IsPassable, passable_count, place_of};
+ghost use Rattle.std.specs.Prelude.{◌≡◌, ℕ, ◌*◌, ◌<◌, ◌≤◌, length, take};
+ghost use Rattle.moves.specs.Maps.{IsPassable, IsSearchable, passable_count, place_of};
 ghost use Rattle.moves.specs.MoveMasks.{IsMoveMask};
-ghost use Rattle.moves.specs.Moves.{IsTarget, HasLegal};
-ghost use Rattle.grid_search.specs.Keys.{no_key, step_key};
-ghost use Rattle.grid_search.specs.Settling.{EveryMove, OnlyMove, IsFinished};
-ghost use Rattle.grid_search.specs.Queues.{IsTakenFirst, AreReady, AreStepsTaken};
+ghost use Rattle.moves.specs.Moves.{IsTarget};
+ghost use Rattle.grid_search.specs.Keys.{HasNoKeys};
+ghost use Rattle.grid_search.specs.Settling.{EveryMove, HasTarget, IsFinished, IsTargetPlace, OnlyMove};
+ghost use Rattle.grid_search.specs.Queues.{AreReady, AreStepsTaken, HasSpace, IsSettledLast, opened};
 
-use crate::place;
-use crate::queue::{Queue, Waiting};
-use moves::{Cell, Grid, Move};
+use crate::open_list::OpenList;
+use crate::queue::Waiting;
+use moves::{Cell, Grid, MAX_SIDE, Move, place};
+use root_cost::step_key;
 
 /// Settles the cells that are reached from the source, one by one, by rising key. Answers how many there are.
 pub fn settle(
     grid: &Grid,
     source: Cell,
     keys: &mut [u32],
-    straight: &mut Queue,
-    diagonal: &mut Queue,
+    list: &mut OpenList,
     order: &mut [Cell],
 ) -> usize
     requires source { IsPassable grid.now source }
-    requires few { passable_count grid.now ≤ 32768 }
-    requires fits { grid.now.width * grid.now.height ≤ length keys.old }
+    requires few { IsSearchable grid.now }
+    requires space { HasSpace grid.now (opened keys.old list.old) }
     requires room { passable_count grid.now ≤ length order.old }
-    requires straight_room { passable_count grid.now ≤ straight.old.room }
-    requires diagonal_room { passable_count grid.now ≤ diagonal.old.room }
-    requires unused { (place : ℕ) → slice_index_or keys.old place no_key ≡ no_key }
+    requires unused { HasNoKeys keys.old }
     ensures count { result ≤ length order.old }
     ensures finished { IsFinished grid.now source keys.new (take result order.new) }
-    ensures rooms { (straight.new.room ≡ straight.old.room) × (diagonal.new.room ≡ diagonal.old.room) }
+    ensures straight { list.new.straight.room ≡ list.old.straight.room }
+    ensures diagonal { list.new.diagonal.room ≡ list.old.diagonal.room }
 {
-    straight.clear();
-    diagonal.clear();
     keys[place(grid.width(), source)] = 0;
-    straight.push(Waiting {
-        key: 0,
-        cell: source,
-    });
+    list.begin(source);
     let mut count = 0;
-    while let Some(next) = take_first(straight, diagonal) {
+    while let Some(next) = list.take_first() {
         let place = place(grid.width(), next.cell);
         // An entry whose cell was reached by a lower key since is dropped.
         if keys[place] == next.key {
             order[count] = next.cell;
             count += 1;
-            relax(grid, next, place, keys, straight, diagonal);
+            relax(grid, next, place, keys, list);
         }
     }
     count
 }
 
-/// Takes the first entry of the queue whose first key is the lower one; `None` where both queues are empty.
-fn take_first(straight: &mut Queue, diagonal: &mut Queue) -> Option<Waiting>
-    requires { All (λ entry. entry.key < no_key) diagonal.old.pushed }
-    ensures some { IfSome result (λ entry. IsTakenFirst entry straight.old straight.new diagonal.old diagonal.new
-        ⊎ IsTakenFirst entry diagonal.old diagonal.new straight.old straight.new) }
-    ensures none { IfNone result ((length straight.old.pushed ≤ straight.old.taken) × (length diagonal.old.pushed ≤ diagonal.old.taken)
-        × (straight.new ≡ straight.old) × (diagonal.new ≡ diagonal.old)) }
-{
-    if straight.first_key() <= diagonal.first_key() {
-        straight.take()
-    } else {
-        diagonal.take()
-    }
+/// A cell that was settled last, its place in lists that go row by row, and its legal moves as bits.
+#[derive(Clone, Copy)]
+struct Settled {
+    entry: Waiting,
+    place: usize,
+    legal: u8,
 }
 
 /// Takes every legal step from a cell that was settled last.
-fn relax(
-    grid: &Grid,
-    from: Waiting,
-    place: usize,
-    keys: &mut [u32],
-    straight: &mut Queue,
-    diagonal: &mut Queue,
-)
-    requires passable { IsPassable grid.now from.cell }
-    requires place { place ≡ place_of grid.now.width from.cell }
-    requires key { from.key ≤ 1550614528 }
-    requires fits { grid.now.width * grid.now.height ≤ length keys.old }
-    requires ready { AreReady grid.now keys.old from.key straight.old diagonal.old }
-    ensures { AreStepsTaken grid.now from EveryMove keys.old keys.new straight.old straight.new diagonal.old diagonal.new }
+fn relax(grid: &Grid, entry: Waiting, place: usize, keys: &mut [u32], list: &mut OpenList)
+    requires last { IsSettledLast grid.now entry place }
+    requires ready { AreReady grid.now entry.key (opened keys.old list.old) }
+    ensures { AreStepsTaken grid.now entry EveryMove
+        (opened keys.old list.old) (opened keys.new list.new) }
 {
-    let mask = grid.move_masks()[place];
-    step(grid, mask, from, place, Move::N, keys, straight, diagonal);
-    step(grid, mask, from, place, Move::E, keys, straight, diagonal);
-    step(grid, mask, from, place, Move::S, keys, straight, diagonal);
-    step(grid, mask, from, place, Move::W, keys, straight, diagonal);
-    step(grid, mask, from, place, Move::NE, keys, straight, diagonal);
-    step(grid, mask, from, place, Move::SE, keys, straight, diagonal);
-    step(grid, mask, from, place, Move::SW, keys, straight, diagonal);
-    step(grid, mask, from, place, Move::NW, keys, straight, diagonal);
+    let legal = grid.move_masks()[place];
+    let from = Settled {
+        entry,
+        place,
+        legal,
+    };
+    step(grid, from, Move::N, keys, list);
+    step(grid, from, Move::E, keys, list);
+    step(grid, from, Move::S, keys, list);
+    step(grid, from, Move::W, keys, list);
+    step(grid, from, Move::NE, keys, list);
+    step(grid, from, Move::SE, keys, list);
+    step(grid, from, Move::SW, keys, list);
+    step(grid, from, Move::NW, keys, list);
 }
 
 /// Takes one step from a cell that was settled last, if it is legal and the target's key is higher than what it leads to.
-fn step(
-    grid: &Grid,
-    mask: u8,
-    from: Waiting,
-    place: usize,
-    by: Move,
-    keys: &mut [u32],
-    straight: &mut Queue,
-    diagonal: &mut Queue,
-)
-    requires passable { IsPassable grid.now from.cell }
-    requires place { place ≡ place_of grid.now.width from.cell }
-    requires mask { IsMoveMask grid.now from.cell mask }
-    requires key { from.key ≤ 1550614528 }
-    requires fits { grid.now.width * grid.now.height ≤ length keys.old }
-    requires ready { AreReady grid.now keys.old from.key straight.old diagonal.old }
-    ensures { AreStepsTaken grid.now from (OnlyMove by) keys.old keys.new straight.old straight.new diagonal.old diagonal.new }
+fn step(grid: &Grid, from: Settled, by: Move, keys: &mut [u32], list: &mut OpenList)
+    requires last { IsSettledLast grid.now from.entry from.place }
+    requires legal { IsMoveMask grid.now from.entry.cell from.legal }
+    requires ready { AreReady grid.now from.entry.key (opened keys.old list.old) }
+    ensures { AreStepsTaken grid.now from.entry (OnlyMove by)
+        (opened keys.old list.old) (opened keys.new list.new) }
 {
     let width = grid.width();
-    if mask >> by.number() & 1 != 1 {
+    if from.legal >> by.number() & 1 != 1 {
         return;
     }
-    let cell = target(from.cell, by);
-    let target_place = target_place(width, from.cell, place, by);
-    let key = from.key + step_key(by);
+    let cell = target(from.entry.cell, by);
+    let target_place = target_place(width, from.entry.cell, from.place, by);
+    let diagonal = by.is_diagonal();
+    let key = from.entry.key + step_key(diagonal);
     if keys[target_place] <= key {
         return;
     }
     keys[target_place] = key;
-    if by.is_diagonal() {
-        diagonal.push(Waiting { key, cell });
+    if diagonal {
+        list.push_diagonal(Waiting { key, cell });
     } else {
-        straight.push(Waiting { key, cell });
+        list.push_straight(Waiting { key, cell });
     }
 }
 
 /// The cell that the move leads to.
 fn target(from: Cell, by: Move) -> Cell
-    requires column { from.x < 4096 }
-    requires row { from.y < 4096 }
-    requires some { (to : Cell) × IsTarget from by to }
+    requires column { from.x < MAX_SIDE }
+    requires row { from.y < MAX_SIDE }
+    requires some { HasTarget from by }
     ensures { IsTarget from by result }
 {
     let x = match by {
@@ -154,11 +126,11 @@ fn target(from: Cell, by: Move) -> Cell
 
 /// The place of the cell that the move leads to, from the place of the cell that it leaves.
 fn target_place(width: u32, from: Cell, place: usize, by: Move) -> usize
-    requires width { width ≤ 4096 }
-    requires row { from.y < 4096 }
+    requires width { width ≤ MAX_SIDE }
+    requires row { from.y < MAX_SIDE }
     requires place { place ≡ place_of width from }
-    requires some { (to : Cell) × IsTarget from by to }
-    ensures { (to : Cell) → IsTarget from by to → result ≡ place_of width to }
+    requires some { HasTarget from by }
+    ensures { IsTargetPlace width from by result }
 {
     let width = width as usize;
     match by {
@@ -171,12 +143,4 @@ fn target_place(width: u32, from: Cell, place: usize, by: Move) -> usize
         Move::W => place - 1,
         Move::NW => place - width - 1,
     }
-}
-
-/// The key of one step.
-pub fn step_key(by: Move) -> u32
-    ensures key { result ≡ step_key by }
-    ensures limit { result ≤ 47321 }
-{
-    if by.is_diagonal() { 47321 } else { 33461 }
 }

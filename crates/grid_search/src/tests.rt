@@ -1,36 +1,15 @@
 //! Small maps with their least costs, a long one, and made maps against a plain scan.
 
-ghost use Rattle.std.specs.Prelude.{◌≡◌, ℕ, ◌+◌, ◌*◌, ◌<◌, ◌≤◌, IfOk, IfSome};
+ghost use Rattle.std.specs.Prelude.{◌≡◌, ◌*◌, ◌≤◌, IfOk};
 ghost use Rattle.moves.specs.Maps.{IsWithinLimits};
 
 mod plain;
 
 use crate::Search;
-use moves::{Cell, Grid};
-use root_cost::Cost;
+use moves::{Cell, Grid, MAX_PASSABLE};
+use root_cost::{Cost, NO_KEY, STRAIGHT_KEY};
 use std::alloc::{AllocError, Global};
 use std::process::Abort;
-
-/// The grid of those rows, `.` for a passable cell.
-fn grid_of(
-    rt: &impl Abort,
-    alloc: Global,
-    width: u32,
-    height: u32,
-    rows: &str,
-) -> Result<Grid, AllocError>
-    requires { IsWithinLimits width height }
-    ensures { IfOk result (λ grid. (grid.width ≡ width) × (grid.height ≡ height)) }
-{
-    let mut cells = Vec::new(alloc);
-    for byte in rows.as_bytes() {
-        if *byte != b'/' {
-            cells.push(*byte == b'.')?;
-        }
-    }
-    assert_eq!(rt; cells.len(), (width * height) as usize);
-    Grid::of_cells(alloc, width, height, cells)
-}
 
 /// A grid of those sides with about one in two to one in seven of the cells blocked, by the seed, or none.
 fn made_grid(alloc: Global, width: u32, height: u32, seed: u64) -> Result<Grid, AllocError>
@@ -55,7 +34,7 @@ fn agree(rt: &impl Abort, grid: &Grid, search: &mut Search, source: Cell)
 {
     let (width, height) = (grid.width(), grid.height());
     assert!(rt; width <= 8 && height <= 8 && grid.passable_count() <= 64 && grid.passable(source));
-    let mut keys = [u32::MAX; 64];
+    let mut keys = [NO_KEY; 64];
     let mut stamps = [0; 64];
     let mut done = [false; 64];
     let mut order = [Cell { x: 0, y: 0 }; 64];
@@ -72,7 +51,7 @@ fn agree(rt: &impl Abort, grid: &Grid, search: &mut Search, source: Cell)
             let key = keys[(y * width + x) as usize];
             let cost = search.cost(cell).map(|cost| cost.key());
             assert_eq!(rt;
-                cost.unwrap_or(u64::from(u32::MAX)),
+                cost.unwrap_or(u64::from(NO_KEY)),
                 u64::from(key),
                 "at {x} {y}"
             );
@@ -98,7 +77,7 @@ fn small_maps(rt: HostRuntime) -> Result<(), AllocError> {
     ];
     let mut search = Search::new(rt.alloc(), 64)?;
     for (width, height, rows, source, goal, want) in table {
-        let grid = grid_of(&rt, rt.alloc(), width, height, rows)?;
+        let grid = Grid::of_rows(rt.alloc(), width, height, rows)?;
         let source = Cell {
             x: source.0,
             y: source.1,
@@ -154,7 +133,7 @@ fn both_ends_of_a_long_map(rt: HostRuntime) -> Result<(), AllocError> {
         assert_eq!(rt; search.settled().len(), 4096);
         assert_eq!(rt;
             search.keys().get(usize::from(goal.x)),
-            Some(&(4095 * 33461))
+            Some(&(4095 * STRAIGHT_KEY))
         );
     }
     Ok(())
@@ -175,11 +154,11 @@ fn partly_open(alloc: Global, width: u32, height: u32, open: usize) -> Result<Gr
 /// As many passable cells as there may be, in the first rows of the largest grid: each one is reached.
 #[test]
 fn full_rows_of_a_large_grid(rt: HostRuntime) -> Result<(), AllocError> {
-    let grid = partly_open(rt.alloc(), 1024, 1024, 32_768)?;
+    let grid = partly_open(rt.alloc(), 1024, 1024, MAX_PASSABLE as usize)?;
     let mut search = Search::new(rt.alloc(), 1_048_576)?;
     let source = Cell { x: 0, y: 0 };
     let goal = Cell { x: 1023, y: 31 };
-    assert!(rt; grid.passable(source) && grid.passable_count() == 32_768);
+    assert!(rt; grid.passable(source) && grid.passable_count() == MAX_PASSABLE);
     search.from_source(&grid, source);
     assert!(rt; grid.inside(goal));
     let cost = Cost {
@@ -187,6 +166,6 @@ fn full_rows_of_a_large_grid(rt: HostRuntime) -> Result<(), AllocError> {
         diagonal: 31,
     };
     assert_eq!(rt; search.cost(goal), Some(cost));
-    assert_eq!(rt; search.settled().len(), 32_768);
+    assert_eq!(rt; search.settled().len(), MAX_PASSABLE as usize);
     Ok(())
 }

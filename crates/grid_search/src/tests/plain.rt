@@ -2,15 +2,14 @@
 //! own way of settling cells, and its order: of open cells of one cost, those that a straight move opened come before
 //! those that a diagonal move opened, and among them the one that was opened first.
 
-ghost use Rattle.std.specs.Prelude.{◌≡◌, ℕ, ◌*◌, ◌<◌, ◌≤◌, ◌/◌, ◌⊎◌, Bool, true, false, IsTrue, IsFalse, IfSome, IfNone, length, take, slice_index_or};
-ghost use Rattle.moves.specs.Maps.{IsPassable, passable_count, cell_at};
-ghost use Rattle.grid_search.specs.Keys.{no_key};
+ghost use Rattle.std.specs.Prelude.{◌≡◌, ◌*◌, ◌<◌, ◌≤◌, ◌/◌, ◌⊎◌, IsTrue, IsFalse, IfSome, IfNone, length, take};
+ghost use Rattle.moves.specs.Maps.{IsPassable, IsSearchable, cell_at};
+ghost use Rattle.grid_search.specs.Keys.{HasNoKeys};
 ghost use Rattle.grid_search.specs.Settling.{EveryMove, OnlyMove, IsRelaxed, IsFinished};
-ghost use Rattle.grid_search.specs.Scanning.{IsLeastOpen, AreNoneOpen};
+ghost use Rattle.grid_search.specs.Scanning.{AreNoneDone, AreNoneOpen, IsLeastOpen};
 
-use crate::settling::step_key;
-use crate::{NO_KEY, place};
-use moves::{Cell, Grid, Move};
+use moves::{Cell, Grid, MAX_SIDE, Move, place};
+use root_cost::{GREATEST_KEY, NO_KEY, step_key};
 
 /// Settles the cells that are reached from the source, one by one, by rising key. Answers how many there are.
 pub fn settle(
@@ -22,13 +21,13 @@ pub fn settle(
     order: &mut [Cell],
 ) -> usize
     requires source { IsPassable grid.now source }
-    requires few { passable_count grid.now ≤ 32768 }
+    requires few { IsSearchable grid.now }
     requires fits { grid.now.width * grid.now.height ≤ length keys.old }
     requires stamps { length stamps.old ≡ length keys.old }
     requires done { length done.old ≡ length keys.old }
     requires room { grid.now.width * grid.now.height ≤ length order.old }
-    requires unused { (place : ℕ) → slice_index_or keys.old place no_key ≡ no_key }
-    requires none_done { (place : ℕ) → slice_index_or done.old place false ≡ false }
+    requires unused { HasNoKeys keys.old }
+    requires none_done { AreNoneDone done.old }
     ensures count { result ≤ length order.old }
     ensures finished { IsFinished grid.now source keys.new (take result order.new) }
 {
@@ -42,7 +41,8 @@ pub fn settle(
         order[count] = cell;
         count += 1;
         turn = turn.wrapping_add(1);
-        open_beside(grid, cell, keys[place], turn, keys, stamps);
+        let key = keys[place];
+        open_beside(grid, Settled { cell, key, turn }, keys, stamps);
     }
     count
 }
@@ -69,8 +69,8 @@ fn least_open(keys: &[u32], stamps: &[u32], done: &[bool], cells: usize) -> Opti
 
 /// Does the first come before the second, by key and then by stamp? No key comes before what has none.
 fn comes_before(a: (u32, u32), b: (u32, u32)) -> bool
-    ensures yes { IsTrue result → (a.0 ≤ b.0) × (a.0 < no_key) }
-    ensures no { IsFalse result → b.0 ≤ a.0 ⊎ (no_key ≤ a.0) }
+    ensures yes { IsTrue result → (a.0 ≤ b.0) × (a.0 < NO_KEY) }
+    ensures no { IsFalse result → b.0 ≤ a.0 ⊎ (NO_KEY ≤ a.0) }
 {
     a.0 < NO_KEY && (a.0 < b.0 || a.0 == b.0 && a.1 < b.1)
 }
@@ -78,8 +78,8 @@ fn comes_before(a: (u32, u32), b: (u32, u32)) -> bool
 /// The cell at a place in a list that goes row by row.
 fn cell_at(width: u32, place: usize) -> Cell
     requires some { 0 < width }
-    requires width { width ≤ 4096 }
-    requires row { place / width < 4096 }
+    requires width { width ≤ MAX_SIDE }
+    requires row { place / width < MAX_SIDE }
     ensures { result ≡ cell_at width place }
 {
     Cell {
@@ -88,53 +88,53 @@ fn cell_at(width: u32, place: usize) -> Cell
     }
 }
 
+/// A cell that was settled last, its key, and how many cells are settled.
+#[derive(Clone, Copy)]
+struct Settled {
+    cell: Cell,
+    key: u32,
+    turn: u32,
+}
+
 /// Takes every legal step from a cell that was settled last.
-fn open_beside(grid: &Grid, from: Cell, key: u32, turn: u32, keys: &mut [u32], stamps: &mut [u32])
-    requires passable { IsPassable grid.now from }
-    requires key { key ≤ 1550614528 }
+fn open_beside(grid: &Grid, from: Settled, keys: &mut [u32], stamps: &mut [u32])
+    requires passable { IsPassable grid.now from.cell }
+    requires key { from.key ≤ GREATEST_KEY }
     requires fits { grid.now.width * grid.now.height ≤ length keys.old }
     requires stamps { length stamps.old ≡ length keys.old }
-    ensures relaxed { IsRelaxed grid.now from key EveryMove keys.old keys.new }
+    ensures relaxed { IsRelaxed grid.now from.cell from.key EveryMove keys.old keys.new }
     ensures keys { length keys.new ≡ length keys.old }
     ensures stamps { length stamps.new ≡ length stamps.old }
 {
-    open(grid, from, key, turn, Move::N, keys, stamps);
-    open(grid, from, key, turn, Move::E, keys, stamps);
-    open(grid, from, key, turn, Move::S, keys, stamps);
-    open(grid, from, key, turn, Move::W, keys, stamps);
-    open(grid, from, key, turn, Move::NE, keys, stamps);
-    open(grid, from, key, turn, Move::SE, keys, stamps);
-    open(grid, from, key, turn, Move::SW, keys, stamps);
-    open(grid, from, key, turn, Move::NW, keys, stamps);
+    open(grid, from, Move::N, keys, stamps);
+    open(grid, from, Move::E, keys, stamps);
+    open(grid, from, Move::S, keys, stamps);
+    open(grid, from, Move::W, keys, stamps);
+    open(grid, from, Move::NE, keys, stamps);
+    open(grid, from, Move::SE, keys, stamps);
+    open(grid, from, Move::SW, keys, stamps);
+    open(grid, from, Move::NW, keys, stamps);
 }
 
 /// Takes one step from a cell that was settled last, if it is legal and leads to a lower key than the target has.
-fn open(
-    grid: &Grid,
-    from: Cell,
-    key: u32,
-    turn: u32,
-    by: Move,
-    keys: &mut [u32],
-    stamps: &mut [u32],
-)
-    requires passable { IsPassable grid.now from }
-    requires key { key ≤ 1550614528 }
+fn open(grid: &Grid, from: Settled, by: Move, keys: &mut [u32], stamps: &mut [u32])
+    requires passable { IsPassable grid.now from.cell }
+    requires key { from.key ≤ GREATEST_KEY }
     requires fits { grid.now.width * grid.now.height ≤ length keys.old }
     requires stamps { length stamps.old ≡ length keys.old }
-    ensures relaxed { IsRelaxed grid.now from key (OnlyMove by) keys.old keys.new }
+    ensures relaxed { IsRelaxed grid.now from.cell from.key (OnlyMove by) keys.old keys.new }
     ensures keys { length keys.new ≡ length keys.old }
     ensures stamps { length stamps.new ≡ length stamps.old }
 {
-    if !grid.legal(from, by) {
+    if !grid.legal(from.cell, by) {
         return;
     }
-    if let Some(to) = grid.step(from, by) {
+    if let Some(to) = grid.step(from.cell, by) {
         let place = place(grid.width(), to);
-        let reached = key + step_key(by);
+        let reached = from.key + step_key(by.is_diagonal());
         if reached < keys[place] {
             keys[place] = reached;
-            stamps[place] = stamp(turn, by);
+            stamps[place] = stamp(from.turn, by);
         }
     }
 }

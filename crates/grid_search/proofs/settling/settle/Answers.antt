@@ -1,56 +1,94 @@
-use Rattle.std.proofs.Common.{◌∙◌, refl, ap, sym, arith, length}
+use Rattle.std.proofs.Common.{◌∙◌, subst, refl, ap, sym, arith, set}
 use Rattle.std.proofs.lemmas.List.{length-set}
-use Rattle.moves.specs.Maps.{place_of}
-use Rattle.grid_search.specs.Queues.{push_to}
+use Rattle.grid_search.specs.Queues.{opened}
 use Rattle.grid_search.proofs.Found.{some_passable}
-use Rattle.grid_search.proofs.Turning.{IsTurn, searching_start, searching_same, searching_more, turn_of, entry_read, next_room, next_key, next_ready}
+use Rattle.grid_search.proofs.Queueing.{space_kept}
+use Rattle.grid_search.proofs.Turning.{IsSearching, searching_begun, searching_more, turn_of, settled_room, settled_last, settled_ready, entry_dropped}
 use Rattle.grid_search.proofs.settling.settle.Goals as goal
 
+pub begin-requires : goal.begin-requires
+begin-requires c =
+    let some = some_passable c.args.grid.now c.args.source c.requires.source in
+    let room = c.requires.space.straight_room in
+    omega arith
+
 pub loop-next-init : goal.loop-next-init
-loop-next-init c = record {
-  searching = searching_same _ _ _ _ _ _ _ _ _ _ _ _ refl refl refl (c.push.ensures ∙ ap (λ queue. push_to queue (record { key = 0; cell = c.args.source })) c.clear.ensures) c.clear-2.ensures
-      (searching_start _ _ c.requires.source _ c.requires.unused c.requires.fits _ (c.place.ensures ∙ ap (λ w. place_of w c.args.source) c.width.ensures.width) _ _ _);
-  straight_room = ap (λ queue. queue.room) c.push.ensures ∙ ap (λ queue. queue.room) c.clear.ensures;
-  diagonal_room = ap (λ queue. queue.room) c.clear-2.ensures;
-}
+loop-next-init c =
+    let front = opened c.args.keys.now c.args.list.now in
+    let begun = searching_begun _ _ front c.place.result c.width.result c.args.order.now c.requires.source c.requires.unused c.requires.space
+    c.place.ensures c.width.ensures.width in
+    let same = ap (opened (set c.args.keys.now c.place.result 0)) (sym c.begin.ensures) in
+    record {
+      searching = subst (IsSearching c.args.grid.now c.args.source c.args.order.now 0) same begun;
+      straight = ap (λ l. l.straight.room) c.begin.ensures;
+      diagonal = ap (λ l. l.diagonal.room) c.begin.ensures;
+    }
 
 pub bounds-order-count : goal.bounds-order-count
-bounds-order-count c = next_room _ _ _ _ _ _ _ c.loop-next.invariant.searching c.requires.source (omega (arith, c.loop-next.auto.order, c.requires.room)) (omega (arith, c.loop-next.auto.keys, length-set c.args.keys.now c.place.result 0)) c.in-Some.next _ _ (turn_of _ _ _ _ _ _ _ c.loop-next.invariant.searching c.in-Some.next _ _ c.in-Some.ensures.some) (entry_read _ _ _ _ _ _ _ c.loop-next.invariant.searching c.requires.source (omega (arith, c.loop-next.auto.order, c.requires.room)) (omega (arith, c.loop-next.auto.keys, length-set c.args.keys.now c.place.result 0)) c.in-Some.next _ _ (turn_of _ _ _ _ _ _ _ c.loop-next.invariant.searching c.in-Some.next _ _ c.in-Some.ensures.some) _ _ c.place-place.ensures c.width-in-Some.ensures.width ∙ c.if-keys-place.true)
+bounds-order-count c =
+    let known = c.loop-next.invariant in
+    let space = space_kept _ _ (opened c.loop-next.keys c.loop-next.list) c.requires.space
+    (c.loop-next.auto.keys ∙ length-set c.args.keys.now c.place.result 0) known.straight known.diagonal in
+    let turn = turn_of _ _ _ _ _ known.searching c.in-Some.next (opened c.loop-next.keys c.take_first.new.self) refl c.in-Some.ensures.some in
+    let holds = c.if-keys-place.true in
+    settled_room _ _ _ _ _ _ _ turn space _ _ c.place-place.ensures c.width-in-Some.ensures.width c.requires.source c.requires.few
+    (omega (arith, c.loop-next.auto.order, c.requires.room)) holds
 
-pub relax-requires-clause-key : goal.relax-requires-clause-key
-relax-requires-clause-key c = next_key _ _ _ _ _ _ _ c.loop-next.invariant.searching c.requires.source (omega (arith, c.loop-next.auto.order, c.requires.room)) (omega (arith, c.loop-next.auto.keys, length-set c.args.keys.now c.place.result 0)) c.in-Some.next _ _ (turn_of _ _ _ _ _ _ _ c.loop-next.invariant.searching c.in-Some.next _ _ c.in-Some.ensures.some) (entry_read _ _ _ _ _ _ _ c.loop-next.invariant.searching c.requires.source (omega (arith, c.loop-next.auto.order, c.requires.room)) (omega (arith, c.loop-next.auto.keys, length-set c.args.keys.now c.place.result 0)) c.in-Some.next _ _ (turn_of _ _ _ _ _ _ _ c.loop-next.invariant.searching c.in-Some.next _ _ c.in-Some.ensures.some) _ _ c.place-place.ensures c.width-in-Some.ensures.width ∙ c.if-keys-place.true) c.requires.few
+pub relax-requires-clause-last : goal.relax-requires-clause-last
+relax-requires-clause-last c =
+    let known = c.loop-next.invariant in
+    let space = space_kept _ _ (opened c.loop-next.keys c.loop-next.list) c.requires.space
+    (c.loop-next.auto.keys ∙ length-set c.args.keys.now c.place.result 0) known.straight known.diagonal in
+    let turn = turn_of _ _ _ _ _ known.searching c.in-Some.next (opened c.loop-next.keys c.take_first.new.self) refl c.in-Some.ensures.some in
+    let holds = c.if-keys-place.true in
+    settled_last _ _ _ _ _ _ _ turn space _ _ c.place-place.ensures c.width-in-Some.ensures.width c.requires.source c.requires.few
+    (omega (arith, c.loop-next.auto.order, c.requires.room)) holds
 
 pub relax-requires-clause-ready : goal.relax-requires-clause-ready
-relax-requires-clause-ready c = next_ready _ _ _ _ _ _ _ c.loop-next.invariant.searching c.requires.source (omega (arith, c.loop-next.auto.order, c.requires.room)) (omega (arith, c.loop-next.auto.keys, length-set c.args.keys.now c.place.result 0)) c.in-Some.next _ _ (turn_of _ _ _ _ _ _ _ c.loop-next.invariant.searching c.in-Some.next _ _ c.in-Some.ensures.some) (entry_read _ _ _ _ _ _ _ c.loop-next.invariant.searching c.requires.source (omega (arith, c.loop-next.auto.order, c.requires.room)) (omega (arith, c.loop-next.auto.keys, length-set c.args.keys.now c.place.result 0)) c.in-Some.next _ _ (turn_of _ _ _ _ _ _ _ c.loop-next.invariant.searching c.in-Some.next _ _ c.in-Some.ensures.some) _ _ c.place-place.ensures c.width-in-Some.ensures.width ∙ c.if-keys-place.true) (omega (arith, c.loop-next.invariant.straight_room, c.requires.straight_room)) (omega (arith, c.loop-next.invariant.diagonal_room, c.requires.diagonal_room))
+relax-requires-clause-ready c =
+    let known = c.loop-next.invariant in
+    let space = space_kept _ _ (opened c.loop-next.keys c.loop-next.list) c.requires.space
+    (c.loop-next.auto.keys ∙ length-set c.args.keys.now c.place.result 0) known.straight known.diagonal in
+    let turn = turn_of _ _ _ _ _ known.searching c.in-Some.next (opened c.loop-next.keys c.take_first.new.self) refl c.in-Some.ensures.some in
+    let holds = c.if-keys-place.true in
+    settled_ready _ _ _ _ _ _ _ turn space _ _ c.place-place.ensures c.width-in-Some.ensures.width c.requires.source c.requires.few
+    (omega (arith, c.loop-next.auto.order, c.requires.room)) holds
 
 pub loop-next-smaller-then-keys-place : goal.loop-next-smaller-then-keys-place
 loop-next-smaller-then-keys-place c =
-    let u : IsTurn c.args.grid.now c.args.source c.loop-next.keys c.loop-next.order c.loop-next.count c.in-Some.next c.loop-next.straight c.take_first.new.straight c.loop-next.diagonal c.take_first.new.diagonal = turn_of _ _ _ _ _ _ _ c.loop-next.invariant.searching c.in-Some.next _ _ c.in-Some.ensures.some in
-    omega (arith, u.more_taken, u.taken_count, c.relax.ensures.none_taken.0, c.relax.ensures.none_taken.1)
+    let known = c.loop-next.invariant in
+    let turn = turn_of _ _ _ _ _ known.searching c.in-Some.next (opened c.loop-next.keys c.take_first.new.self) refl c.in-Some.ensures.some in
+    omega (arith, turn.more_taken, turn.taken_count, c.relax.ensures.none_taken.0, c.relax.ensures.none_taken.1)
 
 pub loop-next-preserved-then-keys-place : goal.loop-next-preserved-then-keys-place
-loop-next-preserved-then-keys-place c = record {
-  searching = searching_more _ _ _ _ _ _ _ c.loop-next.invariant.searching c.requires.source (omega (arith, c.loop-next.auto.order, c.requires.room)) (omega (arith, c.loop-next.auto.keys, length-set c.args.keys.now c.place.result 0)) c.in-Some.next _ _ (turn_of _ _ _ _ _ _ _ c.loop-next.invariant.searching c.in-Some.next _ _ c.in-Some.ensures.some) (entry_read _ _ _ _ _ _ _ c.loop-next.invariant.searching c.requires.source (omega (arith, c.loop-next.auto.order, c.requires.room)) (omega (arith, c.loop-next.auto.keys, length-set c.args.keys.now c.place.result 0)) c.in-Some.next _ _ (turn_of _ _ _ _ _ _ _ c.loop-next.invariant.searching c.in-Some.next _ _ c.in-Some.ensures.some) _ _ c.place-place.ensures c.width-in-Some.ensures.width ∙ c.if-keys-place.true) _ _ _ c.relax.ensures;
-  straight_room = c.relax.ensures.rooms.0 ∙ (turn_of _ _ _ _ _ _ _ c.loop-next.invariant.searching c.in-Some.next _ _ c.in-Some.ensures.some).rooms.0 ∙ c.loop-next.invariant.straight_room;
-  diagonal_room = c.relax.ensures.rooms.1 ∙ (turn_of _ _ _ _ _ _ _ c.loop-next.invariant.searching c.in-Some.next _ _ c.in-Some.ensures.some).rooms.1 ∙ c.loop-next.invariant.diagonal_room;
-}
+loop-next-preserved-then-keys-place c =
+    let known = c.loop-next.invariant in
+    let space = space_kept _ _ (opened c.loop-next.keys c.loop-next.list) c.requires.space
+    (c.loop-next.auto.keys ∙ length-set c.args.keys.now c.place.result 0) known.straight known.diagonal in
+    let turn = turn_of _ _ _ _ _ known.searching c.in-Some.next (opened c.loop-next.keys c.take_first.new.self) refl c.in-Some.ensures.some in
+    let holds = c.if-keys-place.true in
+    record {
+      searching = searching_more _ _ _ _ _ _ _ turn space _ _ c.place-place.ensures c.width-in-Some.ensures.width c.requires.source c.requires.few
+          (omega (arith, c.loop-next.auto.order, c.requires.room)) holds _ c.relax.ensures;
+      straight = c.relax.ensures.rooms.0 ∙ turn.rooms.0 ∙ known.straight;
+      diagonal = c.relax.ensures.rooms.1 ∙ turn.rooms.1 ∙ known.diagonal;
+    }
 
 pub loop-next-smaller : goal.loop-next-smaller
 loop-next-smaller c =
-    let u : IsTurn c.args.grid.now c.args.source c.loop-next.keys c.loop-next.order c.loop-next.count c.in-Some.next c.loop-next.straight c.take_first.new.straight c.loop-next.diagonal c.take_first.new.diagonal = turn_of _ _ _ _ _ _ _ c.loop-next.invariant.searching c.in-Some.next _ _ c.in-Some.ensures.some in
-    omega (arith, u.more_taken, u.taken_count)
+    let known = c.loop-next.invariant in
+    let turn = turn_of _ _ _ _ _ known.searching c.in-Some.next (opened c.loop-next.keys c.take_first.new.self) refl c.in-Some.ensures.some in
+    omega (arith, turn.more_taken, turn.taken_count)
 
 pub loop-next-preserved : goal.loop-next-preserved
-loop-next-preserved c = record {
-  searching = (turn_of _ _ _ _ _ _ _ c.loop-next.invariant.searching c.in-Some.next _ _ c.in-Some.ensures.some).stale (λ e. c.if-keys-place.false (sym (entry_read _ _ _ _ _ _ _ c.loop-next.invariant.searching c.requires.source (omega (arith, c.loop-next.auto.order, c.requires.room)) (omega (arith, c.loop-next.auto.keys, length-set c.args.keys.now c.place.result 0)) c.in-Some.next _ _ (turn_of _ _ _ _ _ _ _ c.loop-next.invariant.searching c.in-Some.next _ _ c.in-Some.ensures.some) _ _ c.place-place.ensures c.width-in-Some.ensures.width) ∙ e));
-  straight_room = (turn_of _ _ _ _ _ _ _ c.loop-next.invariant.searching c.in-Some.next _ _ c.in-Some.ensures.some).rooms.0 ∙ c.loop-next.invariant.straight_room;
-  diagonal_room = (turn_of _ _ _ _ _ _ _ c.loop-next.invariant.searching c.in-Some.next _ _ c.in-Some.ensures.some).rooms.1 ∙ c.loop-next.invariant.diagonal_room;
-}
-
-pub push-requires : goal.push-requires
-push-requires c =
-    let some = some_passable c.args.grid.now c.args.source c.requires.source in
-    let room = c.requires.straight_room in
-    let empty = ap (λ queue. queue.room) c.clear.ensures in
-    let none = ap (λ queue. length queue.pushed) c.clear.ensures in
-    omega arith
+loop-next-preserved c =
+    let known = c.loop-next.invariant in
+    let space = space_kept _ _ (opened c.loop-next.keys c.loop-next.list) c.requires.space
+    (c.loop-next.auto.keys ∙ length-set c.args.keys.now c.place.result 0) known.straight known.diagonal in
+    let turn = turn_of _ _ _ _ _ known.searching c.in-Some.next (opened c.loop-next.keys c.take_first.new.self) refl c.in-Some.ensures.some in
+    record {
+      searching = entry_dropped _ _ _ _ _ _ _ turn space _ _ c.place-place.ensures c.width-in-Some.ensures.width
+          c.if-keys-place.false;
+      straight = turn.rooms.0 ∙ known.straight;
+      diagonal = turn.rooms.1 ∙ known.diagonal;
+    }

@@ -1,14 +1,15 @@
-use Rattle.std.proofs.Common.{◌≡◌, ◌+◌, ◌-◌, ◌*◌}
+use Rattle.std.proofs.Common.{◌≡◌, ◌-◌, ◌*◌}
 use Rattle.moves.specs.Maps.{passable_count}
+use Rattle.grid_search.specs.Queues.{opened, taken_from}
 use Rattle.grid_search.proofs.Turning.{IsSearching}
 use Rattle.grid_search.proofs.settling.settle.Given as goal
 
 abbrev pub invariant-loop-next : goal.invariant-loop-next
 invariant-loop-next l = record {
-  searching : IsSearching l.grid l.fn.source l.keys l.order l.count l.straight l.diagonal;
-  straight_room : l.straight.room ≡ l.fn.straight.room;
-  diagonal_room : l.diagonal.room ≡ l.fn.diagonal.room;
+  searching : IsSearching l.grid l.fn.source l.order l.count (opened l.keys l.list);
+  straight : l.list.straight.room ≡ l.fn.list.straight.room;
+  diagonal : l.list.diagonal.room ≡ l.fn.list.diagonal.room;
 }
 
 abbrev pub decreases-loop-next : goal.decreases-loop-next
-decreases-loop-next l = 2 * passable_count l.grid - (l.straight.taken + l.diagonal.taken)
+decreases-loop-next l = 2 * passable_count l.grid - taken_from (opened l.keys l.list)

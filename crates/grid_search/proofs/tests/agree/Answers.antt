@@ -1,4 +1,4 @@
-use Rattle.grid_search.proofs.Filled.{one_value}
+use Rattle.moves.proofs.OneValue.{one_value}
 use Rattle.grid_search.proofs.tests.agree.Goals as goal
 
 pub settle-count-requires-clause-unused : goal.settle-count-requires-clause-unused
