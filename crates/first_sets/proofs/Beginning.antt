@@ -22,13 +22,15 @@ pub record IsBegun (map : Map) (source : Cell) (search : Searched) (found : List
   pub each : (cell : Cell) → IsInside map cell → (move : Move) → Has (set_in map.width sets cell) move ↔ IsSeeded map source search found n cell move
   pub beyond : (place : ℕ) (move : Move) → map.width * map.height ≤ place → Has (get_or sets place 0) move → ⊥
 
-pub begun_none : (map : Map) (source : Cell) (search : Searched) (found : List (Move × Cell)) (sets : List ℕ) → AreEmpty sets → IsBegun map source search found 0 sets
+pub begun_none : (map : Map) (source : Cell) (search : Searched) (found : List (Move × Cell)) (sets : List ℕ) → AreEmpty sets
+    → IsBegun map source search found 0 sets
 begun_none map source search found sets empty = record {
   each = λ cell inside move. (λ h. absurd (empty (place_of map.width cell) move h), λ h. absurd (omega arith));
   beyond = λ place move past h. empty place move h;
 }
 
-module _ (map : Map) (source : Cell) (search : Searched) (found : List (Move × Cell)) (n : ℕ) (sets : List ℕ) (l : n < length found) (pair : Move × Cell) (here : get_or found n filler ≡ pair) (begun : IsBegun map source search found n sets) where
+module _ (map : Map) (source : Cell) (search : Searched) (found : List (Move × Cell)) (n : ℕ) (sets : List ℕ) (l : n < length found) (pair : Move × Cell)
+    (here : get_or found n filler ≡ pair) (begun : IsBegun map source search found n sets) where
   begun_past : (cell : Cell) (move : Move) → IsSeeded map source search found n cell move → IsSeeded map source search found (n + 1) cell move
   begun_past cell move h = (h.0, let low = h.1 in omega arith, h.2, h.3)
 
@@ -49,7 +51,8 @@ module _ (map : Map) (source : Cell) (search : Searched) (found : List (Move × 
     beyond = begun.beyond;
   }
 
-  module _ (fits : map.width * map.height ≤ length sets) (step : Attains map search source pair.0 pair.1) (new : ℕ) (made : (move : Move) → Has new move ↔ (Has (set_in map.width sets pair.1) move ⊎ (move ≡ pair.0))) where
+  module _ (fits : map.width * map.height ≤ length sets) (step : Attains map search source pair.0 pair.1) (new : ℕ)
+      (made : (move : Move) → Has new move ↔ (Has (set_in map.width sets pair.1) move ⊎ (move ≡ pair.0))) where
     begun_at : (move : Move) → Has new move ↔ IsSeeded map source search found (n + 1) pair.1 move
     begun_at move = (
       λ h. elim ((made move).0 h) [
@@ -90,7 +93,8 @@ module _ (map : Map) (source : Cell) (search : Searched) (found : List (Move × 
           each = λ cell inside move. elim (same_or_apart map pair.1 cell within inside) [
             | inl e ↦
                 let here = set_in_same map sets pair.1 new fits within in
-                subst (λ x. Has (set_in map.width (set sets (place_of map.width pair.1) new) x) move ↔ IsSeeded map source search found (n + 1) x move) e (has_same _ _ move _ here (begun_at move))
+                subst (λ x. Has (set_in map.width (set sets (place_of map.width pair.1) new) x) move ↔ IsSeeded map source search found (n + 1) x move) e
+                (has_same _ _ move _ here (begun_at move))
             | inr apart ↦
                 let away : pair.1 ≢ cell = λ e. apart (ap (place_of map.width) e) in
                 has_same _ _ move _ (set_in_other map sets pair.1 cell new within inside away) (begun_apart cell inside away move)
@@ -101,13 +105,15 @@ module _ (map : Map) (source : Cell) (search : Searched) (found : List (Move × 
               begun.beyond place move past (subst (λ s. Has s move) (get_or-set_other sets (place_of map.width pair.1) place new 0 n) h);
         }
 
-pub begun_all : (map : Map) (source : Cell) (search : Searched) (found : List (Move × Cell)) (sets : List ℕ) → HasSearched map source search → IsPassable map source
+pub begun_all : (map : Map) (source : Cell) (search : Searched) (found : List (Move × Cell)) (sets : List ℕ) → HasSearched map source search
+    → IsPassable map source
     → AreNeighbours map source found → IsBegun map source search found (length found) sets → IsPassed map source search 0 sets
 begun_all map source search found sets has free near begun =
     let each : (cell : Cell) → IsInside map cell → (move : Move) → Has (set_in map.width sets cell) move ↔ Attains map search source move cell
     = λ cell inside move. (
       λ h. ((begun.each cell inside move).0 h).3,
-      λ step. let at = near.every move cell step.legal in (begun.each cell inside move).1 (at.0, at.1, get_or_default found at.0 filler (move, cell) at.1 ∙ at.2, step),
+      λ step. let at = near.every move cell step.legal in (begun.each cell inside move).1
+          (at.0, at.1, get_or_default found at.0 filler (move, cell) at.1 ∙ at.2, step),
     ) in
     record {
       empty = λ move h. no_step_to_source map source search has source move ((each source free.inside move).0 h);

@@ -12,7 +12,7 @@ use Rattle.moves.specs.Moves.{number_of}
 use Rattle.moves.specs.MoveSets.{Has}
 use Rattle.moves.proofs.MoveLaws.{number_below}
 use Rattle.moves.proofs.MovesInSets.{Has-bit, Has-from_bit, Has-join, Has-meet, Has-all, Has-none, move_with}
-use Rattle.grid_search.specs.Keys.{step_key}
+use Rattle.grid_search.specs.Keys.{move_key}
 use Rattle.first_sets.specs.Places.{IsBeside, StaysWithin, IsBroughtTo}
 
 -- ---- a test by arithmetic
@@ -61,7 +61,7 @@ same_beside w W from a b p q = omega arith
 same_beside w NW from a b p q = omega arith
 
 -- a step costs something
-step_some : (by : Move) → 0 < step_key by
+step_some : (by : Move) → 0 < move_key by
 step_some by = grind arith
 
 has_or_not : (set : ℕ) (by : Move) → Has set by ⊎ (Has set by → ⊥)
@@ -69,11 +69,13 @@ has_or_not set by = elim (cases_eq (bit_at set (number_of by)) 1) [ inl e ↦ in
 
 -- the move stands in the set at a place beside, which the move `by` leads to and from which a step attains the key
 abbrev pub IsBroughtBy : ℕ → List ℕ → List ℕ → ℕ → ℕ → Move → Move → Type 0
-IsBroughtBy w keys sets legal place by move = (from : ℕ) × Has legal by × IsBeside w by place from × (get_or keys from 0 + step_key by ≡ get_or keys place 0) × Has (get_or sets from 0) move
+IsBroughtBy w keys sets legal place by move = (from : ℕ) × Has legal by × IsBeside w by place from × (get_or keys from 0 + move_key by ≡ get_or keys place 0)
+    × Has (get_or sets from 0) move
 
 -- the set has what stood there and what the moves with numbers below `n` bring
 pub record IsBroughtBelow (w : ℕ) (keys sets : List ℕ) (legal place n made : ℕ) : Type 0 where
-  pub has : (move : Move) → Has made move ↔ (Has (get_or sets place 0) move ⊎ ((by : Move) × (number_of by < n) × IsBroughtBy w keys sets legal place by move))
+  pub has : (move : Move) → Has made move ↔ (Has (get_or sets place 0) move
+      ⊎ ((by : Move) × (number_of by < n) × IsBroughtBy w keys sets legal place by move))
 
 pub brought_none : (w : ℕ) (keys sets : List ℕ) (legal place made : ℕ) → made ≡ get_or sets place 0 → IsBroughtBelow w keys sets legal place 0 made
 brought_none w keys sets legal place made e = record {
@@ -87,7 +89,11 @@ pub brought_all : (w : ℕ) (keys sets : List ℕ) (legal place n made : ℕ) �
     → (move : Move) → Has made move ↔ IsBroughtTo w keys sets legal place move
 brought_all w keys sets legal place n made all brought move = (
   λ h. elim ((brought.has move).0 h) [ inl old ↦ inl old | inr more ↦ let by = more.2 in inr (more.0, by.0, by.1, by.2, by.3, by.4) ],
-  λ h. (brought.has move).1 (elim h [ inl old ↦ inl old | inr more ↦ inr (more.0, (let low = number_below more.0 in omega arith), (more.1, more.2, more.3, more.4, more.5)) ]),
+  λ h. (brought.has move).1 (elim h [
+    | inl old ↦ inl old
+    | inr more ↦ inr
+        (more.0, (let low = number_below more.0 in omega arith), (more.1, more.2, more.3, more.4, more.5))
+  ]),
 )
 
 module _ (w : ℕ) (keys sets : List ℕ) (legal place n from : ℕ) (l : n < 8) (small : length keys < 18446744073709551616)
@@ -109,9 +115,10 @@ module _ (w : ℕ) (keys sets : List ℕ) (legal place n from : ℕ) (l : n < 8)
 
   -- the set after one more move has what it had and, if a step from there attains the key, what stands there
   module _ (made after step : ℕ) (brought : IsBroughtBelow w keys sets legal place n made)
-      (step_is : (by : Move) → number_of by ≡ n → step ≡ step_key by)
+      (step_is : (by : Move) → number_of by ≡ n → step ≡ move_key by)
       (joined : (move : Move) → Has after move ↔ (Has made move ⊎ ((get_or keys from 0 + step ≡ get_or keys place 0) × Has (get_or sets from 0) move))) where
-    brought_if : (move : Move) → get_or keys from 0 + step ≡ get_or keys place 0 → Has (get_or sets from 0) move → (by : Move) × (number_of by ≡ n) × IsBroughtBy w keys sets legal place by move
+    brought_if : (move : Move) → get_or keys from 0 + step ≡ get_or keys place 0 → Has (get_or sets from 0) move
+        → (by : Move) × (number_of by ≡ n) × IsBroughtBy w keys sets legal place by move
     brought_if move e old =
         let by = move_with n l in
         let cost = step_is by.0 by.1 in
@@ -121,7 +128,8 @@ module _ (w : ℕ) (keys sets : List ℕ) (legal place n from : ℕ) (l : n < 8)
               let to = next.0 in
               let low = next.2 in
               let here : from ≡ to = at_legal by.0 to by.1 has next.1 (omega arith) in
-              let same : get_or keys to 0 + step_key by.0 ≡ get_or keys place 0 = subst (λ p. get_or keys p 0 + step_key by.0 ≡ get_or keys place 0) here (subst (λ s. get_or keys from 0 + s ≡ get_or keys place 0) cost e) in
+              let same : get_or keys to 0 + move_key by.0 ≡ get_or keys place 0 = subst (λ p. get_or keys p 0 + move_key by.0 ≡ get_or keys place 0) here
+              (subst (λ s. get_or keys from 0 + s ≡ get_or keys place 0) cost e) in
               (by.0, by.1, (to, has, next.1, same, subst (λ p. Has (get_or sets p 0) move) here old))
           | inr none ↦
               let here = at_other by.0 by.1 none in
@@ -129,7 +137,8 @@ module _ (w : ℕ) (keys sets : List ℕ) (legal place n from : ℕ) (l : n < 8)
               absurd (omega (arith, step_some by.0))
         ]
 
-    if_brought : (move by : Move) → number_of by ≡ n → IsBroughtBy w keys sets legal place by move → (get_or keys from 0 + step ≡ get_or keys place 0) × Has (get_or sets from 0) move
+    if_brought : (move by : Move) → number_of by ≡ n → IsBroughtBy w keys sets legal place by move
+        → (get_or keys from 0 + step ≡ get_or keys place 0) × Has (get_or sets from 0) move
     if_brought move by e more =
         let next = near by more.1 in
         let to = next.0 in
@@ -137,7 +146,8 @@ module _ (w : ℕ) (keys sets : List ℕ) (legal place n from : ℕ) (l : n < 8)
         let one : to ≡ more.0 = same_beside w by place to more.0 next.1 more.2 in
         let here : from ≡ more.0 = at_legal by to e more.1 next.1 (omega arith) ∙ one in
         let cost = step_is by e in
-        let same : get_or keys from 0 + step ≡ get_or keys place 0 = subst (λ s. get_or keys from 0 + s ≡ get_or keys place 0) (sym cost) (subst (λ p. get_or keys p 0 + step_key by ≡ get_or keys place 0) (sym here) more.3) in
+        let same : get_or keys from 0 + step ≡ get_or keys place 0 = subst (λ s. get_or keys from 0 + s ≡ get_or keys place 0) (sym cost)
+        (subst (λ p. get_or keys p 0 + move_key by ≡ get_or keys place 0) (sym here) more.3) in
         (same, subst (λ p. Has (get_or sets p 0) move) (sym here) more.4)
 
     pub brought_more : IsBroughtBelow w keys sets legal place (n + 1) after

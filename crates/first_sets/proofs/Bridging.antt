@@ -1,5 +1,5 @@
 -- Places and cells, keys and costs: what is brought from places beside is what is passed on from cells before.
-use Rattle.std.proofs.Common.{◌≡◌, ◌↔◌, ℕ, ◌+◌, ◌*◌, ◌<◌, inl, inr, sym, ap, subst, ◌∙◌, arith, List, length, get_or, Some, None}
+use Rattle.std.proofs.Common.{◌≡◌, ◌↔◌, ℕ, ◌+◌, ◌*◌, ◌<◌, ◌≤◌, inl, inr, sym, ap, subst, ◌∙◌, arith, List, length, get_or, Some, None}
 use Rattle.std.proofs.lemmas.List.{get_or-map, length-map}
 use Rattle.root_cost.specs.declared.Cost.{Cost}
 use Rattle.root_cost.specs.Costs.{plus_step, key_of}
@@ -14,12 +14,14 @@ use Rattle.moves.specs.Moves.{is_diagonal, opposite, IsTarget, HasLegal}
 use Rattle.moves.specs.MoveSets.{Has}
 use Rattle.moves.proofs.MoveLaws.{legal_back, is_diagonal-opposite}
 use Rattle.moves.proofs.MovesInSets.{Has-bit_set}
-use Rattle.grid_search.specs.Keys.{step_key}
+use Rattle.grid_search.specs.Keys.{move_key}
 use Rattle.grid_search.specs.Searches.{Searched, cost_at, key_or_none, keys_of, HasSearched}
-use Rattle.first_sets.specs.Places.{IsBeside, StaysWithin, IsBroughtTo}
+use Rattle.first_sets.specs.Places.{IsBeside, StaysWithin, IsBroughtTo, CanJoin}
 use Rattle.first_sets.specs.Steps.{IsPassedOn}
 use Rattle.first_sets.proofs.Besides.{same_beside}
 use Rattle.first_sets.proofs.Standing.{none_or_some, some_of, place_inside, settled_cost, settled_inside}
+use Rattle.root_cost.specs.declared.TheConstants.{NO_KEY}
+use Rattle.moves.specs.declared.TheConstants.{MAX_PASSABLE, MAX_CELLS}
 
 -- ---- places
 
@@ -58,10 +60,10 @@ module _ (map : Map) (masks : List ℕ) (are : AreMoveMasks map masks) (cell : C
 -- ---- keys and costs
 
 -- a cost with few diagonal steps has a key below the word for none
-pub key_low : (cost : Cost) → cost.straight + cost.diagonal < 32768 → key_of cost < 4294967295
+pub key_low : (cost : Cost) → cost.straight + cost.diagonal < MAX_PASSABLE → key_of cost < NO_KEY
 key_low cost h = omega arith
 
-pub step_key-plus_step : (cost : Cost) (by : Move) → key_of (plus_step cost (is_diagonal by)) ≡ key_of cost + step_key by
+pub step_key-plus_step : (cost : Cost) (by : Move) → key_of (plus_step cost (is_diagonal by)) ≡ key_of cost + move_key by
 step_key-plus_step cost by = key_of-plus_step cost (is_diagonal by)
 
 module _ (map : Map) (source : Cell) (search : Searched) (has : HasSearched map source search) where
@@ -72,12 +74,12 @@ module _ (map : Map) (source : Cell) (search : Searched) (has : HasSearched map 
       let same : place_of search.width cell ≡ place_of map.width cell = ap (λ w. place_of w cell) has.width in
       get_or-map key_or_none search.costs (place_of map.width cell) None 0 (omega arith) ∙ ap (λ p. key_or_none (get_or search.costs p None)) (sym same)
 
-  few_steps : (cell : Cell) (cost : Cost) → IsInside map cell → cost_at search cell ≡ Some cost → cost.straight + cost.diagonal < 32768
+  few_steps : (cell : Cell) (cost : Cost) → IsInside map cell → cost_at search cell ≡ Some cost → cost.straight + cost.diagonal < MAX_PASSABLE
   few_steps cell cost inside e = let short = has.short cell cost inside e in let few = has.few in omega arith
 
   -- a step attains the key of a reached cell just where it attains its cost
   cost_if_key : (before to : Cell) (by : Move) (cost : Cost) → IsInside map before → IsInside map to → cost_at search to ≡ Some cost
-      → get_or (keys_of search) (place_of map.width before) 0 + step_key by ≡ get_or (keys_of search) (place_of map.width to) 0
+      → get_or (keys_of search) (place_of map.width before) 0 + move_key by ≡ get_or (keys_of search) (place_of map.width to) 0
       → (less : Cost) × (cost_at search before ≡ Some less) × (cost ≡ plus_step less (is_diagonal by))
   cost_if_key before to by cost p q e same =
       let there = key_in before p in
@@ -86,7 +88,7 @@ module _ (map : Map) (source : Cell) (search : Searched) (has : HasSearched map 
       let low = key_low cost few in
       elim (none_or_some (cost_at search before)) [
         | inl none ↦
-            let over : get_or (keys_of search) (place_of map.width before) 0 ≡ 4294967295 = there ∙ ap key_or_none none in
+            let over : get_or (keys_of search) (place_of map.width before) 0 ≡ NO_KEY = there ∙ ap key_or_none none in
             absurd (omega arith)
         | inr some ↦
             let less = some.0 in
@@ -99,7 +101,7 @@ module _ (map : Map) (source : Cell) (search : Searched) (has : HasSearched map 
 
   key_if_cost : (before to : Cell) (by : Move) (less : Cost) → IsInside map before → IsInside map to → cost_at search before ≡ Some less
       → cost_at search to ≡ Some (plus_step less (is_diagonal by))
-      → get_or (keys_of search) (place_of map.width before) 0 + step_key by ≡ get_or (keys_of search) (place_of map.width to) 0
+      → get_or (keys_of search) (place_of map.width before) 0 + move_key by ≡ get_or (keys_of search) (place_of map.width to) 0
   key_if_cost before to by less p q e f =
       let there : get_or (keys_of search) (place_of map.width before) 0 ≡ key_of less = key_in before p ∙ ap key_or_none e in
       let here : get_or (keys_of search) (place_of map.width to) 0 ≡ key_of (plus_step less (is_diagonal by)) = key_in to q ∙ ap key_or_none f in
@@ -107,13 +109,15 @@ module _ (map : Map) (source : Cell) (search : Searched) (has : HasSearched map 
       omega arith
 
   module _ (masks sets : List ℕ) (are : AreMoveMasks map masks) (to : Cell) (inside : IsInside map to) (cost : Cost) (e : cost_at search to ≡ Some cost) where
-    passed_if_brought : (move : Move) → IsBroughtTo map.width (keys_of search) sets (get_or masks (place_of map.width to) 0) (place_of map.width to) move → IsPassedOn map search sets to move
+    passed_if_brought : (move : Move) → IsBroughtTo map.width (keys_of search) sets (get_or masks (place_of map.width to) 0) (place_of map.width to) move
+        → IsPassedOn map search sets to move
     passed_if_brought move (inl here) = inl here
     passed_if_brought move (inr (by, from, legal, beside, same, there)) =
         let way = legal_of map masks are to inside by legal in
         let before = way.0 in
-        let at : from ≡ place_of map.width before = same_beside map.width by (place_of map.width to) from (place_of map.width before) beside (beside_target map.width by to before way.1.target) in
-        let keys = subst (λ p. get_or (keys_of search) p 0 + step_key by ≡ get_or (keys_of search) (place_of map.width to) 0) at same in
+        let at : from ≡ place_of map.width before = same_beside map.width by (place_of map.width to) from (place_of map.width before) beside
+        (beside_target map.width by to before way.1.target) in
+        let keys = subst (λ p. get_or (keys_of search) p 0 + move_key by ≡ get_or (keys_of search) (place_of map.width to) 0) at same in
         let less = cost_if_key before to by cost way.1.enters.inside inside e keys in
         inr (
           before,
@@ -127,12 +131,14 @@ module _ (map : Map) (source : Cell) (search : Searched) (has : HasSearched map 
           subst (λ p. Has (get_or sets p 0) move) at there,
         )
 
-    brought_if_passed : (move : Move) → IsPassedOn map search sets to move → IsBroughtTo map.width (keys_of search) sets (get_or masks (place_of map.width to) 0) (place_of map.width to) move
+    brought_if_passed : (move : Move) → IsPassedOn map search sets to move
+        → IsBroughtTo map.width (keys_of search) sets (get_or masks (place_of map.width to) 0) (place_of map.width to) move
     brought_if_passed move (inl here) = inl here
     brought_if_passed move (inr (before, last, step, there)) =
         let by = opposite last in
         let back = legal_back map before last to step.legal in
-        let to_is : cost_at search to ≡ Some (plus_step step.cost_before (is_diagonal by)) = step.to_is ∙ ap (λ d. Some (plus_step step.cost_before d)) (sym (is_diagonal-opposite last)) in
+        let to_is : cost_at search to ≡ Some (plus_step step.cost_before (is_diagonal by)) = step.to_is
+        ∙ ap (λ d. Some (plus_step step.cost_before d)) (sym (is_diagonal-opposite last)) in
         inr (
           by,
           place_of map.width before,
@@ -142,7 +148,8 @@ module _ (map : Map) (source : Cell) (search : Searched) (has : HasSearched map 
           there,
         )
 
-    pub brought_is_passed : (made : ℕ) → ((move : Move) → Has made move ↔ IsBroughtTo map.width (keys_of search) sets (get_or masks (place_of map.width to) 0) (place_of map.width to) move)
+    pub brought_is_passed : (made : ℕ) → ((move : Move) → Has made move ↔ IsBroughtTo map.width (keys_of search) sets (get_or masks (place_of map.width to) 0)
+        (place_of map.width to) move)
         → (move : Move) → Has made move ↔ IsPassedOn map search sets to move
     brought_is_passed made h move = (λ k. passed_if_brought move ((h move).0 k), λ k. (h move).1 (brought_if_passed move k))
 
@@ -158,6 +165,13 @@ module _ (map : Map) (source : Cell) (search : Searched) (has : HasSearched map 
         (subst (λ p. StaysWithin map.width (length keys) (get_or masks p 0) p) (sym at)
         (subst (λ n. StaysWithin map.width n (get_or masks (place_of map.width to) 0) (place_of map.width to)) size (stays_within map masks are to inside)))
 
+    pub can_join_at : map.width * map.height ≤ MAX_CELLS → map.width * map.height ≤ length sets → CanJoin w keys sets (get_or masks place 0) place
+    can_join_at few fits =
+        let to = get_or search.settled i source in
+        let size : map.width * map.height ≡ length keys = sym has.cells ∙ sym (length-map search.costs key_or_none) ∙ ap length (sym keys_are) in
+        let low = place_inside map to (settled_inside map source search has i low) in
+        record { inside = omega arith; size = omega arith; room = omega arith; near = near_at }
+
     pub made_at : (made : ℕ) → ((move : Move) → Has made move ↔ IsBroughtTo w keys sets (get_or masks place 0) place move)
         → (move : Move) → Has made move ↔ IsPassedOn map search sets (get_or search.settled i source) move
     made_at made h =
@@ -165,6 +179,7 @@ module _ (map : Map) (source : Cell) (search : Searched) (has : HasSearched map 
         let inside = settled_inside map source search has i low in
         let cost = some_of _ (settled_cost map source search has i low).cost in
         brought_is_passed masks sets are to inside cost.0 cost.1 made
-        (subst (λ v. (move : Move) → Has made move ↔ IsBroughtTo v (keys_of search) sets (get_or masks (place_of map.width to) 0) (place_of map.width to) move) wide
+        (subst (λ v. (move : Move) → Has made move ↔ IsBroughtTo v (keys_of search) sets (get_or masks (place_of map.width to) 0)
+        (place_of map.width to) move) wide
         (subst (λ k. (move : Move) → Has made move ↔ IsBroughtTo w k sets (get_or masks (place_of map.width to) 0) (place_of map.width to) move) keys_are
         (subst (λ p. (move : Move) → Has made move ↔ IsBroughtTo w keys sets (get_or masks p 0) p move) at h)))

@@ -14,7 +14,8 @@ pub record AreLeft (places : List ℕ) (i : ℕ) (sets : List ℕ) : Type 0 wher
 pub left_all : (places sets : List ℕ) → AreEmptyBut places sets → AreLeft places 0 sets
 left_all places sets h = record { from = λ place move has. let at = h place move has in (at.0, omega arith, at.1, at.2) }
 
-pub left_less : (places : List ℕ) (i : ℕ) (sets : List ℕ) (at : ℕ) → i < length places → at ≡ get_or places i 0 → at < length sets → AreLeft places i sets → AreLeft places (i + 1) (set sets at 0)
+pub left_less : (places : List ℕ) (i : ℕ) (sets : List ℕ) (at : ℕ) → i < length places → at ≡ get_or places i 0 → at < length sets → AreLeft places i sets
+    → AreLeft places (i + 1) (set sets at 0)
 left_less places i sets at l here low left = record {
   from = λ place move has. elim (cases_eq place at) [
     | inl e ↦ absurd (Has-none move (subst (λ s. Has s move) (ap (λ p. get_or (set sets at 0) p 0) e ∙ get_or-set_same sets at 0 0 low) has))

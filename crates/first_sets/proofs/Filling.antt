@@ -6,7 +6,6 @@ use Rattle.std.proofs.lemmas.Bool.{cases_eq, cases_lt}
 use Rattle.std.proofs.lemmas.Bool.Decides.{Decides-eqb}
 use Rattle.std.proofs.lemmas.List.{get_or-set_same, get_or-set_other, get_or_default, get_or-take, length-take-le, length-map, get_or-map}
 use Rattle.std.proofs.lemmas.List.Elements.{All-from_get_or}
-use Rattle.std.proofs.lemmas.Nat.{mul-le, div-add-mod', div_below}
 use Rattle.std.proofs.lemmas.Map.Made.{IsDistinct-from_AllPairs}
 use Rattle.std.proofs.lemmas.Map.Steps.{length-le_from_distinct_below}
 use Rattle.std.proofs.lemmas.Map.Views.{Contains-from_any}
@@ -21,20 +20,9 @@ use Rattle.moves.proofs.MovesInSets.{Has-all}
 use Rattle.grid_search.specs.Searches.{Searched, cost_at, HasSearched}
 use Rattle.first_sets.specs.Memory.{AreEmptyBut}
 use Rattle.first_sets.specs.Steps.{set_in, IsPassed}
+use Rattle.grid_search.proofs.Places.{place_back, cell_inside}
 use Rattle.first_sets.proofs.Standing.{none_or_some, same_or_apart, place_inside, settled_cost, settled_inside, settled_once, stands, some_of}
 use Rattle.first_sets.proofs.Passing.{has_same, set_in_same, set_in_other}
-
--- each place of a map is that of a cell
-pub inside_at : (map : Map) (place : ℕ) → place < map.width * map.height → IsInside map (cell_at map.width place)
-inside_at map place l =
-    let some : 0 < map.width = elim (cases_lt 0 map.width) [
-      | inl h ↦ h
-      | inr z ↦ absurd (omega (arith, mul-le map.width map.height 0 map.height z (omega arith)))
-    ] in
-    record { column = omega arith; row = div_below place map.width map.height some (omega arith) }
-
-pub place_at : (map : Map) (place : ℕ) → place_of map.width (cell_at map.width place) ≡ place
-place_at map place = div-add-mod' place map.width
 
 -- cells at different places below `n` are at most `n`
 few_places : (w n : ℕ) (cells : List Cell) (d : Cell) → ((j : ℕ) → j < length cells → place_of w (get_or cells j d) < n)
@@ -43,7 +31,8 @@ few_places w n cells d low apart =
     let places = map (place_of w) cells in
     let long : length places ≡ length cells = length-map cells (place_of w) in
     let at : (i : ℕ) (e : ℕ) → i < length cells → get_or places i e ≡ place_of w (get_or cells i d) = λ i e l. get_or-map (place_of w) cells i d e l in
-    let distinct = IsDistinct-from_AllPairs Decides-eqb places (λ i j e l m. λ same. apart i j l (omega arith) (sym (at i e (omega arith)) ∙ same ∙ at j e (omega arith))) in
+    let distinct = IsDistinct-from_AllPairs Decides-eqb places (λ i j e l m. λ same. apart i j l (omega arith)
+    (sym (at i e (omega arith)) ∙ same ∙ at j e (omega arith))) in
     let below : (q : ℕ) → list_any (eqb q) places ≡ true → q < n = λ q h.
     let found = Contains-from_any (λ x y e. (Decides-eqb x y).0 e) q places h in
     let k = found.0 in let in_list = found.1 in
@@ -69,7 +58,8 @@ module _ (map : Map) (source : Cell) (search : Searched) (has : HasSearched map 
   pub few_settled : length search.settled ≤ map.width * map.height
   few_settled = few_places map.width (map.width * map.height) search.settled source
       (λ j l. place_inside map (get_or search.settled j source) (settled_inside map source search has j l))
-      (λ i j l m e. elim (same_or_apart map (get_or search.settled i source) (get_or search.settled j source) (settled_inside map source search has i (omega arith)) (settled_inside map source search has j m)) [
+      (λ i j l m e. elim (same_or_apart map (get_or search.settled i source) (get_or search.settled j source)
+      (settled_inside map source search has i (omega arith)) (settled_inside map source search has j m)) [
         | inl same ↦ settled_once map source search has i j l m same
         | inr n ↦ n e
       ])
@@ -107,7 +97,8 @@ module _ (map : Map) (source : Cell) (search : Searched) (has : HasSearched map 
     ]
 
     module _ (fits : map.width * map.height ≤ length sets) where
-      pub filled_first : (cell : Cell) (move : Move) → IsInside map cell → Has (set_in map.width (set sets (place_of map.width source) 255) cell) move ↔ IsFirstMove map source cell move
+      pub filled_first : (cell : Cell) (move : Move) → IsInside map cell
+          → Has (set_in map.width (set sets (place_of map.width source) 255) cell) move ↔ IsFirstMove map source cell move
       filled_first cell move inside = elim (same_or_apart map source cell free.inside inside) [
         | inl e ↦ subst (λ x. Has (set_in map.width (set sets (place_of map.width source) 255) x) move ↔ IsFirstMove map source x move) e
             (has_same _ _ move _ (set_in_same map sets source 255 fits free.inside) (λ h. inl (refl, free), λ h. Has-all move))
@@ -116,8 +107,10 @@ module _ (map : Map) (source : Cell) (search : Searched) (has : HasSearched map 
             has_same _ _ move _ (set_in_other map sets source cell 255 free.inside inside apart) (first_away cell move inside apart)
       ]
 
-      module _ (places : List ℕ) (room : length search.settled ≤ length places) (written : ArePlaces map search.settled source (length search.settled) places) where
-        settled_place : (cell : Cell) (c : Cost) → IsInside map cell → cost_at search cell ≡ Some c → Contains (take (length search.settled) places) (place_of map.width cell)
+      module _ (places : List ℕ) (room : length search.settled ≤ length places)
+          (written : ArePlaces map search.settled source (length search.settled) places) where
+        settled_place : (cell : Cell) (c : Cost) → IsInside map cell → cost_at search cell ≡ Some c
+            → Contains (take (length search.settled) places) (place_of map.width cell)
         settled_place cell c inside e =
             let at = stands map source search has cell c inside e in
             let long : length (take (length search.settled) places) ≡ length search.settled = length-take-le (length search.settled) places (omega arith) in
@@ -139,8 +132,8 @@ module _ (map : Map) (source : Cell) (search : Searched) (has : HasSearched map 
                 | inr past ↦ absurd (passed.beyond place move past old)
                 | inl low ↦
                     let cell = cell_at map.width place in
-                    let inside = inside_at map place low in
-                    let at = place_at map place in
+                    let inside = cell_inside map place low in
+                    let at = place_back map.width place in
                     let there : Has (set_in map.width sets cell) move = subst (λ p. Has (get_or sets p 0) move) (sym at) old in
                     elim (none_or_some (cost_at search cell)) [
                       | inl none ↦ absurd (none_unreached cell move inside none there)

@@ -36,7 +36,8 @@ module _ (map : Map) (source : Cell) (search : Searched) (has : HasSearched map 
     waits : (j : ℕ) → j < i → get_or search.settled j source ≢ get_or search.settled i source
     waits j low = settled_once map source search has j i low l
 
-    seeded : (move : Move) → Has (set_in map.width sets (get_or search.settled i source)) move ↔ Attains map search source move (get_or search.settled i source)
+    seeded : (move : Move) → Has (set_in map.width sets (get_or search.settled i source)) move ↔ Attains map search source move
+        (get_or search.settled i source)
     seeded = passed.waiting (get_or search.settled i source) (settled_inside map source search has i l) waits
 
     -- what is passed on to the next cell begins a best path to it
@@ -45,7 +46,8 @@ module _ (map : Map) (source : Cell) (search : Searched) (has : HasSearched map 
     first_if_passed away cost e move (inl here) =
         let to = get_or search.settled i source in
         let step = (seeded move).0 here in
-        (first_moves_are_local map source to cost move (λ s. away (sym s)) (least_at map source search has to cost (settled_inside map source search has i l) e)).1
+        (first_moves_are_local map source to cost move (λ s. away (sym s))
+        (least_at map source search has to cost (settled_inside map source search has i l) e)).1
         (source, move, comes_of map source search has source move to cost e step, inl (refl, refl))
     first_if_passed away cost e move (inr (before, last, step, there)) =
         let to = get_or search.settled i source in
@@ -53,7 +55,8 @@ module _ (map : Map) (source : Cell) (search : Searched) (has : HasSearched map 
         let apart : before ≢ source = λ s. passed.empty move (subst (λ x. Has (set_in map.width sets x) move) s there) in
         let first : IsFirstMove map source before move = subst (λ x. IsFirstMove map source x move) at.2
         ((passed.done at.0 at.1 (λ s. apart (sym at.2 ∙ s)) move).0 (subst (λ x. Has (set_in map.width sets x) move) (sym at.2) there)) in
-        (first_moves_are_local map source to cost move (λ s. away (sym s)) (least_at map source search has to cost (settled_inside map source search has i l) e)).1
+        (first_moves_are_local map source to cost move (λ s. away (sym s))
+        (least_at map source search has to cost (settled_inside map source search has i l) e)).1
         (before, last, comes_of map source search has before last to cost e step, inr (apart, first))
 
     -- and each such move is passed on
@@ -61,10 +64,12 @@ module _ (map : Map) (source : Cell) (search : Searched) (has : HasSearched map 
         → (move : Move) → IsFirstMove map source (get_or search.settled i source) move → IsPassedOn map search sets (get_or search.settled i source) move
     passed_if_first away cost e move first =
         let to = get_or search.settled i source in
-        let by = (first_moves_are_local map source to cost move (λ s. away (sym s)) (least_at map source search has to cost (settled_inside map source search has i l) e)).0 first in
+        let by = (first_moves_are_local map source to cost move (λ s. away (sym s))
+        (least_at map source search has to cost (settled_inside map source search has i l) e)).0 first in
         let step : Attains map search by.0 by.1 to = attains_of map source search has by.0 by.1 to cost e by.2 in
         elim by.3 [
-          | inl same ↦ inl ((seeded move).1 (subst (λ m. Attains map search source m to) (sym same.1) (subst (λ x. Attains map search x by.1 to) same.0 step)))
+          | inl same ↦ inl ((seeded move).1 (subst (λ m. Attains map search source m to) (sym same.1)
+              (subst (λ x. Attains map search x by.1 to) same.0 step)))
           | inr apart ↦
               let at = stands_before map source search has by.0 by.1 i l step in
               let there = (passed.done at.0 at.1 (λ s. apart.0 (sym at.2 ∙ s)) move).1 (subst (λ x. IsFirstMove map source x move) (sym at.2) apart.1) in
@@ -74,9 +79,11 @@ module _ (map : Map) (source : Cell) (search : Searched) (has : HasSearched map 
     -- nothing is passed on to the source
     none_to_source : get_or search.settled i source ≡ source → (move : Move) → IsPassedOn map search sets (get_or search.settled i source) move → ⊥
     none_to_source here move (inl h) = passed.empty move (subst (λ x. Has (set_in map.width sets x) move) here h)
-    none_to_source here move (inr (before, last, step, there)) = no_step_to_source map source search has before last (subst (Attains map search before last) here step)
+    none_to_source here move (inr (before, last, step, there)) = no_step_to_source map source search has before last
+        (subst (Attains map search before last) here step)
 
-    module _ (fits : map.width * map.height ≤ length sets) (new : ℕ) (made : (move : Move) → Has new move ↔ IsPassedOn map search sets (get_or search.settled i source) move) where
+    module _ (fits : map.width * map.height ≤ length sets) (new : ℕ) (made : (move : Move)
+        → Has new move ↔ IsPassedOn map search sets (get_or search.settled i source) move) where
       new_first : get_or search.settled i source ≢ source → (move : Move) → Has new move ↔ IsFirstMove map source (get_or search.settled i source) move
       new_first away move =
           let cost = some_of _ (settled_cost map source search has i l).cost in (
@@ -91,22 +98,26 @@ module _ (map : Map) (source : Cell) (search : Searched) (has : HasSearched map 
           let here = set_in_same map sets cell new fits inside in
           record {
             empty = elim (same_or_apart map cell source inside free.inside) [
-              | inl e ↦ λ move h. none_to_source e move ((made move).0 (subst (λ s. Has s move) (ap (set_in map.width (set sets (place_of map.width cell) new)) (sym e) ∙ here) h))
+              | inl e ↦ λ move h. none_to_source e move ((made move).0 (subst (λ s. Has s move)
+                  (ap (set_in map.width (set sets (place_of map.width cell) new)) (sym e) ∙ here) h))
               | inr n ↦
                   let same = set_in_other map sets cell source new inside free.inside (λ e. n (ap (place_of map.width) e)) in
                   λ move h. passed.empty move (subst (λ s. Has s move) same h)
             ];
             done = λ j low away move. elim (cases_lt j i) [
-              | inl less ↦ has_same _ _ move _ (set_in_other map sets cell (get_or search.settled j source) new inside (settled_inside map source search has j (omega arith)) (λ e. waits j less (sym e))) (passed.done j less away move)
+              | inl less ↦ has_same _ _ move _ (set_in_other map sets cell (get_or search.settled j source) new inside
+                  (settled_inside map source search has j (omega arith)) (λ e. waits j less (sym e))) (passed.done j less away move)
               | inr more ↦
                   let last : j ≡ i = omega arith in
-                  let F : ℕ → Type 0 = λ k. Has (set_in map.width (set sets (place_of map.width cell) new) (get_or search.settled k source)) move ↔ IsFirstMove map source (get_or search.settled k source) move in
+                  let F : ℕ → Type 0 = λ k. Has (set_in map.width (set sets (place_of map.width cell) new)
+                  (get_or search.settled k source)) move ↔ IsFirstMove map source (get_or search.settled k source) move in
                   let away' : cell ≢ source = λ e. away (ap (λ k. get_or search.settled k source) last ∙ e) in
                   subst F (sym last) (has_same _ _ move _ here (new_first away' move))
             ];
             waiting = λ other within apart move.
                 let away : cell ≢ other = apart i (omega arith) in
-                has_same _ _ move _ (set_in_other map sets cell other new inside within away) (passed.waiting other within (λ j low. apart j (omega arith)) move);
+                has_same _ _ move _ (set_in_other map sets cell other new inside within away)
+                (passed.waiting other within (λ j low. apart j (omega arith)) move);
             beyond = λ place move past h.
                 let low = place_inside map cell inside in
                 let n : place ≢ place_of map.width cell = omega arith in

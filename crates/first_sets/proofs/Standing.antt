@@ -63,7 +63,8 @@ no_step_back map source c move h =
     step_not_at_most_none c (is_diagonal move) (subst (λ x. IsAtMost x no_cost) (sym none) (at_most_itself no_cost))
 
 -- a legal move that costs the step attains the cost
-pub attains_by : (map : Map) (search : Searched) (before to : Cell) (last : Move) → IsLegal map before last to → CostsStep search before (is_diagonal last) to → Attains map search before last to
+pub attains_by : (map : Map) (search : Searched) (before to : Cell) (last : Move) → IsLegal map before last to → CostsStep search before (is_diagonal last) to
+    → Attains map search before last to
 attains_by map search before to last legal step = record { legal = legal; cost_before = step.0; before_is = step.1; to_is = step.2 }
 
 module _ (map : Map) (source : Cell) (search : Searched) (has : HasSearched map source search) where
@@ -71,7 +72,8 @@ module _ (map : Map) (source : Cell) (search : Searched) (has : HasSearched map 
   least_at cell c inside e = subst (IsLeastCost map source cell) e (has.least cell inside)
 
   -- a step that attains the cost is the last of a best path, and the other way round
-  pub comes_of : (before : Cell) (last : Move) (to : Cell) (cost : Cost) → cost_at search to ≡ Some cost → Attains map search before last to → ComesBy map source before last to cost
+  pub comes_of : (before : Cell) (last : Move) (to : Cell) (cost : Cost) → cost_at search to ≡ Some cost → Attains map search before last to
+      → ComesBy map source before last to cost
   comes_of before last to cost e step = record {
     legal = step.legal;
     least = step.cost_before;
@@ -79,7 +81,8 @@ module _ (map : Map) (source : Cell) (search : Searched) (has : HasSearched map 
     same = let f : Some cost ≡ Some (after_step step.cost_before last) = sym e ∙ step.to_is in cc;
   }
 
-  pub attains_of : (before : Cell) (last : Move) (to : Cell) (cost : Cost) → cost_at search to ≡ Some cost → ComesBy map source before last to cost → Attains map search before last to
+  pub attains_of : (before : Cell) (last : Move) (to : Cell) (cost : Cost) → cost_at search to ≡ Some cost → ComesBy map source before last to cost
+      → Attains map search before last to
   attains_of before last to cost e comes = record {
     legal = comes.legal;
     cost_before = comes.least;
@@ -88,7 +91,8 @@ module _ (map : Map) (source : Cell) (search : Searched) (has : HasSearched map 
   }
 
   pub no_step_to_source : (before : Cell) (last : Move) → Attains map search before last source → ⊥
-  no_step_to_source before last step = no_step_back map source step.cost_before last (least_at source (after_step step.cost_before last) step.legal.enters.inside step.to_is)
+  no_step_to_source before last step = no_step_back map source step.cost_before last
+      (least_at source (after_step step.cost_before last) step.legal.enters.inside step.to_is)
 
   -- ---- the order
 
@@ -112,7 +116,8 @@ module _ (map : Map) (source : Cell) (search : Searched) (has : HasSearched map 
   settled_inside i l = inside_of (get_or search.settled i source) (settled_cost i l)
 
   -- a cell with a cost stands somewhere in the order
-  pub stands : (cell : Cell) (c : Cost) → IsInside map cell → cost_at search cell ≡ Some c → (j : ℕ) × (j < length search.settled) × (get_or search.settled j source ≡ cell)
+  pub stands : (cell : Cell) (c : Cost) → IsInside map cell → cost_at search cell ≡ Some c
+      → (j : ℕ) × (j < length search.settled) × (get_or search.settled j source ≡ cell)
   stands cell c inside e =
       let at = has.order.all cell (has_cost cell c inside e) in
       (at.0, at.1, get_or_default search.settled at.0 source cell at.1 ∙ at.2)

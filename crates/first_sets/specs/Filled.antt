@@ -3,7 +3,8 @@ use Rattle.std.specs.Prelude.{◌≡◌, ℕ, ◌↔◌, List, slice_index}
 use Rattle.moves.specs.declared.Cell.{Cell}
 use Rattle.moves.specs.declared.Move.{Move}
 use Rattle.moves.specs.Maps.{Map, IsInside, place_of}
-use Rattle.moves.specs.MoveSets.{Has}
+use Rattle.moves.specs.MoveSets.{Has, IsEmpty}
+use Rattle.moves.specs.Paths.{Reaches}
 use Rattle.moves.specs.FirstSets.{IsFirstMove}
 
 -- first sets as their callers see them: for how many cells there is room, the sides of the map that was filled last,
@@ -22,4 +23,16 @@ set_at filled cell = slice_index filled.sets (place_of filled.width cell)
 pub record HasFirstSets (map : Map) (source : Cell) (filled : Filled) : Type 0 where
   pub width : filled.width ≡ map.width
   pub height : filled.height ≡ map.height
-  pub first : (cell : Cell) (move : Move) → IsInside map cell → Has (set_at filled cell) move ↔ IsFirstMove map source cell move
+  pub first : (cell : Cell) (move : Move) → IsInside map cell
+      → Has (set_at filled cell) move ↔ IsFirstMove map source cell move
+
+-- whatever map and source the sets are of: that set has just the moves that begin a best path to the cell
+abbrev pub IsFirstSet : Filled → Cell → ℕ → Type 0
+IsFirstSet filled cell set =
+    (map : Map) (source : Cell) → HasFirstSets map source filled → (move : Move)
+    → Has set move ↔ IsFirstMove map source cell move
+
+-- whatever map and source the sets are of: that set is empty exactly where no path leads to the cell
+abbrev pub IsEmptyIfUnreached : Filled → Cell → ℕ → Type 0
+IsEmptyIfUnreached filled cell set =
+    (map : Map) (source : Cell) → HasFirstSets map source filled → IsEmpty set ↔ (Reaches map source cell → ⊥)

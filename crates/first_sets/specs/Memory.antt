@@ -1,8 +1,17 @@
 -- What holds of the memory between two fills: only what the last one wrote is not empty.
-use Rattle.std.specs.Prelude.{ℕ, ◌*◌, ◌<◌, ◌≤◌, List, length, take, slice_index, All, Contains}
+use Rattle.std.specs.Prelude.{ℕ, ◌*◌, ◌<◌, ◌≤◌, List, length, take, replicate, slice_index, All, Contains}
 use Rattle.moves.specs.declared.Move.{Move}
 use Rattle.moves.specs.MoveSets.{Has}
 use Rattle.grid_search.specs.Kept.{HasRoom}
+
+-- the sets of the cells of a map, row by row, and how many of them a fill may write
+pub record Sparse : Type 0 where
+  pub sets : List ℕ
+  pub reach : ℕ
+
+-- sets that were just made
+abbrev pub empty_sets : ℕ → ℕ → Sparse
+empty_sets cells reach = record { sets = replicate cells 0; reach = reach }
 
 -- all sets are empty
 abbrev pub AreEmpty : List ℕ → Type 0
@@ -12,10 +21,17 @@ AreEmpty sets = (place : ℕ) (move : Move) → Has (slice_index sets place) mov
 abbrev pub AreEmptyBut : List ℕ → List ℕ → Type 0
 AreEmptyBut places sets = (place : ℕ) (move : Move) → Has (slice_index sets place) move → Contains places place
 
--- there is room for the map and for the places that a search reaches, and only the sets at the first `count` of the written places are not empty
-pub record IsKept (width height : ℕ) (sets : List ℕ) (places : List ℕ) (count : ℕ) : Type 0 where
-  pub fits : width * height ≤ length sets
-  pub places_room : HasRoom (length sets) (length places)
+-- these are places of sets, and only sets there are not empty
+pub record AreNoted (places sets : List ℕ) : Type 0 where
+  pub inside : All (λ place. place < length sets) places
+  pub written : AreEmptyBut places sets
+
+-- the first `count` of the places are those of the sets that are not empty
+pub record IsNoted (sets places : List ℕ) (count : ℕ) : Type 0 where
   pub counted : count ≤ length places
-  pub inside : All (λ place. place < length sets) (take count places)
-  pub written : AreEmptyBut (take count places) sets
+  pub noted : AreNoted (take count places) sets
+
+-- there is room for the map's sets, and for the places of all that a search reaches on a map with as many cells
+pub record IsKept (width height : ℕ) (sparse : Sparse) : Type 0 where
+  pub fits : width * height ≤ length sparse.sets
+  pub reach_room : HasRoom (length sparse.sets) sparse.reach

@@ -27,6 +27,12 @@ pub record Attains (map : Map) (search : Searched) (before : Cell) (last : Move)
 abbrev pub set_in : ℕ → List ℕ → Cell → ℕ
 set_in width sets cell = slice_index sets (place_of width cell)
 
+-- each cell of the map has its first set in a list that goes row by row
+abbrev pub HaveFirstSets : Map → Cell → List ℕ → Type 0
+HaveFirstSets map source sets =
+    (cell : Cell) (move : Move) → IsInside map cell → Has
+    (set_in map.width sets cell) move ↔ IsFirstMove map source cell move
+
 -- the move stands in the cell's set already, or in that of a cell from which a step attains the cell's cost
 abbrev pub IsPassedOn : Map → Searched → List ℕ → Cell → Move → Type 0
 IsPassedOn map search sets to move =
@@ -38,7 +44,9 @@ IsPassedOn map search sets to move =
 pub record IsPassed (map : Map) (source : Cell) (search : Searched) (i : ℕ) (sets : List ℕ) : Type 0 where
   pub empty : IsEmpty (set_in map.width sets source)
   pub done : (j : ℕ) → j < i → slice_index_or search.settled j source ≢ source → (move : Move)
-      → Has (set_in map.width sets (slice_index_or search.settled j source)) move ↔ IsFirstMove map source (slice_index_or search.settled j source) move
-  pub waiting : (cell : Cell) → IsInside map cell → ((j : ℕ) → j < i → slice_index_or search.settled j source ≢ cell) → (move : Move)
+      → Has (set_in map.width sets (slice_index_or search.settled j source)) move ↔ IsFirstMove map source
+      (slice_index_or search.settled j source) move
+  pub waiting : (cell : Cell) → IsInside map cell → ((j : ℕ) → j < i → slice_index_or search.settled j source ≢ cell)
+      → (move : Move)
       → Has (set_in map.width sets cell) move ↔ Attains map search source move cell
   pub beyond : (place : ℕ) (move : Move) → map.width * map.height ≤ place → Has (slice_index sets place) move → ⊥

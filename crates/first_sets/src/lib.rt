@@ -2,46 +2,45 @@
 //! Any move of a first set may be stored in a path database. (Botea 2011; Strasser, Harabor and Botea 2014.)
 #![tactic(auto)]
 
-ghost use Rattle.std.specs.Prelude.{◌≡◌, ◌*◌, ◌<◌, ◌≤◌, ◌↔◌, IfOk};
-ghost use Rattle.first_sets.specs.Filled.{set_at, HasFirstSets};
+ghost use Rattle.std.specs.Prelude.{◌≡◌, ◌*◌, ◌<◌, ◌≤◌, IfOk};
+ghost use Rattle.first_sets.specs.Filled.{set_at, HasFirstSets, IsEmptyIfUnreached, IsFirstSet};
 ghost use Rattle.grid_search.specs.Searches.{HasSearched};
-ghost use Rattle.moves.specs.declared.Cell.{Cell};
-ghost use Rattle.moves.specs.declared.Move.{Move};
-ghost use Rattle.moves.specs.FirstSets.{IsFirstMove};
-ghost use Rattle.moves.specs.Maps.{Map, IsPassable};
-ghost use Rattle.moves.specs.MoveSets.{Has};
+ghost use Rattle.moves.specs.Maps.{IsPassable};
 
+mod neighbour_sets;
+mod sparse_sets;
+#[cfg(test)]
+mod tests;
+
+use crate::sparse_sets::SparseSets;
 use grid_search::Search;
-use moves::{Cell, Grid, MoveSet};
+use moves::{Cell, Grid, MAX_PASSABLE, MoveSet, place};
 use std::alloc::{AllocError, Global};
 use std::marker::Model;
-
-mod along_order;
-mod beside;
-
-/// How many cells a search reaches at most, since a map to be searched has no more passable ones.
-const MOST_REACHED: usize = 32768;
 
 /// The first sets of all cells of a map from one source. One `FirstSets` serves many sources, one after the other.
 #[derive(Drop)]
 pub struct FirstSets {
     width: u32,
     height: u32,
-    sets: Vec<u8>,
-    places: Vec<u32>,
-    count: usize,
+    sets: SparseSets,
 }
 
 impl Model for FirstSets {
-    ghost use Rattle.std.specs.Prelude.{vec_len};
+    ghost use Rattle.std.specs.Prelude.{length};
     ghost use Rattle.first_sets.specs.Filled.{Filled};
     ghost use Rattle.first_sets.specs.Memory.{IsKept};
 
     ghost Value = { Filled };
 
-    ghost view = { λ f. record { room = vec_len f.sets; width = f.width; height = f.height; sets = f.sets.items } };
+    ghost view = { λ f. record {
+      room = length f.sets.sets;
+      width = f.width;
+      height = f.height;
+      sets = f.sets.sets;
+    } };
 
-    ghost invariant = { λ f. IsKept f.width f.height f.sets.items f.places.items f.count };
+    ghost invariant = { λ f. IsKept f.width f.height f.sets };
 }
 
 impl FirstSets {
@@ -53,9 +52,7 @@ impl FirstSets {
         Ok(FirstSets {
             width: 0,
             height: 0,
-            sets: vec![in alloc; 0; cells]?,
-            places: vec![in alloc; 0; cells.min(MOST_REACHED)]?,
-            count: 0,
+            sets: SparseSets::new(alloc, cells, cells.min(MAX_PASSABLE as usize))?,
         })
     }
 
@@ -68,15 +65,7 @@ impl FirstSets {
         ensures room { self.new.room ≡ self.old.room }
         ensures filled { HasFirstSets grid.now source self.new }
     {
-        along_order::fill(
-            self.sets.as_mut_slice(),
-            self.places.as_mut_slice(),
-            self.count,
-            grid,
-            search,
-            source,
-        );
-        self.count = search.settled().len();
+        self.sets.fill(grid, search, source);
         self.width = grid.width();
         self.height = grid.height();
     }
@@ -87,11 +76,9 @@ impl FirstSets {
         requires column { cell.x < self.now.width }
         requires row { cell.y < self.now.height }
         ensures kept { result ≡ set_at self.now cell }
-        ensures first { (map : Map) (source : Cell) → HasFirstSets map source self.now → (move : Move) → Has result move ↔ IsFirstMove map source cell move }
+        ensures first { IsFirstSet self.now cell result }
+        ensures none { IsEmptyIfUnreached self.now cell result }
     {
-        MoveSet::of_mask(self.sets[along_order::place(self.width, cell)])
+        MoveSet::of_mask(self.sets.at(place(self.width, cell)))
     }
 }
-
-#[cfg(test)]
-mod tests;

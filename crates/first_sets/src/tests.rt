@@ -1,34 +1,14 @@
 //! First sets of small maps, written as their rows with `/` between them, and of many made maps.
 
-ghost use Rattle.std.specs.Prelude.{◌≡◌, ◌*◌, ◌<◌, ◌≤◌, IfOk, OnOk, length};
-ghost use Rattle.moves.specs.Maps.{IsWithinLimits, passable_count};
+ghost use Rattle.std.specs.Prelude.{◌≡◌, ◌*◌, ◌^◌, ◌<◌, ◌≤◌};
+ghost use Rattle.moves.specs.Maps.{IsSearchable};
 
 use crate::FirstSets;
 use grid_search::Search;
-use moves::{Cell, Grid};
+use moves::{Cell, Grid, MAX_PASSABLE, MAX_SIDE};
+use root_cost::{NO_KEY, step_key};
 use std::alloc::{AllocError, Global};
 use std::process::Abort;
-
-/// The grid of those rows, `.` for a passable cell.
-fn grid_of(
-    rt: &impl Abort,
-    alloc: Global,
-    width: u32,
-    height: u32,
-    rows: &[u8],
-) -> Result<Grid, AllocError>
-    requires limits { IsWithinLimits width height }
-    ensures { IfOk result (λ grid. (grid.width ≡ width) × (grid.height ≡ height)) }
-{
-    let mut cells = Vec::new(alloc);
-    for byte in rows {
-        if *byte != b'/' {
-            cells.push(*byte == b'.')?;
-        }
-    }
-    assert_eq!(rt; cells.len(), (width * height) as usize);
-    Grid::of_cells(alloc, width, height, cells)
-}
 
 /// The set of a cell from a source, as bits.
 fn set_from(
@@ -42,7 +22,7 @@ fn set_from(
     let mut search = Search::new(alloc, cells)?;
     let mut sets = FirstSets::new(alloc, cells)?;
     assert!(rt; grid.passable(source) && grid.inside(cell));
-    assert!(rt; grid.passable_count() <= 32_768);
+    assert!(rt; grid.passable_count() <= MAX_PASSABLE);
     search.from_source(grid, source);
     sets.fill(grid, &search, source);
     Ok(sets.set_of(cell).mask())
@@ -65,7 +45,7 @@ fn small_maps(rt: HostRuntime) -> Result<(), AllocError> {
         (1, 1, ".", (0, 0), (0, 0), 0b1111_1111),
     ];
     for (width, height, rows, (from_x, from_y), (x, y), want) in table {
-        let grid = grid_of(&rt, rt.alloc(), width, height, rows.as_bytes())?;
+        let grid = Grid::of_rows(rt.alloc(), width, height, rows)?;
         let source = Cell {
             x: from_x,
             y: from_y,
@@ -79,18 +59,18 @@ fn small_maps(rt: HostRuntime) -> Result<(), AllocError> {
 /// The cell at a place, row by row.
 fn cell_at(width: u32, place: u32) -> Cell
     requires some { 0 < width }
-    requires limit { width ≤ 4096 }
+    requires limit { width ≤ MAX_SIDE }
 {
     Cell {
         x: (place % width) as u16,
-        y: (place / width % 4096) as u16,
+        y: (place / width % MAX_SIDE) as u16,
     }
 }
 
 /// The keys of the least costs from each cell to each cell.
 fn all_keys(alloc: Global, grid: &Grid, search: &mut Search) -> Result<Vec<u32>, AllocError>
     requires room { grid.now.width * grid.now.height ≤ search.old.room }
-    requires few { passable_count grid.now ≤ 32768 }
+    requires few { IsSearchable grid.now }
     ensures room { search.new.room ≡ search.old.room }
 {
     let mut keys = Vec::new(alloc);
@@ -102,7 +82,7 @@ fn all_keys(alloc: Global, grid: &Grid, search: &mut Search) -> Result<Vec<u32>,
             keys.extend_from_slice(search.keys())?;
         } else {
             for _ in 0..cells {
-                keys.push(u32::MAX)?;
+                keys.push(NO_KEY)?;
             }
         }
     }
@@ -111,7 +91,7 @@ fn all_keys(alloc: Global, grid: &Grid, search: &mut Search) -> Result<Vec<u32>,
 
 /// The key of the least cost between two cells, by their places.
 fn key_between(keys: &[u32], cells: u32, from: u32, to: u32) -> u64
-    ensures { result < 4294967296 }
+    ensures { result < 2 ^ 32 }
 {
     let place = u64::from(from)
         .wrapping_mul(u64::from(cells))
@@ -127,12 +107,12 @@ fn by_costs(grid: &Grid, keys: &[u32], from: u32, to: u32) -> u8 {
     }
     let mut mask = 0u8;
     let source = cell_at(grid.width(), from);
-    if grid.inside(source) && key_between(keys, cells, from, to) < u64::from(u32::MAX) {
+    if grid.inside(source) && key_between(keys, cells, from, to) < u64::from(NO_KEY) {
         for (by, next) in grid.neighbours(source).iter() {
             let there = u32::from(next.y)
                 .wrapping_mul(grid.width())
                 .wrapping_add(u32::from(next.x));
-            let step = 33_461 + 13_860 * u64::from(by.is_diagonal());
+            let step = u64::from(step_key(by.is_diagonal()));
             if step + key_between(keys, cells, there, to) == key_between(keys, cells, from, to) {
                 mask |= 1 << by.number();
             }
@@ -145,7 +125,7 @@ fn by_costs(grid: &Grid, keys: &[u32], from: u32, to: u32) -> u8 {
 fn sets_agree(rt: &impl Abort, grid: &Grid, search: &mut Search, sets: &mut FirstSets, keys: &[u32])
     requires search { grid.now.width * grid.now.height ≤ search.old.room }
     requires sets { grid.now.width * grid.now.height ≤ sets.old.room }
-    requires few { passable_count grid.now ≤ 32768 }
+    requires few { IsSearchable grid.now }
     ensures search { search.new.room ≡ search.old.room }
     ensures sets { sets.new.room ≡ sets.old.room }
 {
@@ -195,7 +175,7 @@ fn made_maps(rt: HostRuntime) -> Result<(), AllocError> {
                 grid.set(cell, (word >> 20) % (2 + turn % 6) != 0);
             }
         }
-        assert!(rt; grid.passable_count() <= 32_768);
+        assert!(rt; grid.passable_count() <= MAX_PASSABLE);
         let mut search = Search::new(rt.alloc(), 36)?;
         let mut sets = FirstSets::new(rt.alloc(), 36)?;
         let keys = all_keys(rt.alloc(), &grid, &mut search)?;
@@ -208,7 +188,7 @@ fn made_maps(rt: HostRuntime) -> Result<(), AllocError> {
 #[test]
 fn full_rows_of_a_large_grid(rt: HostRuntime) -> Result<(), AllocError> {
     let mut grid = Grid::blocked(rt.alloc(), 1024, 1024)?;
-    for place in 0..32_768u32 {
+    for place in 0..MAX_PASSABLE {
         let cell = cell_at(1024, place);
         if grid.inside(cell) {
             grid.set(cell, true);

@@ -1,6 +1,0 @@
--- The set has what the moves with lower numbers bring.
-use Rattle.first_sets.proofs.Besides.{IsBroughtBelow}
-use Rattle.first_sets.proofs.beside.gather_amid.Given as goal
-
-abbrev pub invariant-loop-number : goal.invariant-loop-number
-invariant-loop-number l = IsBroughtBelow l.width l.keys l.sets 255 l.place l.number l.set

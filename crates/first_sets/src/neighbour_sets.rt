@@ -1,0 +1,136 @@
+//! The sets of the neighbours of a cell, joined: all by their places in lists that go row by row.
+
+ghost use Rattle.std.specs.Prelude.{◌≡◌, ◌≢◌, ◌+◌, ◌^◌, ◌<◌, ◌≤◌};
+ghost use Rattle.first_sets.specs.Places.{AreBeside, AreDistances, CanJoin, IsJoined, IsStepKey, LeadsThere, StaysElse};
+
+use moves::MAX_SIDE;
+use root_cost::{DIAGONAL_KEY, STRAIGHT_KEY};
+
+/// The mask of all eight moves.
+const EVERY_MOVE: u8 = u8::MAX;
+
+/// How far the neighbours of a cell lie from it in a list that goes row by row.
+#[derive(Drop)]
+pub(crate) struct Around {
+    width: usize,
+    distances: [usize; 8],
+    ghost right: { AreDistances width distances },
+}
+
+impl Around {
+    /// For rows of that width.
+    pub(crate) fn of(width: usize) -> Around
+        requires { width ≤ MAX_SIDE }
+        ensures { result.width ≡ width }
+    {
+        let up = 0usize.wrapping_sub(width);
+        let left = usize::MAX;
+        Around {
+            width,
+            distances: [
+                up,
+                up.wrapping_add(1),
+                1,
+                width + 1,
+                width,
+                width.wrapping_add(left),
+                left,
+                up.wrapping_add(left),
+            ],
+        }
+    }
+
+    /// The place to which the move with that number leads, where it is legal, and else the place itself.
+    fn place_beside(&self, legal: u8, number: usize, place: usize) -> usize
+        requires { number < 8 }
+        ensures legal { LeadsThere self.now.width legal number place result }
+        ensures otherwise { StaysElse legal number place result }
+    {
+        let bit = usize::from(legal >> number & 1);
+        place.wrapping_add(self.distances[number].wrapping_mul(bit))
+    }
+
+    /// The set at that place, joined with the set at each place beside it from which a step attains its key.
+    pub(crate) fn join_beside(&self, sets: &[u8], keys: &[u32], legal: u8, place: usize) -> u8
+        requires { CanJoin self.now.width keys.now sets.now legal place }
+        ensures { IsJoined self.now.width keys.now sets.now legal place result }
+    {
+        if legal == EVERY_MOVE {
+            join_amid(self.width, sets, keys, place)
+        } else {
+            self.join_legal(sets, keys, legal, place)
+        }
+    }
+
+    /// The same by arithmetic, so that no branch has to be foreseen.
+    fn join_legal(&self, sets: &[u8], keys: &[u32], legal: u8, place: usize) -> u8
+        requires { CanJoin self.now.width keys.now sets.now legal place }
+        ensures { IsJoined self.now.width keys.now sets.now legal place result }
+    {
+        let key = u64::from(keys[place]);
+        let mut set = sets[place];
+        for number in 0..8usize {
+            let from = self.place_beside(legal, number, place);
+            let attains = all_if_equal(u64::from(keys[from]) + numbered_step_key(number), key);
+            set |= sets[from] & attains;
+        }
+        set
+    }
+}
+
+/// The same in the open, where all eight moves are legal: no move is asked for, and what the neighbours' keys are can be
+/// foreseen, so that branches are faster.
+fn join_amid(width: usize, sets: &[u8], keys: &[u32], place: usize) -> u8
+    requires { CanJoin width keys.now sets.now EVERY_MOVE place }
+    ensures { IsJoined width keys.now sets.now EVERY_MOVE place result }
+{
+    let key = u64::from(keys[place]);
+    let near = places_around(width, place);
+    let mut set = sets[place];
+    for number in 0..8usize {
+        let from = near[number];
+        if u64::from(keys[from]) + numbered_step_key(number) == key {
+            set |= sets[from];
+        }
+    }
+    set
+}
+
+/// The places to which the eight moves lead.
+fn places_around(width: usize, place: usize) -> [usize; 8]
+    requires above { width + 1 ≤ place }
+    requires size { place + width + 1 < 2 ^ 64 }
+    ensures { AreBeside width place result }
+{
+    let (above, below) = (place - width, place + width);
+    [
+        above,
+        above + 1,
+        place + 1,
+        below + 1,
+        below,
+        below - 1,
+        place - 1,
+        above - 1,
+    ]
+}
+
+/// The key of the step with that number: the odd ones are diagonal.
+fn numbered_step_key(number: usize) -> u64
+    requires { number < 8 }
+    ensures key { IsStepKey number result }
+    ensures limit { result < 65536 }
+{
+    u64::from(STRAIGHT_KEY) + u64::from(DIAGONAL_KEY - STRAIGHT_KEY) * (number as u64 & 1)
+}
+
+/// All ones where the two are equal, and else 0; by arithmetic, so that no branch has to be foreseen.
+fn all_if_equal(a: u64, b: u64) -> u8
+    requires a { a < 2 ^ 63 }
+    requires b { b < 2 ^ 63 }
+    ensures equal { a ≡ b → result ≡ 255 }
+    ensures unequal { a ≢ b → result ≡ 0 }
+{
+    let over = (a ^ b).wrapping_sub(1) >> 63;
+    0u8.wrapping_sub(over as u8)
+}
