@@ -6,3 +6,15 @@ pub mod Scanning
 pub mod Grouping
 pub mod Listing
 pub mod Lookups
+pub mod SameLists
+pub mod Keeping
+pub mod Planning
+pub mod Below
+pub mod Ranking
+pub mod Adopting
+pub mod Touching
+pub mod Pushing
+pub mod Growing
+pub mod Regrowing
+pub mod Changing
+pub mod Labelled

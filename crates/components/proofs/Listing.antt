@@ -7,30 +7,16 @@ use Rattle.std.proofs.lemmas.List.Elements.{Contains-get_or}
 use Rattle.std.proofs.lemmas.List.FromFn.{get_or-map-range_with_len, length-map-range_with_len}
 use Rattle.components.specs.declared.TheConstants.{UNLABELLED}
 use Rattle.moves.specs.declared.Cell.{Cell}
-use Rattle.moves.specs.Maps.{Map, IsWithinLimits, IsInside, ComesBefore, place_of, cell_at}
+use Rattle.moves.specs.Maps.{Map, IsWithinLimits, IsInside, ComesBefore, place_of}
 use Rattle.moves.specs.Components.{IsComponent, first_of, IsComponentList}
 use Rattle.moves.proofs.StraightPaths.{kept_along}
 use Rattle.moves.proofs.LawsOfPaths.{leads_to}
-use Rattle.moves.proofs.RowMajor.{passes_where, contained_where, in_order_where, row_inside, place_inside, cell_at_place_of, earlier_cell}
+use Rattle.moves.proofs.RowMajor.{passes_where, contained_where, in_order_where, row_inside, place_inside, before_by_place, before_later}
 use Rattle.components.specs.Marks.{Marks, label_at}
 use Rattle.components.specs.Floods.{IsScanned}
 use Rattle.components.specs.Groups.{cells_with, components_of}
 use Rattle.components.proofs.Marking.{place_within}
 use Rattle.components.proofs.Spreading.{labelled_passable}
-
--- a cell at an earlier place comes before
-before_by_place : (w : ℕ) (a b : Cell) → a.x < w → b.x < w → place_of w a < place_of w b → ComesBefore a b
-before_by_place w a b p q less =
-    subst (λ c. ComesBefore c b) (cell_at_place_of w a p)
-    (subst (ComesBefore (cell_at w (place_of w a))) (cell_at_place_of w b q) (earlier_cell w (place_of w a) (place_of w b) (omega arith) less))
-
--- what comes before comes before all that is later
-before_later : (a b c : Cell) → ComesBefore a b → ComesBefore b c → ComesBefore a c
-before_later a b c p q =
-    elim p [
-      | inl up ↦ elim q [ inl more ↦ inl (omega arith) | inr same ↦ inl (let e = same.0 in omega arith) ]
-      | inr beside ↦ elim q [ inl more ↦ inl (let e = beside.0 in omega arith) | inr same ↦ inr (beside.0 ∙ same.0, let l = beside.1 in let m = same.1 in omega arith) ]
-    ]
 
 -- a cell of a label is inside and has this label
 pub its_label : (width height : ℕ) (labels : List ℕ) (label : ℕ) (c : Cell) → 0 < width → length labels ≡ width * height → Contains (cells_with width labels label) c

@@ -71,12 +71,12 @@ module _ (map : Map) (label : ℕ) (low : label < UNLABELLED) (root : Cell) (fre
         | inr new ↦ new.2
       ]
 
-  module _ (s : Marks) (p : IsSpread map label root old s) (from : Cell) (inside : IsInside map from) (labelled : label_at w s from ≡ label) where
-    spread_mark : (by : Move) (to : Cell) → IsLegal map from by to → IsFresh map s to → IsSpread map label root old (with_mark w s to label)
-    spread_mark by to legal fresh =
+  module _ (s : Marks) (p : IsSpread map label root old s) where
+    -- one more cell that is reached from the root
+    pub spread_reached : (to : Cell) → Reaches map root to → IsFresh map s to → IsSpread map label root old (with_mark w s to label)
+    spread_reached to way fresh =
         let t : Marks = with_mark w s to label in
         let here = mark_at map s to label p.balanced.places fresh.passable.inside in
-        let way = reached s p from inside labelled in
         let room = room_for map s to p.balanced fresh in
         let was : label_at w old to ≡ UNLABELLED =
         elim (cases_lt (label_at w old to) UNLABELLED) [
@@ -99,7 +99,7 @@ module _ (map : Map) (label : ℕ) (low : label < UNLABELLED) (root : Cell) (fre
                 | inl same ↦ inr (
                   ap (label_at w old) same ∙ was,
                   ap (label_at w t) same ∙ here,
-                  subst (Reaches map root) (sym same) (way.0 ++ by ∷ [], one_more map root from to way.0 by way.1 legal),
+                  subst (Reaches map root) (sym same) way,
                 )
                 | inr other ↦
                     elim (p.fresh c within (omega arith)) [
@@ -122,6 +122,12 @@ module _ (map : Map) (label : ℕ) (low : label < UNLABELLED) (root : Cell) (fre
                     (subst (IsInside map) (sym e) fresh.passable.inside, ap (label_at w t) e ∙ here)
               ];
         }
+
+  module _ (s : Marks) (p : IsSpread map label root old s) (from : Cell) (inside : IsInside map from) (labelled : label_at w s from ≡ label) where
+    spread_mark : (by : Move) (to : Cell) → IsLegal map from by to → IsFresh map s to → IsSpread map label root old (with_mark w s to label)
+    spread_mark by to legal fresh =
+        let way = reached s p from inside labelled in
+        spread_reached s p to (way.0 ++ by ∷ [], one_more map root from to way.0 by way.1 legal) fresh
 
     -- a claim keeps what the flood has reached
     pub claimed_spread : (by : Move) (t : Marks) → Claimed map label from by s t → IsSpread map label root old t

@@ -15,9 +15,9 @@ use std::marker::Model;
 #[derive(Drop)]
 pub(crate) struct Flood {
     /// The label of each place, row by row.
-    labels: Vec<u32>,
+    pub(crate) labels: Vec<u32>,
     /// The cells that have a label in the order in which they were found, and room for the others.
-    found: Vec<Cell>,
+    pub(crate) found: Vec<Cell>,
     /// How many cells have a label.
     count: usize,
 }
@@ -53,7 +53,7 @@ impl Flood {
     }
 
     /// Gives a cell a label.
-    fn mark(&mut self, grid: &Grid, cell: Cell, label: u32)
+    pub(crate) fn mark(&mut self, grid: &Grid, cell: Cell, label: u32)
         requires inside { IsInside grid.now cell }
         requires labels { length self.old.labels ≡ grid.now.width * grid.now.height }
         requires room { self.old.count < length self.old.found }
@@ -66,7 +66,7 @@ impl Flood {
     }
 
     /// Whether the cell is passable and has no label yet.
-    fn is_fresh(&self, grid: &Grid, cell: Cell) -> bool
+    pub(crate) fn is_fresh(&self, grid: &Grid, cell: Cell) -> bool
         requires inside { IsInside grid.now cell }
         requires labels { length self.now.labels ≡ grid.now.width * grid.now.height }
         ensures { IsTrue result ↔ IsFresh grid.now self.now cell }
@@ -91,7 +91,7 @@ impl Flood {
     }
 
     /// Gives the label to all that straight moves reach from the root.
-    fn spread(&mut self, grid: &Grid, root: Cell, label: u32)
+    pub(crate) fn spread(&mut self, grid: &Grid, root: Cell, label: u32)
         requires root { IsFresh grid.now self.old root }
         requires label { label < UNLABELLED }
         requires flooded { IsFlooded grid.now label self.old }
@@ -134,7 +134,7 @@ impl Flood {
 }
 
 /// The cell's place in a list that goes row by row.
-fn place(grid: &Grid, cell: Cell) -> usize
+pub(crate) fn place(grid: &Grid, cell: Cell) -> usize
     requires { IsInside grid.now cell }
     ensures place { result ≡ place_of grid.now.width cell }
     ensures inside { result < grid.now.width * grid.now.height }

@@ -7,13 +7,17 @@
 ghost use Rattle.std.specs.Prelude.{◌≡◌, ℕ, ◌+◌, ◌<◌, ◌≤◌, [], length, slice_index_or, IfOk, IfSome, IfNone};
 ghost use Rattle.moves.specs.Maps.{place_of};
 ghost use Rattle.moves.specs.Components.{IsComponentList};
-ghost use Rattle.components.specs.Groups.{IsLabelOf};
+ghost use Rattle.components.specs.Groups.{IsLabelOf, LabelsAreWherePassable};
+ghost use Rattle.components.specs.Edits.{HaveSameSides, AreChanged};
 
+mod edits;
 mod flood;
 mod groups;
+mod regrowth;
 #[cfg(test)]
 mod tests;
 
+use edits::Edit;
 use flood::Flood;
 use groups::gather;
 use moves::{Cell, Grid};
@@ -70,6 +74,38 @@ pub fn label(alloc: Global, grid: &Grid) -> Result<Labels, AllocError>
     })
 }
 
+/// The components of a map after an edit, from those before it. Components that no changed cell touches keep their
+/// cells, and the others alone are flooded again: `changed` has every cell that is passable in one of the maps alone.
+///
+/// # Errors
+///
+/// `AllocError` where memory runs out.
+pub fn relabel(
+    alloc: Global,
+    labels: &Labels,
+    old: &Grid,
+    new: &Grid,
+    changed: &[Cell],
+) -> Result<Labels, AllocError>
+    requires labels { IsComponentList old.now labels.now }
+    requires sides { HaveSameSides old.now new.now }
+    requires changed { AreChanged old.now new.now changed.now }
+    ensures { IfOk result (λ labels. IsComponentList new.now labels) }
+{
+    let (width, height) = (new.width(), new.height());
+    let edit = Edit::of(alloc, labels, old, new, changed)?;
+    let mut flood = Flood::new(alloc, new)?;
+    let (starts, cells) = flood.regrow(alloc, new, &edit)?;
+    let (labels, _found) = flood.into_parts();
+    Ok(Labels {
+        width,
+        height,
+        labels,
+        starts,
+        cells,
+    })
+}
+
 impl Labels {
     /// How many components there are.
     pub fn count(&self) -> u32
@@ -78,7 +114,8 @@ impl Labels {
         self.starts.len() as u32 - 1
     }
 
-    /// The number of the component that has the cell; `None` exactly for a blocked cell or one outside.
+    /// The number of the component that has the cell; `None` exactly where none has it: for a blocked cell or one
+    /// outside ([`labels_are_where_passable`]).
     pub fn of(&self, cell: Cell) -> Option<u32>
         ensures some { IfSome result (λ label. IsLabelOf self.now cell label) }
         ensures none { IfNone result ((label : ℕ) → IsLabelOf self.now cell label → ⊥) }
@@ -106,6 +143,12 @@ impl Labels {
         &self.cells[start..end]
     }
 }
+
+/// The law of labels: in the components of a map the cells that have a number are the passable ones. So where the
+/// components are a map's, [`Labels::of`] is `None` exactly for a blocked cell or one outside.
+pub fn labels_are_where_passable()
+    ensures { LabelsAreWherePassable }
+{}
 
 /// The next cell in row-major order.
 fn after(cell: Cell, width: u32) -> Cell

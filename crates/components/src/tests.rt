@@ -1,44 +1,11 @@
 //! Small maps, written as their rows with `/` between them, and made maps against plain reachability.
 
-ghost use Rattle.std.specs.Prelude.{◌≡◌, ◌*◌, ◌≤◌, IfOk};
-ghost use Rattle.moves.specs.Maps.{IsWithinLimits};
-
 use crate::{Labels, label};
 use moves::{Cell, Grid, Move};
-use std::alloc::{AllocError, Global};
+use std::alloc::AllocError;
 use std::process::Abort;
 
-const MOVES: [Move; 8] = [
-    Move::N,
-    Move::NE,
-    Move::E,
-    Move::SE,
-    Move::S,
-    Move::SW,
-    Move::W,
-    Move::NW,
-];
-
-/// The grid of those rows, `.` for a passable cell.
-fn grid_of(
-    rt: &impl Abort,
-    alloc: Global,
-    width: u32,
-    height: u32,
-    rows: &str,
-) -> Result<Grid, AllocError>
-    requires { IsWithinLimits width height }
-    ensures { IfOk result (λ grid. (grid.width ≡ width) × (grid.height ≡ height)) }
-{
-    let mut cells = Vec::new(alloc);
-    for byte in rows.as_bytes() {
-        if *byte != b'/' {
-            cells.push(*byte == b'.')?;
-        }
-    }
-    assert_eq!(rt; cells.len(), (width * height) as usize);
-    Grid::of_cells(alloc, width, height, cells)
-}
+mod edits;
 
 /// The least place that paths reach from each place, found by going over all legal moves again and again.
 fn least_places(rt: &impl Abort, grid: &Grid) -> [usize; 36] {
@@ -56,7 +23,7 @@ fn least_places(rt: &impl Abort, grid: &Grid) -> [usize; 36] {
                     y: y as u16,
                 };
                 assert!(rt; grid.inside(from));
-                for by in MOVES {
+                for by in Move::ALL {
                     if grid.legal(from, by) {
                         if let Some(to) = grid.step(from, by) {
                             let there = u32::from(to.y) * 6 + u32::from(to.x);
@@ -136,7 +103,7 @@ fn components_of_small_maps(rt: HostRuntime) -> Result<(), AllocError> {
         (6, 1, "@.@.@.", 3),
     ];
     for (width, height, rows, count) in table {
-        let grid = grid_of(&rt, rt.alloc(), width, height, rows)?;
+        let grid = Grid::of_rows(rt.alloc(), width, height, rows)?;
         let labels = label(rt.alloc(), &grid)?;
         assert_eq!(rt; labels.count(), count, "{rows}");
         agrees(&rt, &grid, &labels);
