@@ -38,7 +38,8 @@ place_below box c p =
     mul-add-lt (c.y - box.top) box.width (c.x - box.left) box.height (omega arith) (omega arith)
 
 -- which cells are marked after one mark is changed
-pub marked_cases : (box : Box) (cell : Cell) (mark : Bool) (c : Cell) → length box.marks ≡ box.width * box.height → IsWithin box cell → IsWithin box c
+pub marked_cases : (box : Box) (cell : Cell) (mark : Bool) (c : Cell) → length box.marks ≡ box.width * box.height
+    → IsWithin box cell → IsWithin box c
     → ((c ≡ cell) × (get_or (with_mark box cell mark).marks (place_in box c) false ≡ mark))
     ⊎ ((c ≡ cell → ⊥) × (get_or (with_mark box cell mark).marks (place_in box c) false ≡ get_or box.marks (place_in box c) false))
 marked_cases box cell mark c size within inside =
@@ -52,21 +53,29 @@ marked_cases box cell mark c size within inside =
       | inr other ↦ inr ((λ e. other (ap (place_in box) e)), get_or-set_other box.marks (place_in box cell) (place_in box c) mark false other)
     ]
 
+-- a mark changes no side of the rectangle
+within_marked : (box : Box) (cell : Cell) (mark : Bool) (c : Cell) → IsWithin box c → IsWithin (with_mark box cell mark) c
+within_marked box cell mark c in_box =
+    record { from_left = in_box.from_left; to_right = in_box.to_right; from_top = in_box.from_top; to_bottom = in_box.to_bottom }
+
+within_unmarked : (box : Box) (cell : Cell) (mark : Bool) (c : Cell) → IsWithin (with_mark box cell mark) c → IsWithin box c
+within_unmarked box cell mark c in_box =
+    record { from_left = in_box.from_left; to_right = in_box.to_right; from_top = in_box.from_top; to_bottom = in_box.to_bottom }
+
 -- a cell more is marked
-pub marked_more : (box : Box) (cell : Cell) (c : Cell) → length box.marks ≡ box.width * box.height → IsWithin box cell → IsMarked (with_mark box cell true) c ↔ (IsMarked box c ⊎ (c ≡ cell))
+pub marked_more : (box : Box) (cell : Cell) (c : Cell) → length box.marks ≡ box.width * box.height → IsWithin box cell
+    → IsMarked (with_mark box cell true) c ↔ (IsMarked box c ⊎ (c ≡ cell))
 marked_more box cell c size within = (
   λ m.
-      let inside : IsWithin box c = record { from_left = m.within.from_left; to_right = m.within.to_right; from_top = m.within.from_top; to_bottom = m.within.to_bottom } in
+      let inside : IsWithin box c = within_unmarked box cell _ c m.within in
       elim (marked_cases box cell true c size within inside) [
         | inl here ↦ inr here.0
         | inr there ↦ inl (record { within = inside; marked = sym there.1 ∙ m.marked })
       ],
   λ m.
       let again = λ (d : Cell) (inside : IsWithin box d) (marked : get_or (with_mark box cell true).marks (place_in box d) false ≡ true).
-      let r : IsMarked (with_mark box cell true) d = record {
-        within = record { from_left = inside.from_left; to_right = inside.to_right; from_top = inside.from_top; to_bottom = inside.to_bottom };
-        marked = marked;
-      } in r in
+      let r : IsMarked (with_mark box cell true) d = record { within = within_marked box cell true d inside; marked = marked } in
+      r in
       elim m [
         | inl before ↦
             elim (marked_cases box cell true c size within before.within) [
@@ -83,10 +92,11 @@ marked_more box cell c size within = (
 )
 
 -- a cell fewer is marked
-pub marked_fewer : (box : Box) (cell : Cell) (c : Cell) → length box.marks ≡ box.width * box.height → IsWithin box cell → IsMarked (with_mark box cell false) c ↔ (IsMarked box c × (c ≡ cell → ⊥))
+pub marked_fewer : (box : Box) (cell : Cell) (c : Cell) → length box.marks ≡ box.width * box.height → IsWithin box cell
+    → IsMarked (with_mark box cell false) c ↔ (IsMarked box c × (c ≡ cell → ⊥))
 marked_fewer box cell c size within = (
   λ m.
-      let inside : IsWithin box c = record { from_left = m.within.from_left; to_right = m.within.to_right; from_top = m.within.from_top; to_bottom = m.within.to_bottom } in
+      let inside : IsWithin box c = within_unmarked box cell _ c m.within in
       elim (marked_cases box cell false c size within inside) [
         | inl here ↦ absurd (false≢true (sym here.1 ∙ m.marked))
         | inr there ↦ (record { within = inside; marked = sym there.1 ∙ m.marked }, there.0)
@@ -95,10 +105,7 @@ marked_fewer box cell c size within = (
       elim (marked_cases box cell false c size within m.0.within) [
         | inl here ↦ absurd (m.1 here.0)
         | inr there ↦
-            record {
-              within = record { from_left = m.0.within.from_left; to_right = m.0.within.to_right; from_top = m.0.within.from_top; to_bottom = m.0.within.to_bottom };
-              marked = there.1 ∙ m.0.marked;
-            }
+            record { within = within_marked box cell false c m.0.within; marked = there.1 ∙ m.0.marked }
       ],
 )
 
@@ -106,7 +113,8 @@ marked_fewer box cell c size within = (
 pub none_marked : (box : Box) (c : Cell) → box.marks ≡ replicate (box.width * box.height) false → IsMarked box c → ⊥
 none_marked box c none m =
     let below = place_below box c m.within in
-    let blank : get_or box.marks (place_in box c) false ≡ false = ap (λ xs. get_or xs (place_in box c) false) none ∙ get_or-replicate (box.width * box.height) (place_in box c) false false below in
+    let blank : get_or box.marks (place_in box c) false ≡ false =
+    ap (λ xs. get_or xs (place_in box c) false) none ∙ get_or-replicate (box.width * box.height) (place_in box c) false false below in
     false≢true (sym blank ∙ m.marked)
 
 -- the rectangle is the old one, and its marks are on the cells up to a place
@@ -115,7 +123,8 @@ pub record IsMarking (cells : List Cell) (place : ℕ) (old box : Box) : Type 0 
   pub sides : (box.left ≡ old.left) × (box.top ≡ old.top) × (box.width ≡ old.width) × (box.height ≡ old.height)
   pub marked : (c : Cell) → IsMarked box c ↔ Contains (take place cells) c
 
-pub marking_more : (cells : List Cell) (place : ℕ) (old box : Box) (cell : Cell) → IsMarking cells place old box → place < length cells → cell ≡ get_or cells place cell → IsWithin old cell
+pub marking_more : (cells : List Cell) (place : ℕ) (old box : Box) (cell : Cell) → IsMarking cells place old box
+    → place < length cells → cell ≡ get_or cells place cell → IsWithin old cell
     → IsMarking cells (place + 1) old (with_mark box cell true)
 marking_more cells place old box cell p less at within =
     let left = p.sides.0 in

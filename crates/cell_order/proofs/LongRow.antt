@@ -3,11 +3,12 @@ use Rattle.std.proofs.Common.{◌≡◌, ℕ, zero, suc, ◌+◌, ◌<◌, ◌�
 use Rattle.std.specs.List.{range_with_len, All, AllPairs, Contains}
 use Rattle.std.proofs.lemmas.List.FromFn.{get_or-map-range_with_len, length-map-range_with_len, map-range_with_len_more}
 use Rattle.moves.specs.declared.Cell.{Cell}
+use Rattle.moves.specs.declared.TheConstants.{MAX_SIDE}
 use Rattle.moves.specs.declared.Move.TheVariants.{E}
 use Rattle.moves.specs.Maps.{ComesBefore}
 use Rattle.moves.specs.StraightPaths.{IsConnected}
 use Rattle.cell_order.specs.Orders.{IsOnMap}
-use Rattle.cell_order.proofs.Connected.{cell_of, IsJoined, joined_same, joined_next, connected_from}
+use Rattle.moves.proofs.Connected.{cell_of, AreBeside, IsJoined, joined_same, joined_next, connected_from}
 
 -- the first cells of a row
 unfoldable pub row_of : ℕ → ℕ → List Cell
@@ -35,7 +36,9 @@ in_row y n k less = (k, subst (λ m. k < m) (sym (length_row y n)) less, at_row 
 row_joined : (y n k : ℕ) → k < n → IsJoined (row_of y n) (cell_of 0 y) (cell_of k y)
 row_joined y n zero less = joined_same (row_of y n) (cell_of 0 y)
 row_joined y n (suc k) less =
-    joined_next (row_of y n) (cell_of 0 y) (cell_of k y) (cell_of (suc k) y) (row_joined y n k (omega arith)) (E, (omega arith, refl), refl) (in_row y n k (omega arith)) (in_row y n (suc k) less)
+    let near : AreBeside (cell_of k y) (cell_of (suc k) y) = (E, (omega arith, refl), refl) in
+    let before = row_joined y n k (omega arith) in
+    joined_next (row_of y n) (cell_of 0 y) (cell_of k y) (cell_of (suc k) y) before near (in_row y n k (omega arith)) (in_row y n (suc k) less)
 
 pub row_is_connected : (y n : ℕ) → IsConnected (row_of y n)
 row_is_connected y n =
@@ -48,7 +51,7 @@ row_in_order y n i j d less within =
     let j_less : j < n = subst (λ m. j < m) (length_row y n) within in
     rw (at_row y n i d (omega arith)) (rw (at_row y n j d j_less) (inr (refl, less)))
 
-pub row_on_map : (y n : ℕ) → y < 4096 → n ≤ 4096 → All IsOnMap (row_of y n)
+pub row_on_map : (y n : ℕ) → y < MAX_SIDE → n ≤ MAX_SIDE → All IsOnMap (row_of y n)
 row_on_map y n low short k d less =
     let k_less : k < n = subst (λ m. k < m) (length_row y n) less in
     rw (at_row y n k d k_less) (record { column = omega arith; row = low })

@@ -28,7 +28,8 @@ apart_rest : {X : Type 0} (x : X) (xs : List X) → AreApart (x ∷ xs) → AreA
 apart_rest x xs apart = λ i j d less within. apart (suc i) (suc j) d (omega arith) (omega arith)
 
 -- an element of the list without the one at a place stands elsewhere in the list
-contains_removed : {X : Type 0} (xs : List X) (n : ℕ) (y : X) → n < length xs → Contains xs y → (get_or xs n y ≡ y) ⊎ Contains (remove xs n) y
+contains_removed : {X : Type 0} (xs : List X) (n : ℕ) (y : X) → n < length xs → Contains xs y
+    → (get_or xs n y ≡ y) ⊎ Contains (remove xs n) y
 contains_removed xs n y less h =
     let p = IsPermutation-remove xs n (get_or xs n y) less (get_or_default xs n y (get_or xs n y) less) in
     contains_cases (get_or xs n y) (remove xs n) y (Contains-permutation xs (get_or xs n y ∷ remove xs n) y p h)
@@ -44,7 +45,8 @@ not_removed ys n x less at apart h =
           apart n (h.0 + 1) x (omega arith) (omega arith) (at ∙ sym (sym (get_or-remove_above ys n x h.0 after less) ∙ h.2))
     ]
 
-pub permutation : {X : Type 0} (xs ys : List X) → AreApart xs → AreApart ys → ((x : X) → Contains xs x → Contains ys x) → ((x : X) → Contains ys x → Contains xs x) → IsPermutation xs ys
+pub permutation : {X : Type 0} (xs ys : List X) → AreApart xs → AreApart ys → ((x : X) → Contains xs x → Contains ys x)
+    → ((x : X) → Contains ys x → Contains xs x) → IsPermutation xs ys
 permutation [] [] a b to from = IsPermutation-refl []
 permutation [] (y ∷ ys) a b to from = absurd (let h = from y (0, omega arith, refl) in let l = h.1 in omega arith)
 permutation (x ∷ xs) ys a b to from =

@@ -13,10 +13,12 @@ use Rattle.moves.specs.Moves.{is_diagonal, IsTarget}
 use Rattle.moves.specs.Components.{first_of}
 use Rattle.moves.specs.StraightPaths.{GoesThrough, IsConnected}
 use Rattle.moves.proofs.MoveLaws.{same_cell}
-use Rattle.cell_order.specs.Orders.{has, is_new, north, west, beside}
+use Rattle.moves.specs.Maps.{has_cell}
+use Rattle.moves.proofs.Connected.{Contains-from_has_cell, has_cell-from_contains}
+use Rattle.cell_order.specs.Orders.{is_new, north, west, cells_beside}
 use Rattle.cell_order.specs.Boxes.{Box, IsMarked, with_mark, place_in}
 use Rattle.cell_order.proofs.Boxing.{marked_fewer}
-use Rattle.cell_order.proofs.Visiting.{Visits, nothing, passes, enters, parted, contains-from_has, has-from_contains}
+use Rattle.cell_order.proofs.Visiting.{Visits, nothing, passes, enters, parted}
 
 -- what the walk keeps
 pub record IsWalk (cells : List Cell) (box : Box) (order pending : List Cell) : Type 0 where
@@ -25,7 +27,7 @@ pub record IsWalk (cells : List Cell) (box : Box) (order pending : List Cell) : 
   pub inside : (c : Cell) → Contains order c → Contains cells c
   pub apart : AllPairs (λ a b. a ≢ b) order
   pub path : (after : List Cell) → Visits cells (reverse pending) order after → Visits cells (first_of cells ∷ []) [] after
-  pub closed : (c d : Cell) → Contains order c → Contains (beside c) d → Contains cells d → Contains order d ⊎ Contains pending d
+  pub closed : (c d : Cell) → Contains order c → Contains (cells_beside c) d → Contains cells d → Contains order d ⊎ Contains pending d
   pub first : Contains order (first_of cells) ⊎ Contains pending (first_of cells)
 
 pub contains_nothing : (c : Cell) → Contains [] c → ⊥
@@ -34,7 +36,8 @@ contains_nothing c h = let l = h.1 in omega arith
 contains_first : (c : Cell) → Contains (c ∷ []) c
 contains_first c = (0, omega arith, refl)
 
-pub walk_start : (cells : List Cell) (box : Box) (first : Cell) → length box.marks ≡ box.width * box.height → ((c : Cell) → IsMarked box c ↔ Contains cells c) → first ≡ first_of cells → IsWalk cells box [] (first ∷ [])
+pub walk_start : (cells : List Cell) (box : Box) (first : Cell) → length box.marks ≡ box.width * box.height
+    → ((c : Cell) → IsMarked box c ↔ Contains cells c) → first ≡ first_of cells → IsWalk cells box [] (first ∷ [])
 walk_start cells box first size marked same = record {
   size = size;
   marked = λ c. ((λ m. ((marked c).0 m, contains_nothing c)), λ h. (marked c).1 h.0);
@@ -45,7 +48,8 @@ walk_start cells box first size marked same = record {
   first = inr (subst (Contains (first ∷ [])) same (contains_first first));
 }
 
-module _ (cells : List Cell) (box : Box) (order pending rest : List Cell) (cell : Cell) (p : IsWalk cells box order pending) (popped : pending ≡ rest ++ cell ∷ []) (some : Contains cells (first_of cells)) where
+module _ (cells : List Cell) (box : Box) (order pending rest : List Cell) (cell : Cell)
+    (p : IsWalk cells box order pending) (popped : pending ≡ rest ++ cell ∷ []) (some : Contains cells (first_of cells)) where
   on_top : reverse pending ≡ cell ∷ reverse rest
   on_top = ap reverse popped ∙ reverse-append rest (cell ∷ [])
 
@@ -53,16 +57,18 @@ module _ (cells : List Cell) (box : Box) (order pending rest : List Cell) (cell 
   module _ (stale : IsMarked box cell → ⊥) where
     seen_or_foreign : Contains cells cell → Contains order cell
     seen_or_foreign inside =
-        elim (cases_Bool (has order cell)) [
-          | inl seen ↦ contains-from_has order cell seen
-          | inr unseen ↦ absurd (stale ((p.marked cell).1 (inside, λ h. both_ways (has order cell) unseen (has-from_contains order cell h))))
+        elim (cases_Bool (has_cell order cell)) [
+          | inl seen ↦ Contains-from_has_cell order cell seen
+          | inr unseen ↦ absurd (stale ((p.marked cell).1 (inside, λ h. both_ways (has_cell order cell) unseen (has_cell-from_contains order cell h))))
         ]
 
     not_new : is_new cells order cell ≡ false
     not_new =
-        elim (cases_Bool (has cells cell)) [
-          | inl inside ↦ and_right (has cells cell) (not (has order cell)) (not_from_true (has order cell) (has-from_contains order cell (seen_or_foreign (contains-from_has cells cell inside))))
-          | inr foreign ↦ and_left (has cells cell) (not (has order cell)) foreign
+        elim (cases_Bool (has_cell cells cell)) [
+          | inl inside ↦
+              let seen = has_cell-from_contains order cell (seen_or_foreign (Contains-from_has_cell cells cell inside)) in
+              and_right (has_cell cells cell) (not (has_cell order cell)) (not_from_true (has_cell order cell) seen)
+          | inr foreign ↦ and_left (has_cell cells cell) (not (has_cell order cell)) foreign
         ]
 
     waits_still : (d : Cell) → Contains cells d → Contains order d ⊎ Contains pending d → Contains order d ⊎ Contains rest d
@@ -96,24 +102,25 @@ module _ (cells : List Cell) (box : Box) (order pending rest : List Cell) (cell 
     of_cells = ((p.marked cell).0 marked).0
 
     new : is_new cells order cell ≡ true
-    new = and_from (has cells cell) (not (has order cell)) (has-from_contains cells cell of_cells)
-        (not_from_false (has order cell) (false_from_ne_true (has order cell) (λ h. unseen (contains-from_has order cell h))))
+    new = and_from (has_cell cells cell) (not (has_cell order cell)) (has_cell-from_contains cells cell of_cells)
+        (not_from_false (has_cell order cell) (false_from_ne_true (has_cell order cell) (λ h. unseen (Contains-from_has_cell order cell h))))
 
-    on_top_next : reverse (rest ++ reverse (beside cell)) ≡ beside cell ++ reverse rest
-    on_top_next = reverse-append rest (reverse (beside cell)) ∙ ap (λ xs. xs ++ reverse rest) (reverse-reverse (beside cell))
+    on_top_next : reverse (rest ++ reverse (cells_beside cell)) ≡ cells_beside cell ++ reverse rest
+    on_top_next = reverse-append rest (reverse (cells_beside cell)) ∙ ap (λ xs. xs ++ reverse rest) (reverse-reverse (cells_beside cell))
 
-    waits_or_seen : (d : Cell) → Contains order d ⊎ Contains pending d → Contains (order ++ cell ∷ []) d ⊎ Contains (rest ++ reverse (beside cell)) d
+    waits_or_seen : (d : Cell) → Contains order d ⊎ Contains pending d
+        → Contains (order ++ cell ∷ []) d ⊎ Contains (rest ++ reverse (cells_beside cell)) d
     waits_or_seen d before =
         elim before [
           | inl seen ↦ inl (Contains-append_left order (cell ∷ []) d seen)
           | inr waits ↦
               elim (Contains-push_cases rest cell d (subst (λ xs. Contains xs d) popped waits)) [
-                | inl deeper ↦ inr (Contains-append_left rest (reverse (beside cell)) d deeper)
+                | inl deeper ↦ inr (Contains-append_left rest (reverse (cells_beside cell)) d deeper)
                 | inr top ↦ inl (subst (Contains (order ++ cell ∷ [])) top (Contains-push order cell))
               ]
         ]
 
-    pub walk_enter : IsWalk cells (with_mark box cell false) (order ++ cell ∷ []) (rest ++ reverse (beside cell))
+    pub walk_enter : IsWalk cells (with_mark box cell false) (order ++ cell ∷ []) (rest ++ reverse (cells_beside cell))
     walk_enter = record {
       size = length-set box.marks (place_in box cell) false ∙ p.size;
       marked = λ c. (
@@ -130,29 +137,34 @@ module _ (cells : List Cell) (box : Box) (order pending rest : List Cell) (cell 
       inside = λ c h. elim (Contains-push_cases order cell c h) [ inl seen ↦ p.inside c seen | inr same ↦ subst (Contains cells) same of_cells ];
       apart = all_pairs_push (λ a b. a ≢ b) order cell p.apart (λ k d less same. unseen (subst (Contains order) same (Contains-get_or order k d less)));
       path = λ after v.
-          let parts = parted cells (beside cell) (reverse rest) (order ++ cell ∷ []) after (rw on_top_next at v) in
+          let parts = parted cells (cells_beside cell) (reverse rest) (order ++ cell ∷ []) after (rw on_top_next at v) in
           p.path after (rw on_top (enters new parts.1 parts.2));
       closed = λ c d seen near inside.
           elim (Contains-push_cases order cell c seen) [
             | inl earlier ↦ waits_or_seen d (p.closed c d earlier near inside)
             | inr same ↦
-                inr (Contains-append_right rest (reverse (beside cell)) d
-                (Contains-permutation (beside cell) (reverse (beside cell)) d (IsPermutation-reverse (beside cell)) (subst (λ e. Contains (beside e) d) (sym same) near)))
+                let here : Contains (cells_beside cell) d = subst (λ e. Contains (cells_beside e) d) (sym same) near in
+                inr (Contains-append_right rest (reverse (cells_beside cell)) d
+                (Contains-permutation (cells_beside cell) (reverse (cells_beside cell)) d (IsPermutation-reverse (cells_beside cell)) here))
           ];
       first = waits_or_seen (first_of cells) p.first;
     }
 
 -- a straight move ends at a cell beside the one where it begins
-pub beside_target : (a : Cell) (move : Move) (b : Cell) → is_diagonal move ≡ false → IsTarget a move b → Contains (beside a) b
+pub beside_target : (a : Cell) (move : Move) (b : Cell) → is_diagonal move ≡ false → IsTarget a move b → Contains (cells_beside a) b
 beside_target a N b straight t =
     let row : a.y ≡ 0 → ⊥ = λ e. let u = t.1 in omega arith in
     let n : Cell = record { x = a.x; y = a.y - 1 } in
     let is : north a ≡ n ∷ [] = cond-false _ [] (n ∷ []) (ne_eqb a.y 0 row) in
     Contains-append_left (north a) _ b (rw is (0, omega arith, same_cell n b (let u = t.0 in omega arith) (let u = t.1 in omega arith)))
 beside_target a NE b straight t = absurd (let h : true ≡ false = straight in cc)
-beside_target a E b straight t = Contains-append_right (north a) _ b (0, omega arith, same_cell (record { x = a.x + 1; y = a.y }) b (let u = t.0 in omega arith) (let u = t.1 in omega arith))
+beside_target a E b straight t =
+    let e : Cell = record { x = a.x + 1; y = a.y } in
+    Contains-append_right (north a) _ b (0, omega arith, same_cell e b (let u = t.0 in omega arith) (let u = t.1 in omega arith))
 beside_target a SE b straight t = absurd (let h : true ≡ false = straight in cc)
-beside_target a S b straight t = Contains-append_right (north a) _ b (1, omega arith, same_cell (record { x = a.x; y = a.y + 1 }) b (let u = t.0 in omega arith) (let u = t.1 in omega arith))
+beside_target a S b straight t =
+    let s : Cell = record { x = a.x; y = a.y + 1 } in
+    Contains-append_right (north a) _ b (1, omega arith, same_cell s b (let u = t.0 in omega arith) (let u = t.1 in omega arith))
 beside_target a SW b straight t = absurd (let h : true ≡ false = straight in cc)
 beside_target a W b straight t =
     let column : a.x ≡ 0 → ⊥ = λ e. let u = t.0 in omega arith in
@@ -162,7 +174,8 @@ beside_target a W b straight t =
 beside_target a NW b straight t = absurd (let h : true ≡ false = straight in cc)
 
 -- nothing waits any more: all cells were seen
-module _ (cells : List Cell) (box : Box) (order : List Cell) (p : IsWalk cells box order []) (connected : IsConnected cells) (some : Contains cells (first_of cells)) where
+module _ (cells : List Cell) (box : Box) (order : List Cell) (p : IsWalk cells box order [])
+    (connected : IsConnected cells) (some : Contains cells (first_of cells)) where
   seen_along : (from : Cell) (moves : List Move) (to : Cell) → GoesThrough cells from moves to → Contains order from → Contains order to
   seen_along from [] to goes seen = subst (Contains order) goes seen
   seen_along from (move ∷ moves) to goes seen =

@@ -4,13 +4,13 @@
 ghost use Rattle.std.specs.Prelude.{◌≡◌, ◌+◌, ◌<◌, ◌≤◌, ◌++◌, All, AllPairs, length, reverse, IfOk, IsPermutation};
 ghost use Rattle.moves.specs.Maps.{ComesBefore};
 ghost use Rattle.moves.specs.StraightPaths.{IsConnected};
-ghost use Rattle.cell_order.specs.Orders.{IsOnMap, beside, ordered};
+ghost use Rattle.cell_order.specs.Orders.{IsOnMap, OrdersArePermutations, VisitsHaveNoBound, cells_beside, kind_of, ordered};
 
 #[cfg(test)]
 mod tests;
 mod unseen;
 
-use moves::Cell;
+use moves::{Cell, MAX_PASSABLE, MAX_SIDE};
 use std::alloc::{AllocError, Global};
 use unseen::Unseen;
 
@@ -24,6 +24,18 @@ pub enum OrderKind {
     Dfs,
 }
 
+impl OrderKind {
+    /// The order's number: 0 for row by row and 1 for depth first.
+    pub fn number(self) -> u8
+        ensures { result ≡ kind_of self }
+    {
+        match self {
+            OrderKind::Rows => 0,
+            OrderKind::Dfs => 1,
+        }
+    }
+}
+
 /// The cells of a component in the named order. They are from 1 to 32,768 cells in row-major order, connected by
 /// straight moves among themselves.
 ///
@@ -32,7 +44,7 @@ pub enum OrderKind {
 /// `AllocError` where memory runs out.
 pub fn order_of(alloc: Global, kind: OrderKind, cells: &[Cell]) -> Result<Vec<Cell>, AllocError>
     requires some { 0 < length cells.now }
-    requires few { length cells.now ≤ 32768 }
+    requires few { length cells.now ≤ MAX_PASSABLE }
     requires rows { AllPairs ComesBefore cells.now }
     requires limits { All IsOnMap cells.now }
     requires connected { IsConnected cells.now }
@@ -45,10 +57,20 @@ pub fn order_of(alloc: Global, kind: OrderKind, cells: &[Cell]) -> Result<Vec<Ce
     }
 }
 
+/// The law of depth-first visits: the bound on their depth, by which they are defined, never shows.
+pub fn visits_have_no_bound()
+    ensures { VisitsHaveNoBound }
+{}
+
+/// The law of orders: the order of connected cells has each of them once.
+pub fn orders_are_permutations()
+    ensures { OrdersArePermutations }
+{}
+
 /// The cells as they are first visited from the first of them, depth first.
 fn depth_first(alloc: Global, cells: &[Cell]) -> Result<Vec<Cell>, AllocError>
     requires some { 0 < length cells.now }
-    requires few { length cells.now ≤ 32768 }
+    requires few { length cells.now ≤ MAX_PASSABLE }
     requires rows { AllPairs ComesBefore cells.now }
     requires limits { All IsOnMap cells.now }
     requires connected { IsConnected cells.now }
@@ -71,9 +93,10 @@ fn depth_first(alloc: Global, cells: &[Cell]) -> Result<Vec<Cell>, AllocError>
 
 /// Puts the four cells beside a cell on the stack, the northern one on top, then east, south and west.
 fn push_beside(pending: &mut Vec<Cell>, cell: Cell) -> Result<(), AllocError>
-    requires column { cell.x < 4096 }
-    requires row { cell.y < 4096 }
-    ensures { IfOk result (λ _. pending.new.items ≡ pending.old.items ++ reverse (beside cell)) }
+    requires column { cell.x < MAX_SIDE }
+    requires row { cell.y < MAX_SIDE }
+    ensures { IfOk result (λ _.
+        pending.new.items ≡ pending.old.items ++ reverse (cells_beside cell)) }
 {
     let Cell { x, y } = cell;
     if x > 0 {

@@ -1,7 +1,7 @@
 //! Orders of one cell, of small rooms and of a long row.
 
 use crate::{OrderKind, order_of};
-use moves::Cell;
+use moves::{Cell, MAX_SIDE};
 use std::alloc::AllocError;
 
 #[test]
@@ -25,7 +25,7 @@ fn small_room(rt: HostRuntime) -> Result<(), AllocError> {
         Cell { x: 1, y: 1 },
         Cell { x: 2, y: 1 },
     ];
-    let wanted = [
+    let visited = [
         Cell { x: 0, y: 0 },
         Cell { x: 1, y: 0 },
         Cell { x: 2, y: 0 },
@@ -33,10 +33,10 @@ fn small_room(rt: HostRuntime) -> Result<(), AllocError> {
         Cell { x: 1, y: 1 },
         Cell { x: 0, y: 1 },
     ];
-    let rows = order_of(rt.alloc(), OrderKind::Rows, &cells)?;
-    assert_eq!(rt; rows.as_slice(), cells.as_slice());
-    let order = order_of(rt.alloc(), OrderKind::Dfs, &cells)?;
-    assert_eq!(rt; order.as_slice(), wanted.as_slice());
+    for (kind, wanted) in [(OrderKind::Rows, cells), (OrderKind::Dfs, visited)] {
+        let order = order_of(rt.alloc(), kind, &cells)?;
+        assert_eq!(rt; order.as_slice(), wanted.as_slice());
+    }
     Ok(())
 }
 
@@ -54,7 +54,7 @@ fn two_crossings(rt: HostRuntime) -> Result<(), AllocError> {
         Cell { x: 4092, y: 4095 },
         Cell { x: 4094, y: 4095 },
     ];
-    let wanted = [
+    let visited = [
         Cell { x: 4092, y: 4093 },
         Cell { x: 4092, y: 4094 },
         Cell { x: 4093, y: 4094 },
@@ -65,10 +65,10 @@ fn two_crossings(rt: HostRuntime) -> Result<(), AllocError> {
         Cell { x: 4092, y: 4095 },
         Cell { x: 4091, y: 4094 },
     ];
-    let rows = order_of(rt.alloc(), OrderKind::Rows, &cells)?;
-    assert_eq!(rt; rows.as_slice(), cells.as_slice());
-    let order = order_of(rt.alloc(), OrderKind::Dfs, &cells)?;
-    assert_eq!(rt; order.as_slice(), wanted.as_slice());
+    for (kind, wanted) in [(OrderKind::Rows, cells), (OrderKind::Dfs, visited)] {
+        let order = order_of(rt.alloc(), kind, &cells)?;
+        assert_eq!(rt; order.as_slice(), wanted.as_slice());
+    }
     Ok(())
 }
 
@@ -76,7 +76,7 @@ fn two_crossings(rt: HostRuntime) -> Result<(), AllocError> {
 #[test]
 fn long_row(rt: HostRuntime) -> Result<(), AllocError> {
     let mut cells = Vec::new(rt.alloc());
-    for x in 0..4096u16 {
+    for x in 0..MAX_SIDE as u16 {
         cells.push(Cell { x, y: 4095 })?;
     }
     for kind in [OrderKind::Rows, OrderKind::Dfs] {

@@ -3,7 +3,7 @@
 ghost use Rattle.std.specs.Prelude.{◌≡◌, ℕ, ◌+◌, ◌-◌, ◌*◌, ◌<◌, ◌≤◌, ◌↔◌, Bool, true, false, All, Contains, length, replicate, IsTrue, IfOk};
 ghost use Rattle.moves.specs.declared.Cell.{Cell};
 ghost use Rattle.cell_order.specs.Orders.{IsOnMap};
-ghost use Rattle.cell_order.specs.Boxes.{IsWithin, IsMarked, IsBetween, IsSpan, with_mark, place_in};
+ghost use Rattle.cell_order.specs.Boxes.{HasMarksOn, HasNoMarks, IsWithin, IsMarked, IsBetween, IsSpan, with_mark, place_in};
 
 use moves::Cell;
 use std::alloc::{AllocError, Global};
@@ -21,13 +21,21 @@ pub(crate) struct Unseen {
 
 impl Model for Unseen {
     ghost use Rattle.std.specs.Prelude.{◌≡◌, ◌+◌, ◌*◌, ◌≤◌, vec_len};
+    ghost use Rattle.moves.specs.declared.TheConstants.{MAX_SIDE};
     ghost use Rattle.cell_order.specs.Boxes.{Box};
 
     ghost Value = { Box };
 
-    ghost view = { λ u. record { left = u.left; top = u.top; width = u.width; height = u.height; marks = u.marks.items } };
+    ghost view = { λ u. record {
+      left = u.left;
+      top = u.top;
+      width = u.width;
+      height = u.height;
+      marks = u.marks.items;
+    } };
 
-    ghost invariant = { λ u. (u.left + u.width ≤ 4096) × (u.top + u.height ≤ 4096) × (vec_len u.marks ≡ u.width * u.height) };
+    ghost invariant = { λ u. (u.left + u.width ≤ MAX_SIDE) × (u.top + u.height ≤ MAX_SIDE)
+        × (vec_len u.marks ≡ u.width * u.height) };
 }
 
 impl Unseen {
@@ -35,8 +43,8 @@ impl Unseen {
     pub(crate) fn of(alloc: Global, cells: &[Cell]) -> Result<Unseen, AllocError>
         requires some { 0 < length cells.now }
         requires limits { All IsOnMap cells.now }
-        ensures size { IfOk result (λ unseen. length unseen.marks ≡ unseen.width * unseen.height) }
-        ensures marked { IfOk result (λ unseen. (cell : Cell) → IsMarked unseen cell ↔ Contains cells.now cell) }
+        ensures size { IfOk result (λ box. length box.marks ≡ box.width * box.height) }
+        ensures marked { IfOk result (λ unseen. HasMarksOn unseen cells.now) }
     {
         let mut unseen = Unseen::around(alloc, cells)?;
         for cell in cells {
@@ -50,7 +58,7 @@ impl Unseen {
         requires some { 0 < length cells.now }
         requires limits { All IsOnMap cells.now }
         ensures within { IfOk result (λ unseen. All (IsWithin unseen) cells.now) }
-        ensures empty { IfOk result (λ unseen. unseen.marks ≡ replicate (unseen.width * unseen.height) false) }
+        ensures empty { IfOk result (λ unseen. HasNoMarks unseen) }
     {
         let span = span_of(cells);
         let width = u32::from(span.right - span.left) + 1;

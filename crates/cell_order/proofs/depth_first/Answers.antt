@@ -39,9 +39,11 @@ nothing_waits c = nil_from_length c.loop-cell.pending.items (omega (arith, c.loo
 pub returns-clause-order : goal.returns-clause-order
 returns-clause-order c =
     let none = nothing_waits (goal.at.returns-clause-order c).In_default in
-    walk_orders c.args.cells.now c.loop-cell.unseen c.loop-cell.order.items (rw none at c.loop-cell.invariant) c.requires.connected c.requires.some c.requires.rows
+    walk_orders c.args.cells.now c.loop-cell.unseen c.loop-cell.order.items (rw none at c.loop-cell.invariant)
+    c.requires.connected c.requires.some c.requires.rows
 
 pub returns-clause-same : goal.returns-clause-same
 returns-clause-same c =
     let none = nothing_waits (goal.at.returns-clause-same c).In_default in
-    walk_permutes c.args.cells.now c.loop-cell.unseen c.loop-cell.order.items (rw none at c.loop-cell.invariant) c.requires.connected c.requires.some c.requires.rows
+    walk_permutes c.args.cells.now c.loop-cell.unseen c.loop-cell.order.items (rw none at c.loop-cell.invariant)
+    c.requires.connected c.requires.some c.requires.rows

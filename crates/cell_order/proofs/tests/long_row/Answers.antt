@@ -1,6 +1,6 @@
 -- The made cells are a row, which is in order and connected.
 use Rattle.std.proofs.Common.{◌∷◌, [], ◌++◌, sym, ap, ◌∙◌, arith}
-use Rattle.cell_order.proofs.Connected.{cell_of}
+use Rattle.moves.proofs.Connected.{cell_of}
 use Rattle.cell_order.proofs.LongRow.{row_starts, row_goes_on, length_row, row_is_connected, row_in_order, row_on_map}
 use Rattle.cell_order.proofs.tests.long_row.Goals as goal
 

@@ -10,7 +10,8 @@ loop-cell-preserved c =
     let cell : Cell = get_or c.args.cells.now c.loop-cell.cell-index corner in
     rw c.insert.ensures
     (marking_more c.args.cells.now c.loop-cell.cell-index c.in_ok-unseen.unseen c.loop-cell.unseen cell c.loop-cell.invariant c.loop-cell-test.true
-    (get_or_default c.args.cells.now c.loop-cell.cell-index corner cell c.loop-cell-test.true) (c.in_ok-unseen.ensures.within c.loop-cell.cell-index corner c.loop-cell-test.true))
+    (get_or_default c.args.cells.now c.loop-cell.cell-index corner cell c.loop-cell-test.true)
+    (c.in_ok-unseen.ensures.within c.loop-cell.cell-index corner c.loop-cell-test.true))
 
 pub returns-clause-marked : goal.returns-clause-marked
 returns-clause-marked c =
