@@ -4,7 +4,7 @@ use Rattle.std.proofs.lemmas.Bool.{cases_lt}
 use Rattle.std.proofs.lemmas.List.{same_lists, get_or_default}
 use Rattle.run_pack.specs.declared.Run.{Run}
 use Rattle.run_pack.specs.Sets.{IsCommon}
-use Rattle.run_pack.specs.Runs.{start_at, move_at, end_at, no_run, Fits, IsTight, HasFewest, IsOnlyTight}
+use Rattle.run_pack.specs.Runs.{start_at, move_at, end_at, no_run, Fits, IsTight, HasFewest, IsOnlyTight, IsPacked}
 use Rattle.run_pack.proofs.RowLemmas.{same_runs, border, border_past, border-le, get_or-starts_of, start_at-inside}
 
 -- what is common to some sets is common to a part of them
@@ -102,3 +102,12 @@ same_tight a b sets tight_a tight_b =
 
 pub IsOnlyTight-from_tight : (runs : List Run) (sets : List ℕ) → IsTight runs sets → IsOnlyTight runs sets
 IsOnlyTight-from_tight runs sets tight = record { only = λ other also. same_tight other runs sets also tight }
+
+-- so all is said of a row once it is tight
+pub IsPacked-from_tight : (runs : List Run) (sets : List ℕ) → IsTight runs sets → IsPacked runs sets
+IsPacked-from_tight runs sets tight = record {
+  tight = tight;
+  only = IsOnlyTight-from_tight runs sets tight;
+  fits = Fits-from_tight runs sets tight;
+  fewest = HasFewest-from_tight runs sets tight;
+}

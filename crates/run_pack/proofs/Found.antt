@@ -2,7 +2,7 @@
 use Rattle.std.proofs.Common.{◌≡◌, ℕ, ◌+◌, ◌<◌, List, length, arith, ap, sym, ◌∙◌, inl, inr}
 use Rattle.std.proofs.lemmas.Bool.{cases_lt}
 use Rattle.run_pack.specs.declared.Run.{Run}
-use Rattle.run_pack.specs.Runs.{move_at, Rises, Covers, IsLastUpTo, IsMoveFor, IsCoveringInside, IsInSetOfPlace}
+use Rattle.run_pack.specs.Runs.{move_at, Rises, Covers, IsLastUpTo, IsMoveFor, IsCoveringInside, IsInSetOfPlace, IsFound}
 use Rattle.run_pack.proofs.RowLemmas.{border_past, get_or-starts_of, start_at-le}
 
 -- the last run that starts at the place or before it covers the place
@@ -58,3 +58,11 @@ same_last runs place j k a b =
 pub same_move : (runs : List Run) (place a b : ℕ) → IsMoveFor runs place a → IsMoveFor runs place b → a ≡ b
 same_move runs place a b x y =
     x.is ∙ ap (move_at runs) (same_last runs place x.run y.run x.last y.last) ∙ sym y.is
+
+-- so all is said of a move once it is that of the last run up to the place
+pub IsFound-from_last : (runs : List Run) (place move : ℕ) → IsMoveFor runs place move → IsFound runs place move
+IsFound-from_last runs place move last = record {
+  last = last;
+  covering = IsCoveringInside-from_found runs place move last;
+  held = IsInSetOfPlace-from_found runs place move last;
+}

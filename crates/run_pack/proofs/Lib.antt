@@ -5,3 +5,4 @@ pub mod Found
 pub mod Fewest
 pub mod Packing
 pub mod Words
+pub mod Covering

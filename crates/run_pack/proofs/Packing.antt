@@ -1,8 +1,9 @@
 -- What `pack` keeps: the runs that are done, and the stretch that may still grow.
-use Rattle.std.proofs.Common.{◌≡◌, ℕ, ◌+◌, ◌^◌, ◌<◌, ◌≤◌, w8, List, [], ◌∷◌, ◌++◌, length, map, get_or, slice_index, arith, ap, refl, sym, ◌∙◌, inl, inr}
+use Rattle.std.proofs.Common.{◌≡◌, ℕ, ◌+◌, ◌^◌, ◌<◌, ◌≤◌, w8, List, [], ◌∷◌, ◌++◌, length, map, take, drop, get_or, slice_index, arith, ap, refl, sym, ◌∙◌, inl, inr}
 use Rattle.std.specs.Int.{trailing_zeros}
 use Rattle.std.proofs.lemmas.Bool.{cases_lt}
-use Rattle.std.proofs.lemmas.List.{get_or_append_left, get_or_default, get_or_push, map_push, length_push}
+use Rattle.std.proofs.Math.Seq.{take-length, drop-length}
+use Rattle.std.proofs.lemmas.List.{get_or_append_left, get_or_default, get_or_push, map_push, length_push, take-append-le, drop-append-le}
 use Rattle.run_pack.specs.declared.Run.{Run}
 use Rattle.run_pack.specs.Sets.{Has, IsShared, ShareNone, IsLeastIn, IsCommon, IsLeastCommon}
 use Rattle.run_pack.specs.Runs.{starts_of, start_at, move_at, end_at, no_run, IsTight}
@@ -90,7 +91,7 @@ pub record IsDone (sets : List ℕ) (runs : List Run) (next : ℕ) : Type 0 wher
   pub maximal : EachRun (IsMaximal sets) runs next
 
 -- The sets before place `upto` are in the runs that are done and in a stretch from `start`, whose common moves are known.
-pub record IsPacked (sets : List ℕ) (runs : List Run) (start common upto : ℕ) : Type 0 where
+pub record IsPackedUpTo (sets : List ℕ) (runs : List Run) (start common upto : ℕ) : Type 0 where
   pub done : IsDone sets runs start
   pub some : 0 < common
   pub begun : start ≤ upto
@@ -98,7 +99,7 @@ pub record IsPacked (sets : List ℕ) (runs : List Run) (start common upto : ℕ
   pub sound : (move : ℕ) → move < 8 → Has common move → IsCommon sets start upto move
   pub whole : (move : ℕ) → IsCommon sets start upto move → Has common move
 
-pub packed_first : (sets : List ℕ) → IsPacked sets [] 0 255 0
+pub packed_first : (sets : List ℕ) → IsPackedUpTo sets [] 0 255 0
 packed_first sets = record {
   done = record {
     first = refl;
@@ -131,9 +132,9 @@ IsCommon-one sets place move below has = record {
   everywhere = λ other a b. (let same : other ≡ place = omega arith in rw same has);
 }
 
-module _ (sets : List ℕ) (runs : List Run) (start common upto : ℕ) (packed : IsPacked sets runs start common upto) where
+module _ (sets : List ℕ) (runs : List Run) (start common upto : ℕ) (packed : IsPackedUpTo sets runs start common upto) where
   -- the stretch grows by the next set
-  pub packed_longer : (start' common' : ℕ) → start' ≡ start → 0 < common' → IsShared common' common (slice_index sets upto) → IsPacked sets runs start' common' (upto + 1)
+  pub packed_longer : (start' common' : ℕ) → start' ≡ start → 0 < common' → IsShared common' common (slice_index sets upto) → IsPackedUpTo sets runs start' common' (upto + 1)
   packed_longer start' common' same some both = rw same (record {
     done = packed.done;
     some = some;
@@ -171,7 +172,7 @@ module _ (sets : List ℕ) (runs : List Run) (start common upto : ℕ) (packed :
     done_as = rw same packed.done
 
     -- the stretch is done, and the next begins with the next set
-    pub packed_cut : slice_index sets upto < 2 ^ 8 → 0 < slice_index sets upto → ShareNone common (slice_index sets upto) → IsPacked sets (runs ++ run ∷ []) upto (slice_index sets upto) (upto + 1)
+    pub packed_cut : slice_index sets upto < 2 ^ 8 → 0 < slice_index sets upto → ShareNone common (slice_index sets upto) → IsPackedUpTo sets (runs ++ run ∷ []) upto (slice_index sets upto) (upto + 1)
     packed_cut byte some none =
         let covers = covers_some byte some none in
         let full : IsMaximal sets run.start upto run.mv = λ other shared.
@@ -212,6 +213,47 @@ module _ (sets : List ℕ) (runs : List Run) (start common upto : ℕ) (packed :
               done_as.maximal.at k before move (IsCommon-part sets _ _ _ _ move shared (omega arith) (omega arith)));
         }
 
--- a row that is kept in some way, with one run more
-pub map_pushed : {X : Type 0} (f : X → Run) (xs zs : List X) (y : X) (run : Run) → zs ≡ xs ++ y ∷ [] → f y ≡ run → map f zs ≡ map f xs ++ run ∷ []
-map_pushed f xs zs y run push kept = rw (push, map_push f xs y, kept) refl
+-- Behind what was stored before, the sets up to a place are packed.
+pub record IsFilledUpTo {X : Type 0} (run_of : X → Run) (old stored : List X) (sets : List ℕ) (start common upto : ℕ) : Type 0 where
+  pub kept : take (length old) stored ≡ old
+  pub enough : length old ≤ length stored
+  pub packed : IsPackedUpTo sets (map run_of (drop (length old) stored)) start common upto
+
+pub filled_first : {X : Type 0} (run_of : X → Run) (old : List X) (sets : List ℕ) → IsFilledUpTo run_of old old sets 0 255 0
+filled_first run_of old sets = record {
+  kept = take-length old;
+  enough = omega arith;
+  packed = rw (drop-length old) (packed_first sets);
+}
+
+module _ {X : Type 0} (run_of : X → Run) (old stored : List X) (sets : List ℕ) (start common upto : ℕ) (filled : IsFilledUpTo run_of old stored sets start common upto) where
+  abbrev row : List Run
+  row = map run_of (drop (length old) stored)
+
+  -- the stretch grows by the next set
+  pub filled_longer : (start' common' : ℕ) → start' ≡ start → 0 < common' → IsShared common' common (slice_index sets upto) → IsFilledUpTo run_of old stored sets start' common' (upto + 1)
+  filled_longer start' common' same some both = record {
+    kept = filled.kept;
+    enough = filled.enough;
+    packed = packed_longer sets row start common upto filled.packed start' common' same some both;
+  }
+
+  module _ (now : List X) (item : X) (run : Run) (push : now ≡ stored ++ item ∷ []) (is : run_of item ≡ run) (same : run.start ≡ start) (least : IsLeastIn common run.mv) where
+    pub kept_pushed : take (length old) now ≡ old
+    kept_pushed = rw push (take-append-le (length old) stored (item ∷ []) filled.enough ∙ filled.kept)
+
+    row_pushed : map run_of (drop (length old) now) ≡ row ++ run ∷ []
+    row_pushed =
+        rw (push, drop-append-le (length old) stored (item ∷ []) filled.enough, map_push run_of (drop (length old) stored) item, is) refl
+
+    -- the stretch is done, and its run is stored
+    pub filled_cut : slice_index sets upto < 2 ^ 8 → 0 < slice_index sets upto → ShareNone common (slice_index sets upto) → IsFilledUpTo run_of old now sets upto (slice_index sets upto) (upto + 1)
+    filled_cut byte some none = record {
+      kept = kept_pushed;
+      enough = rw push (omega (arith, length_push stored item, filled.enough));
+      packed = rw row_pushed (packed_cut sets row start common upto filled.packed run same least byte some none);
+    }
+
+    -- all sets are packed
+    pub filled_all : upto ≡ length sets → 0 < upto → IsTight (map run_of (drop (length old) now)) sets
+    filled_all all some = rw row_pushed (packed_all sets row start common upto filled.packed run same least all some)

@@ -100,3 +100,18 @@ start_at-before_end runs places row k within =
       | inl more ↦ omega (arith, get_or-starts_of runs (k + 1) places more, start_at-lt runs row.rises k more)
       | inr last ↦ omega (arith, border_past runs places (k + 1) last, start_at-inside runs places row k within)
     ]
+
+-- a run starts no earlier than its number
+start_at-from : (runs : List Run) → Rises runs → (k : ℕ) → k < length runs → k ≤ start_at runs k
+start_at-from runs rises zero within = omega arith
+start_at-from runs rises (suc k) within =
+    let step : start_at runs k < start_at runs (k + 1) = start_at-lt runs rises k (omega arith) in
+    let before = start_at-from runs rises k (omega arith) in
+    let same : suc k ≡ k + 1 = omega arith in
+    rw same (omega arith)
+
+-- a row has no more runs than places
+pub length-row : (runs : List Run) (places : ℕ) → IsRow runs places → length runs ≤ places
+length-row runs places row =
+    let some = row.rises.some in
+    omega (arith, start_at-from runs row.rises (length runs - 1) (omega arith), start_at-inside runs places row (length runs - 1) (omega arith))

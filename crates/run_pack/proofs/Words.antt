@@ -1,9 +1,9 @@
 -- Runs as words.
-use Rattle.std.proofs.Common.{◌≡◌, ℕ, ◌+◌, ◌*◌, ◌/◌, ◌%◌, ◌<◌, List, length, map, get_or, All, arith}
+use Rattle.std.proofs.Common.{◌≡◌, ℕ, ◌+◌, ◌*◌, ◌/◌, ◌%◌, ◌<◌, List, length, map, get_or, All, arith, ap}
 use Rattle.std.proofs.lemmas.List.{same_lists, get_or-map, length-map}
 use Rattle.std.proofs.lemmas.List.Elements.{All-from_get_or}
 use Rattle.run_pack.specs.declared.Run.{Run}
-use Rattle.run_pack.specs.Runs.{no_run, IsTight, word_of, run_of_word}
+use Rattle.run_pack.specs.Runs.{no_run, IsTight, IsFound, word_of, run_of_word}
 use Rattle.run_pack.proofs.RowLemmas.{same_runs, start_at-inside}
 
 -- a word stands for the run that it was made of
@@ -37,3 +37,13 @@ All-move_below runs sets tight =
 pub All-start_below : (runs : List Run) (sets : List ℕ) → IsTight runs sets → All (λ run. run.start < length sets) runs
 All-start_below runs sets tight =
     All-from_get_or (λ run. run.start < length sets) runs no_run (λ k within. start_at-inside runs (length sets) tight.row k within)
+
+-- a move that is found in words is one of the eight
+pub move_in_words : (words : List ℕ) (place move : ℕ) → IsFound (map run_of_word words) place move → move < 8
+move_in_words words place move found =
+    let size = length-map words run_of_word in
+    let within : found.last.run < length words = omega (arith, found.last.last.within) in
+    let read = get_or-map run_of_word words found.last.run 0 no_run within in
+    let is : move ≡ (get_or (map run_of_word words) found.last.run no_run).mv = found.last.is in
+    let mv : (get_or (map run_of_word words) found.last.run no_run).mv ≡ get_or words found.last.run 0 % 8 = ap (λ run. run.mv) read in
+    omega arith

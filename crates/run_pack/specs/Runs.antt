@@ -1,9 +1,10 @@
 -- Rows of runs: a list of sets of moves, kept as one move for each run of neighbouring places.
 -- Source: Strasser, Harabor and Botea, "Fast First-Move Queries through Run-Length Encoding" (SoCS 2014):
 -- a row may keep any one optimal first move of each place, so a run reaches as far as its sets share a move.
-use Rattle.std.specs.Prelude.{◌≡◌, ℕ, ◌+◌, ◌*◌, ◌/◌, ◌%◌, ◌<◌, ◌≤◌, List, length, map, slice_index, slice_index_or, All}
+use Rattle.std.specs.Prelude.{◌≡◌, ℕ, ◌+◌, ◌*◌, ◌/◌, ◌%◌, ◌<◌, ◌≤◌, List, ◌++◌, length, map, slice_index, slice_index_or, All}
 use Rattle.std.specs.List.Sorted.{IsStrictlyIncreasing}
 use Rattle.run_pack.specs.declared.Run.{Run}
+use Rattle.run_pack.specs.declared.TheConstants.{MAX_PLACES}
 use Rattle.run_pack.specs.Sets.{Has, IsCommon, IsLeastCommon}
 
 -- the places where the runs start
@@ -61,6 +62,19 @@ pub record HasFewest (runs : List Run) (sets : List ℕ) : Type 0 where
 pub record IsOnlyTight (runs : List Run) (sets : List ℕ) : Type 0 where
   pub only : (other : List Run) → IsTight other sets → other ≡ runs
 
+-- sets that have a tight row: at least one and no more than a word can count, and none of them is empty
+pub record ArePackable (sets : List ℕ) : Type 0 where
+  pub some : 0 < length sets
+  pub few : length sets ≤ MAX_PLACES
+  pub non_empty : All (λ set. 0 < set) sets
+
+-- these sets packed: the tight row, and the only one; it holds for them, and no row that does has fewer runs
+pub record IsPacked (runs : List Run) (sets : List ℕ) : Type 0 where
+  pub tight : IsTight runs sets
+  pub only : IsOnlyTight runs sets
+  pub fits : Fits runs sets
+  pub fewest : HasFewest runs sets
+
 -- run `k` is the last that starts at the place or before it
 pub record IsLastUpTo (runs : List Run) (place k : ℕ) : Type 0 where
   pub within : k < length runs
@@ -88,6 +102,13 @@ pub record IsCoveringInside (runs : List Run) (place move : ℕ) : Type 0 where
 pub record IsInSetOfPlace (runs : List Run) (place move : ℕ) : Type 0 where
   pub held : (sets : List ℕ) → Fits runs sets → place < length sets → Has (slice_index sets place) move
 
+-- what a look-up finds for a place: the move of the last run that starts there or before. In each row over places that
+-- has this one, that run covers it; and for any sets that the row holds for, the move is in the set of the place.
+pub record IsFound (runs : List Run) (place move : ℕ) : Type 0 where
+  pub last : IsMoveFor runs place move
+  pub covering : IsCoveringInside runs place move
+  pub held : IsInSetOfPlace runs place move
+
 -- a run as one word: its start and, in the lowest three bits, its move
 abbrev pub word_of : Run → ℕ
 word_of run = run.start * 8 + run.mv
@@ -95,3 +116,9 @@ word_of run = run.start * 8 + run.mv
 -- the run that a word stands for
 abbrev pub run_of_word : ℕ → Run
 run_of_word word = record { start = word / 8; mv = word % 8 }
+
+-- behind the words that were there stand the words of the packed row of these sets
+pub record AppendsRow (old new sets : List ℕ) : Type 0 where
+  pub row : List ℕ
+  pub behind : new ≡ old ++ row
+  pub packed : IsPacked (map run_of_word row) sets

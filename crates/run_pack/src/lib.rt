@@ -5,9 +5,9 @@
 //! Botea, "Fast First-Move Queries through Run-Length Encoding", 2014), so `pack` lets each run reach as far as it can.
 #![tactic(auto)]
 
-ghost use Rattle.std.specs.Prelude.{◌≡◌, ◌+◌, ◌-◌, ◌*◌, ◌^◌, ◌<◌, ◌≤◌, length, map, All, IfOk, OnOk, IfSome, IfNone};
+ghost use Rattle.std.specs.Prelude.{◌≡◌, ◌+◌, ◌-◌, ◌*◌, ◌^◌, ◌<◌, ◌≤◌, length, map, take, drop, IfOk, OnOk, OnErr, IfSome, IfNone};
 ghost use Rattle.run_pack.specs.Sets.{IsShared, ShareNone, IsLeastIn};
-ghost use Rattle.run_pack.specs.Runs.{Rises, IsTight, Fits, HasFewest, IsOnlyTight, IsMoveFor, IsCoveringInside, IsInSetOfPlace, word_of, run_of_word};
+ghost use Rattle.run_pack.specs.Runs.{Rises, ArePackable, IsTight, IsPacked, IsFound, AppendsRow, word_of, run_of_word};
 
 mod row;
 pub mod steps;
@@ -17,6 +17,9 @@ use crate::steps::Steps;
 use std::alloc::{AllocError, Global};
 use std::marker::Brand;
 use std::sync::ledger::{Blank, Ledger};
+
+/// How many places a row may have at most, so that a run fits into a word: 15 bits for its start and 3 for its move.
+pub const MAX_PLACES: u32 = 32768;
 
 /// One run of a row: the place where it starts, and the move that it keeps.
 ///
@@ -70,45 +73,39 @@ impl Stretch {
 ///
 /// The only error is want of memory, which is taken for the result alone.
 pub fn pack(alloc: Global, sets: &[u8]) -> Result<Vec<Run>, AllocError>
-    requires some { 0 < length sets.now }
-    requires limit { length sets.now ≤ 32768 }
-    requires non_empty { All (λ set. 0 < set) sets.now }
-    ensures tight { IfOk result (λ row. IsTight row.items sets.now) }
-    ensures fits { IfOk result (λ row. Fits row.items sets.now) }
-    ensures fewest { IfOk result (λ row. HasFewest row.items sets.now) }
-    ensures only { IfOk result (λ row. IsOnlyTight row.items sets.now) }
+    requires { ArePackable sets.now }
+    ensures { IfOk result (λ row. IsPacked row.items sets.now) }
 {
     let mut row = Vec::new(alloc);
     fill(&mut row, sets)?;
     Ok(row)
 }
 
-/// `pack` into a row that is kept as words. The words that stood there are replaced, and their memory is used again.
+/// Appends the words of the row that `pack` gives, one a run, to these words.
 ///
-/// After an error the words mean nothing.
-pub fn pack_words(words: &mut Vec<u32>, sets: &[u8]) -> Result<(), AllocError>
-    requires some { 0 < length sets.now }
-    requires limit { length sets.now ≤ 32768 }
-    requires non_empty { All (λ set. 0 < set) sets.now }
-    ensures tight { OnOk result (IsTight (map run_of_word words.new.items) sets.now) }
-    ensures fits { OnOk result (Fits (map run_of_word words.new.items) sets.now) }
-    ensures fewest { OnOk result (HasFewest (map run_of_word words.new.items) sets.now) }
-    ensures only { OnOk result (IsOnlyTight (map run_of_word words.new.items) sets.now) }
+/// The only error is want of memory. The words are then as before.
+pub fn append_words(words: &mut Vec<u32>, sets: &[u8]) -> Result<(), AllocError>
+    requires { ArePackable sets.now }
+    ensures ok { OnOk result (AppendsRow words.old.items words.new.items sets.now) }
+    ensures refused { OnErr result (words.new.items ≡ words.old.items) }
 {
-    fill(words, sets)
+    let before = words.len();
+    match fill(words, sets) {
+        Ok(()) => Ok(()),
+        Err(full) => {
+            words.truncate(before);
+            Err(full)
+        }
+    }
 }
 
-/// Packs the sets into a row, once from left to right.
+/// Packs the sets into a row behind what is stored already, once from left to right. After an error a part of the row may
+/// stand there.
 fn fill<S: Stored>(row: &mut Vec<S>, sets: &[u8]) -> Result<(), AllocError>
-    requires some { 0 < length sets.now }
-    requires limit { length sets.now ≤ 32768 }
-    requires non_empty { All (λ set. 0 < set) sets.now }
-    ensures tight { OnOk result (IsTight (map S.run_of row.new.items) sets.now) }
-    ensures fits { OnOk result (Fits (map S.run_of row.new.items) sets.now) }
-    ensures fewest { OnOk result (HasFewest (map S.run_of row.new.items) sets.now) }
-    ensures only { OnOk result (IsOnlyTight (map S.run_of row.new.items) sets.now) }
+    requires { ArePackable sets.now }
+    ensures kept { take (length row.old.items) row.new.items ≡ row.old.items }
+    ensures tight { OnOk result (IsTight (map S.run_of (drop (length row.old.items) row.new.items)) sets.now) }
 {
-    row.clear();
     let mut stretch = Stretch {
         start: 0,
         common: u8::MAX,
@@ -134,9 +131,7 @@ fn fill<S: Stored>(row: &mut Vec<S>, sets: &[u8]) -> Result<(), AllocError>
 /// It takes at most s probes of a row of n runs, where 2^s ≤ 2n + 1. A probe is one read of a run.
 pub fn find<L: Ledger>(runs: &[Run], place: u32, steps: &mut Steps<L>) -> u8
     requires { Rises runs.now }
-    ensures found { IsMoveFor runs.now place result }
-    ensures covering { IsCoveringInside runs.now place result }
-    ensures held { IsInSetOfPlace runs.now place result }
+    ensures found { IsFound runs.now place result }
     ensures cost { 2 ^ (steps.new - steps.old) ≤ 2 * length runs.now + 1 }
     ensures counted { steps.old ≤ steps.new }
 {
@@ -146,9 +141,8 @@ pub fn find<L: Ledger>(runs: &[Run], place: u32, steps: &mut Steps<L>) -> u8
 /// `find` in a row that is kept as words, with the same answer and the same bound on probes.
 pub fn find_word<L: Ledger>(words: &[u32], place: u32, steps: &mut Steps<L>) -> u8
     requires { Rises (map run_of_word words.now) }
-    ensures found { IsMoveFor (map run_of_word words.now) place result }
-    ensures covering { IsCoveringInside (map run_of_word words.now) place result }
-    ensures held { IsInSetOfPlace (map run_of_word words.now) place result }
+    ensures found { IsFound (map run_of_word words.now) place result }
+    ensures limit { result < 8 }
     ensures cost { 2 ^ (steps.new - steps.old) ≤ 2 * length words.now + 1 }
     ensures counted { steps.old ≤ steps.new }
 {
@@ -158,8 +152,7 @@ pub fn find_word<L: Ledger>(words: &[u32], place: u32, steps: &mut Steps<L>) -> 
 /// `find` for a caller that counts no steps.
 pub fn find_move(runs: &[Run], place: u32) -> u8
     requires { Rises runs.now }
-    ensures found { IsMoveFor runs.now place result }
-    ensures held { IsInSetOfPlace runs.now place result }
+    ensures found { IsFound runs.now place result }
 {
     uncounted::<Run, Brand>(&Row::new(runs), place, Blank::new(1))
 }
@@ -167,8 +160,8 @@ pub fn find_move(runs: &[Run], place: u32) -> u8
 /// `find_word` for a caller that counts no steps.
 pub fn find_word_move(words: &[u32], place: u32) -> u8
     requires { Rises (map run_of_word words.now) }
-    ensures found { IsMoveFor (map run_of_word words.now) place result }
-    ensures held { IsInSetOfPlace (map run_of_word words.now) place result }
+    ensures found { IsFound (map run_of_word words.now) place result }
+    ensures limit { result < 8 }
 {
     uncounted::<u32, Brand>(&Row::new(words), place, Blank::new(1))
 }
@@ -179,8 +172,7 @@ fn uncounted<S: Stored, L: Ledger>(row: &Row<S>, place: u32, blank: Blank) -> u8
     requires parts { blank.parts ≡ L.parts }
     requires some { 0 < blank.parts }
     requires rises { Rises row.now }
-    ensures found { IsMoveFor row.now place result }
-    ensures held { IsInSetOfPlace row.now place result }
+    ensures found { IsFound row.now place result }
 {
     let mut steps = Steps::<L>::new(blank);
     search(row, place, &mut steps)
@@ -189,9 +181,7 @@ fn uncounted<S: Stored, L: Ledger>(row: &Row<S>, place: u32, blank: Blank) -> u8
 /// Binary search for the last run that starts at the place or before it.
 fn search<S: Stored, L: Ledger>(row: &Row<S>, place: u32, steps: &mut Steps<L>) -> u8
     requires { Rises row.now }
-    ensures found { IsMoveFor row.now place result }
-    ensures covering { IsCoveringInside row.now place result }
-    ensures held { IsInSetOfPlace row.now place result }
+    ensures found { IsFound row.now place result }
     ensures cost { 2 ^ (steps.new - steps.old) ≤ 2 * length row.now + 1 }
     ensures counted { steps.old ≤ steps.new }
 {
@@ -214,7 +204,7 @@ fn search<S: Stored, L: Ledger>(row: &Row<S>, place: u32, steps: &mut Steps<L>) 
 
 /// A run as one word, its start times 8 plus its move.
 pub fn word(run: Run) -> u32
-    requires start { run.start < 32768 }
+    requires start { run.start < MAX_PLACES }
     requires number { run.mv ≤ 7 }
     ensures value { result ≡ word_of run }
     ensures back { run_of_word result ≡ run }

@@ -3,7 +3,7 @@ ghost use Rattle.std.specs.Prelude.{◌≡◌, ℕ, ◌+◌, ◌<◌, ◌≤◌,
 ghost use Rattle.run_pack.specs.Runs.{no_run};
 
 use crate::steps::Steps;
-use crate::{Run, run_of, word};
+use crate::{MAX_PLACES, Run, run_of, word};
 use std::marker::Model;
 use std::sync::ledger::Ledger;
 
@@ -15,7 +15,7 @@ pub trait Stored: Copy {
 
     /// Keeps a run.
     fn keep(run: Run) -> Self
-        requires start { run.start < 32768 }
+        requires start { run.start < MAX_PLACES }
         requires number { run.mv ≤ 7 }
         ensures { run_of result ≡ run };
 

@@ -5,7 +5,8 @@ ghost use Rattle.run_pack.specs.Runs.{Rises, IsTight, run_of_word};
 use crate::row::{Row, Stored};
 use crate::steps::Steps;
 use crate::{
-    Run, find, find_move, find_word, find_word_move, pack, pack_words, run_of, search, word,
+    MAX_PLACES, Run, append_words, find, find_move, find_word, find_word_move, pack, run_of,
+    search, word,
 };
 use std::alloc::{AllocError, Global};
 use std::cell::Cell;
@@ -19,7 +20,7 @@ fn tight_row(rt: &impl Abort, alloc: Global, sets: &[u8]) -> Result<Vec<Run>, Al
     ensures { IfOk result (λ row. IsTight row.items sets.now) }
 {
     assert!(rt; !sets.is_empty());
-    assert!(rt; sets.len() <= 32768);
+    assert!(rt; sets.len() <= MAX_PLACES as usize);
     assert!(rt; sets.iter().all(|set| *set > 0));
     pack(alloc, sets)
 }
@@ -29,10 +30,10 @@ fn tight_words(rt: &impl Abort, alloc: Global, sets: &[u8]) -> Result<Vec<u32>, 
     ensures { IfOk result (λ words. IsTight (map run_of_word words.items) sets.now) }
 {
     assert!(rt; !sets.is_empty());
-    assert!(rt; sets.len() <= 32768);
+    assert!(rt; sets.len() <= MAX_PLACES as usize);
     assert!(rt; sets.iter().all(|set| *set > 0));
     let mut words = Vec::new(alloc);
-    pack_words(&mut words, sets)?;
+    append_words(&mut words, sets)?;
     Ok(words)
 }
 
@@ -235,7 +236,7 @@ fn keeps_runs_in_words(rt: HostRuntime) {
     ] {
         let run = Run { start, mv };
         assert_eq!(rt; run_of(want), run);
-        assert!(rt; start < 32768 && mv <= 7);
+        assert!(rt; start < MAX_PLACES && mv <= 7);
         assert_eq!(rt; word(run), want);
     }
 }

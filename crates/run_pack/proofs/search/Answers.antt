@@ -1,6 +1,6 @@
 use Rattle.std.proofs.Common.{refl}
 use Rattle.run_pack.proofs.Searching.{searching_right, searching_left, found_at_end}
-use Rattle.run_pack.proofs.Found.{IsCoveringInside-from_found, IsInSetOfPlace-from_found}
+use Rattle.run_pack.proofs.Found.{IsFound-from_last}
 use Rattle.run_pack.proofs.search.Goals as goal
 
 pub loop-low-preserved-then-run-place : goal.loop-low-preserved-then-run-place
@@ -11,15 +11,6 @@ pub loop-low-preserved : goal.loop-low-preserved
 loop-low-preserved g c =
     searching_left _ _ _ _ _ _ _ _ c.requires c.loop-low.invariant c.loop-low-test.true refl _ _ c.probe-stored.ensures.read c.probe-stored.ensures.counted (rw c.run.ensures at c.if-run-place.false)
 
--- the move that was found, from which all else follows
-found : goal.returns-clause-found
-found g c = rw c.run-2.ensures (found_at_end _ _ _ _ _ _ _ c.requires c.loop-low.invariant c.loop-low-test.false)
-
 pub returns-clause-found : goal.returns-clause-found
-returns-clause-found g c = found g c
-
-pub returns-clause-covering : goal.returns-clause-covering
-returns-clause-covering g c = IsCoveringInside-from_found _ _ _ (found g c)
-
-pub returns-clause-held : goal.returns-clause-held
-returns-clause-held g c = IsInSetOfPlace-from_found _ _ _ (found g c)
+returns-clause-found g c =
+    IsFound-from_last _ _ _ (rw c.run-2.ensures (found_at_end _ _ _ _ _ _ _ c.requires c.loop-low.invariant c.loop-low-test.false))
