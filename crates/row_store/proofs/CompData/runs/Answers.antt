@@ -1,0 +1,7 @@
+use Rattle.std.proofs.Common.{◌≡◌, ◌≤◌, subst, sym}
+use Rattle.moves.specs.declared.TheConstants.{MAX_PASSABLE}
+use Rattle.row_store.proofs.CompLaws.{few_runs}
+use Rattle.row_store.proofs.CompData.runs.Goals as goal
+
+pub returns-clause-limit : goal.returns-clause-limit
+returns-clause-limit c = rw c.runs.ensures (few_runs _ c.self.invariant.0)

@@ -1,0 +1,4 @@
+pub mod Spans
+pub mod Numbers
+pub mod RowLaws
+pub mod CompLaws

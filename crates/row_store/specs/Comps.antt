@@ -1,0 +1,44 @@
+-- A component as it is stored: its cells in an order, and their rows.
+use Rattle.std.specs.Prelude.{◌≡◌, ◌≢◌, ℕ, ◌<◌, ◌≤◌, List, ◌∷◌, length, slice_index, All, AllPairs}
+use Rattle.run_pack.specs.declared.Run.{Run}
+use Rattle.run_pack.specs.Runs.{IsCoveringMove}
+use Rattle.moves.specs.declared.Cell.{Cell}
+use Rattle.moves.specs.declared.Move.{Move}
+use Rattle.moves.specs.declared.TheConstants.{MAX_PASSABLE}
+use Rattle.moves.specs.Maps.{Map}
+use Rattle.moves.specs.Moves.{number_of}
+use Rattle.moves.specs.Paths.{IsBest}
+use Rattle.moves.specs.StraightPaths.{IsConnected}
+use Rattle.moves.specs.ComponentLaws.{HasJust}
+use Rattle.moves.specs.FirstSetLists.{cell_of}
+use Rattle.moves.specs.Rectangles.{IsOnMap}
+use Rattle.row_store.specs.Rows.{row_at, AreRows}
+
+-- a component: the number of its order, its cells in this order, and a row for each of them
+pub record Comp : Type 0 where
+  pub kind : ℕ
+  pub cells : List Cell
+  pub rows : List (List Run)
+
+-- what each stored component is: cells of a map that are connected among themselves, each once, and their rows
+pub record IsComp (comp : Comp) : Type 0 where
+  pub kind : comp.kind ≤ 1
+  pub some : 0 < length comp.cells
+  pub few : length comp.cells ≤ MAX_PASSABLE
+  pub on_map : All IsOnMap comp.cells
+  pub once : AllPairs (λ a b. a ≢ b) comp.cells
+  pub connected : IsConnected comp.cells
+  pub rows : AreRows comp.cells comp.rows
+
+-- the cell stands at that place
+pub record IsPlaceOf (cells : List Cell) (cell : Cell) (place : ℕ) : Type 0 where
+  pub within : place < length cells
+  pub there : cell_of cells place ≡ cell
+
+-- the move of the run that covers the place `to` in the row of the cell at `from`
+abbrev pub IsMoveOfRow : Comp → ℕ → ℕ → Move → Type 0
+IsMoveOfRow comp from to move = IsCoveringMove (row_at comp.rows from) (length comp.cells) to (number_of move)
+
+-- over any map that has just these cells, the move begins a best path from the cell at one place to the cell at another
+pub record BeginsBestPath (cells : List Cell) (from to : ℕ) (move : Move) : Type 0 where
+  pub begins : (map : Map) → HasJust map cells → (rest : List Move) × IsBest map (cell_of cells from) (move ∷ rest) (cell_of cells to)

@@ -1,0 +1,5 @@
+pub mod Rows
+pub mod Comps
+pub mod Pools
+pub mod Layout
+pub use Rattle.moves.specs.FirstSetLists

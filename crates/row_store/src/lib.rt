@@ -1,0 +1,192 @@
+//! The database of a component: the cells in an order, and from each of them the first moves to all, packed into runs.
+//!
+//! A look-up needs no search: the place of the goal is found in the row of the source, and the run that covers it keeps a
+//! move that begins a best path. (Botea 2011; Strasser, Harabor and Botea 2014)
+#![tactic(auto)]
+
+ghost use Rattle.std.specs.Prelude.{◌≡◌, ◌≢◌, ◌+◌, ◌-◌, ◌*◌, ◌^◌, ◌<◌, ◌≤◌, [], map, length, sum_by, slice_index_or, All, AllPairs, Contains, IfOk, IfSome, IfNone};
+ghost use Rattle.run_pack.specs.Runs.{no_run};
+ghost use Rattle.moves.specs.Rectangles.{IsWithin};
+ghost use Rattle.row_store.specs.Rows.{row_at};
+ghost use Rattle.row_store.specs.Comps.{IsComp, IsPlaceOf, IsMoveOfRow, BeginsBestPath};
+ghost use Rattle.row_store.specs.Layout.{ArePlaces};
+
+pub mod laws;
+pub mod pool;
+#[cfg(test)]
+mod tests;
+
+use moves::{Bounds, Cell, MAX_PASSABLE, Move};
+pub use pool::RowPool;
+use run_pack::steps::Steps;
+use run_pack::{Run, find_word, run_of};
+use std::alloc::{AllocError, Global};
+use std::marker::Model;
+use std::sync::ledger::Ledger;
+
+/// What stands in place of a number where the bounds of a component have none of its cells.
+const NO_PLACE: u16 = u16::MAX;
+
+/// One component: its cells in an order, and a row of first moves from each of them.
+#[derive(Drop)]
+pub struct CompData {
+    kind: u8,
+    cells: Vec<Cell>,
+    rows: RowPool,
+    bounds: Bounds,
+    /// For each cell of the bounds, row by row, its place among the cells of the component.
+    places: Vec<u16>,
+}
+
+impl Model for CompData {
+    ghost use Rattle.row_store.specs.Comps.{Comp, IsComp};
+    ghost use Rattle.row_store.specs.Layout.{ArePlaces};
+
+    ghost Value = { Comp };
+
+    ghost view = { λ c. record { kind = c.kind; cells = c.cells.items; rows = c.rows } };
+
+    ghost invariant = { λ c. IsComp (record { kind = c.kind; cells = c.cells.items; rows = c.rows }) × ArePlaces c.cells.items c.bounds c.places.items };
+}
+
+impl CompData {
+    /// The component with these rows, one for each cell. The kind of order is 0 for row by row and 1 for depth first.
+    ///
+    /// # Errors
+    ///
+    /// `AllocError` where memory runs out. The lists are dropped then.
+    pub fn make(
+        alloc: Global,
+        kind: u8,
+        cells: Vec<Cell>,
+        rows: Vec<Vec<Run>>,
+    ) -> Result<CompData, AllocError>
+        requires { IsComp (record { kind = kind; cells = cells.items; rows = map (λ row. row.items) rows.items }) }
+        ensures kind { IfOk result (λ comp. comp.kind ≡ kind) }
+        ensures cells { IfOk result (λ comp. comp.cells ≡ cells.items) }
+        ensures rows { IfOk result (λ comp. comp.rows ≡ map (λ row. row.items) rows.items) }
+    {
+        let mut pool = RowPool::new(alloc);
+        for row in rows {
+            pool.push_row(&row)?;
+        }
+        CompData::of_pool(alloc, kind, cells, pool)
+    }
+
+    /// `make` from rows that lie in a pool already. No row is copied, and memory that the pool does not use is given back.
+    ///
+    /// # Errors
+    ///
+    /// `AllocError` where memory runs out. The lists are dropped then.
+    pub fn of_pool(
+        alloc: Global,
+        kind: u8,
+        cells: Vec<Cell>,
+        pool: RowPool,
+    ) -> Result<CompData, AllocError>
+        requires { IsComp (record { kind = kind; cells = cells.items; rows = pool }) }
+        ensures kind { IfOk result (λ comp. comp.kind ≡ kind) }
+        ensures cells { IfOk result (λ comp. comp.cells ≡ cells.items) }
+        ensures rows { IfOk result (λ comp. comp.rows ≡ pool) }
+    {
+        let bounds = Bounds::around(&cells);
+        let places = places_of(alloc, &bounds, &cells)?;
+        let mut cells = cells;
+        cells.shrink_to_fit();
+        let mut rows = pool;
+        rows.shrink();
+        Ok(CompData {
+            kind,
+            cells,
+            rows,
+            bounds,
+            places,
+        })
+    }
+
+    /// The place of a cell among the cells; `None` exactly for a cell that is none of them.
+    pub fn index(&self, cell: Cell) -> Option<u32>
+        ensures some { IfSome result (IsPlaceOf self.now.cells cell) }
+        ensures none { IfNone result (Contains self.now.cells cell → ⊥) }
+    {
+        if !self.bounds.has(cell) {
+            return None;
+        }
+        let place = self.places[self.bounds.place(cell)];
+        if place == NO_PLACE {
+            None
+        } else {
+            Some(u32::from(place))
+        }
+    }
+
+    /// The first move from the cell at one place to the cell at another, read from the row of the first.
+    ///
+    /// It takes at most s probes of a row of n runs, where 2^s ≤ 2n + 1.
+    pub fn first_move<L: Ledger>(&self, from: u32, to: u32, steps: &mut Steps<L>) -> Move
+        requires from { from < length self.now.cells }
+        requires to { to < length self.now.cells }
+        requires apart { from ≢ to }
+        ensures covering { IsMoveOfRow self.now from to result }
+        ensures best { BeginsBestPath self.now.cells from to result }
+        ensures cost { 2 ^ (steps.new - steps.old) ≤ 2 * length (row_at self.now.rows from) + 1 }
+        ensures counted { steps.old ≤ steps.new }
+    {
+        let number = find_word(self.rows.row(from as usize), to, steps);
+        Move::of(number).unwrap_or_default()
+    }
+
+    /// How many runs all rows have.
+    pub fn runs(&self) -> u64
+        ensures runs { result ≡ sum_by length self.now.rows }
+        ensures limit { result ≤ MAX_PASSABLE * MAX_PASSABLE }
+    {
+        self.rows.runs()
+    }
+
+    /// The cells in their order.
+    pub fn cells(&self) -> &[Cell]
+        ensures cells { result.now ≡ self.now.cells }
+        ensures whole { IsComp self.now }
+    {
+        &self.cells
+    }
+
+    /// The kind of order: 0 for row by row and 1 for depth first.
+    pub fn kind(&self) -> u8
+        ensures { result ≡ self.now.kind }
+    {
+        self.kind
+    }
+
+    /// How many runs a row has.
+    pub fn row_len(&self, from: u32) -> u32
+        requires { from < length self.now.cells }
+        ensures { result ≡ length (row_at self.now.rows from) }
+    {
+        self.rows.row(from as usize).len() as u32
+    }
+
+    /// The run at a place of a row.
+    pub fn row_run(&self, from: u32, place: u32) -> Run
+        requires row { from < length self.now.cells }
+        requires run { place < length (row_at self.now.rows from) }
+        ensures { result ≡ slice_index_or (row_at self.now.rows from) place no_run }
+    {
+        run_of(self.rows.row(from as usize)[place as usize])
+    }
+}
+
+/// The places of the cells among themselves, over their bounds.
+fn places_of(alloc: Global, bounds: &Bounds, cells: &[Cell]) -> Result<Vec<u16>, AllocError>
+    requires few { length cells.now ≤ MAX_PASSABLE }
+    requires within { All (IsWithin bounds.now) cells.now }
+    requires once { AllPairs (λ a b. a ≢ b) cells.now }
+    ensures { IfOk result (λ places. ArePlaces cells.now bounds.now places.items) }
+{
+    let mut places = vec![in alloc; NO_PLACE; bounds.size()]?;
+    for (place, cell) in cells.iter().enumerate() {
+        places[bounds.place(*cell)] = place as u16;
+    }
+    Ok(places)
+}
