@@ -1,0 +1,12 @@
+pub mod Vectors
+pub mod Keys
+pub mod Sets
+pub mod Visiting
+pub mod Sweeping
+pub mod Solving
+pub mod Indexing
+pub mod Nearness
+pub mod Taking
+pub mod Exact
+pub mod First
+pub mod Rowing

@@ -1,0 +1,50 @@
+-- From guesses that all wait to keys and sets that meet their equations.
+use Rattle.std.proofs.Common.{◌≡◌, ℕ, ◌<◌, List, [], length, get_or, take, replicate, slice_index, sym, ap, subst, ◌∙◌, arith}
+use Rattle.std.proofs.lemmas.List.{get_or-take, length-take}
+use Rattle.std.proofs.lemmas.Simd.{get_or-replicate}
+use Rattle.lane_rows.specs.Equations.{far, lane_of}
+use Rattle.lane_rows.specs.Tiles.{IsSolved}
+use Rattle.lane_rows.specs.Visits.{AreSettled, AreSolved, IsSwept}
+use Rattle.root_cost.specs.declared.TheConstants.{GREATEST_KEY}
+
+pub far_at_start : (keys : List (List ℕ)) (count place lane : ℕ) → place < count → lane < 16 → keys ≡ replicate count (replicate 16 far) → lane_of keys lane place ≡ far
+far_at_start keys count place lane p l filled =
+    ap (λ rows. get_or (get_or rows place []) lane 0) filled ∙ ap (λ row. get_or row lane 0) (get_or-replicate count place (replicate 16 far) [] p) ∙ get_or-replicate 16 lane far 0 l
+
+pub all_wait : (near : List (List ℕ)) (source : ℕ) (keys sets : ℕ → ℕ) (waits : List ℕ) (count : ℕ) → length near < count → waits ≡ replicate count 1 → AreSettled near source keys sets (slice_index waits)
+all_wait near source keys sets waits count more filled = record {
+  each = λ place p none.
+      let one : get_or waits place 0 ≡ 1 = ap (λ list. get_or list place 0) filled ∙ get_or-replicate count place 1 0 (omega arith) in
+      let zero : get_or waits place 0 ≡ 0 = none in
+      absurd (omega arith);
+}
+
+pub solved : (near : List (List ℕ)) (sources : List ℕ) (keys sets : List (List ℕ)) (waits : List ℕ) (keys' sets' : List (List ℕ)) (waits' : List ℕ) (count : ℕ) → length near < count → waits ≡ replicate count 1
+    → length keys' ≡ count
+    → ((lane : ℕ) → lane < 16 → lane_of keys lane (length near) ≡ far) → IsSwept near sources keys sets waits keys' sets' waits'
+    → ((place : ℕ) → slice_index (take (length near) waits') place ≡ 0)
+    → ((lane place : ℕ) → lane < 16 → place < length (take (length near) keys') → lane_of (take (length near) keys') lane place < GREATEST_KEY)
+    → (lane : ℕ) → lane < 16 → AreSolved near (slice_index sources lane) (lane_of keys' lane) (lane_of sets' lane)
+solved near sources keys sets waits keys' sets' waits' count more filled long start swept none small lane l =
+    let settled = swept.settled lane l (all_wait near (slice_index sources lane) (lane_of keys lane) (lane_of sets lane) waits count more filled) in
+    record {
+      settled = λ place p. settled.each place p (sym (get_or-take (length near) waits' place 0 p) ∙ none place);
+      small = λ place p.
+          let same : lane_of (take (length near) keys') lane place ≡ lane_of keys' lane place = ap (λ row. get_or row lane 0) (get_or-take (length near) keys' place [] p) in
+          let low = small lane place l (let t = length-take (length near) keys' in omega arith) in
+          omega arith;
+      none = swept.last lane l ∙ start lane l;
+    }
+
+pub tile_solved : (near near' : List (List ℕ)) (lanes : List ℕ) (count : ℕ) (sources : List ℕ) (keys sets keys' sets' : List (List ℕ)) → near' ≡ near → keys' ≡ keys → sets' ≡ sets
+    → ((lane : ℕ) → lane < 16 → slice_index lanes lane ≡ slice_index sources lane)
+    → ((lane : ℕ) → lane < 16 → AreSolved near' (slice_index lanes lane) (lane_of keys lane) (lane_of sets lane))
+    → length near ≡ count → IsSolved near (record { count = count; sources = sources; keys = keys'; sets = sets' })
+tile_solved near near' lanes count sources keys sets keys' sets' same k s at all places = record {
+  places = places;
+  lanes = λ lane l.
+      subst (λ xs. AreSolved near (slice_index sources lane) (lane_of xs lane) (lane_of sets' lane)) (sym k)
+      (subst (λ xs. AreSolved near (slice_index sources lane) (lane_of keys lane) (lane_of xs lane)) (sym s)
+      (subst (λ source. AreSolved near source (lane_of keys lane) (lane_of sets lane)) (at lane l)
+      (subst (λ n. AreSolved n (slice_index lanes lane) (lane_of keys lane) (lane_of sets lane)) same (all lane l))));
+}

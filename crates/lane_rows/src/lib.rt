@@ -1,0 +1,26 @@
+//! First sets from sixteen near sources at once, one in each lane of a vector.
+//!
+//! A component is numbered: a cell's place is its index in the list of cells. [`Near`] has the places
+//! beside each place, made from the cells alone. [`Tiles`] takes sources that are near one another,
+//! guesses their keys and sets, and lets each place look at its neighbours until all meet their
+//! equations: a key is the least that a neighbour's key and one step make, and a set has the moves of
+//! the neighbours from which a step attains the key. Nothing is believed but these equations. Where all
+//! places meet them, keys are those of best paths and sets are the first sets, in whatever order they
+//! were found ([`laws`]). (Botea 2011; Strasser, Harabor and Botea 2014.)
+#![tactic(auto)]
+
+mod edges;
+mod kernels;
+pub mod laws;
+mod near;
+mod order;
+mod places;
+mod solve;
+mod sweeps;
+mod tiles;
+
+pub use near::Near;
+pub use tiles::{LANES, Tiles};
+
+#[cfg(test)]
+mod tests;

@@ -1,0 +1,205 @@
+//! Tiles: searches from sixteen sources that are near one another, one in each lane of a vector.
+//!
+//! A tile takes the nearest wanted places of a component as its sources, finds keys and sets by guesses, and lets each
+//! place look at its neighbours until all meet their equations. What the equations say is then exact, whatever was guessed.
+
+ghost use Rattle.std.specs.Prelude.{◌≡◌, ℕ, ◌+◌, ◌<◌, ◌≤◌, false, true, All, IfOk, IsTrue, List, length, slice_index, slice_index_or, slice_set, take};
+ghost use Rattle.lane_rows.specs.Rows.{HasFirstSets, HasMoves};
+ghost use Rattle.lane_rows.specs.Equations.{lane_of};
+ghost use Rattle.lane_rows.specs.Tiles.{AreTaken, IsRowOf, IsSolved, Tile};
+
+use crate::Near;
+use crate::kernels::FULL;
+use crate::order::{Queues, search};
+use crate::solve::{Plan, solve};
+use std::alloc::{AllocError, Global};
+use std::marker::Model;
+use std::simd::prelude::*;
+
+/// How many sources a tile has.
+pub const LANES: usize = 16;
+
+/// A worker's memory for one tile after the other: 93 bytes a cell, taken once.
+#[derive(Drop)]
+pub struct Tiles {
+    sources: [u16; 16],
+    keys: Vec<u32x16>,
+    sets: Vec<u8x16>,
+    waits: Vec<u8>,
+    search_keys: Vec<u32>,
+    queues: Queues,
+    order: Vec<u16>,
+    count: usize,
+}
+
+impl Model for Tiles {
+    ghost use Rattle.lane_rows.specs.Tiles.{HasRoom, Tile};
+
+    ghost Value = { Tile };
+
+    ghost view = { λ t.
+        record { count = t.count; sources = t.sources; keys = t.keys.items; sets = t.sets.items } };
+
+    ghost invariant = { λ t.
+        HasRoom t.count t.keys.items t.sets.items t.waits.items t.search_keys.items };
+}
+
+impl Tiles {
+    /// Takes all memory for tiles of that many cells.
+    pub fn new(alloc: Global, count: usize) -> Result<Tiles, AllocError>
+        requires { count ≤ 32768 }
+        ensures { IfOk result (λ tiles. tiles.count ≡ count) }
+    {
+        Ok(Tiles {
+            sources: [0; 16],
+            keys: vec![in alloc; u32x16::splat(0); count + 1]?,
+            sets: vec![in alloc; u8x16::splat(0); count + 1]?,
+            waits: vec![in alloc; 0; count + 1]?,
+            search_keys: vec![in alloc; 0; count + 1]?,
+            queues: Queues::new(alloc, count)?,
+            order: Vec::with_capacity(alloc, count)?,
+            count,
+        })
+    }
+
+    /// Takes the wanted places that are nearest to one of them as sources, at most sixteen, and says how many there are.
+    /// Where there are fewer, the other lanes have the first source too.
+    pub fn choose(&mut self, near: &Near, first: u16, wanted: &mut [bool]) -> usize
+        requires near { length near.now ≡ self.old.count }
+        requires places { length wanted.old ≡ self.old.count }
+        requires inside { first < self.old.count }
+        requires first { slice_index_or wanted.old first false ≡ true }
+        ensures count { self.new.count ≡ self.old.count }
+        ensures some { (0 < result) × (result ≤ 16) }
+        ensures sources { (lane : ℕ) → lane < 16
+            → slice_index self.new.sources lane < self.new.count }
+        ensures taken { AreTaken wanted.old wanted.new (take result self.new.sources) }
+    {
+        search(
+            near.table(),
+            first,
+            self.search_keys.as_mut_slice(),
+            &mut self.queues,
+            &mut self.order,
+        );
+        let (sources, count) = take_nearest(first, &self.order, wanted);
+        self.sources = sources;
+        count
+    }
+
+    /// The source of a lane.
+    pub fn source(&self, lane: usize) -> u16
+        requires { lane < 16 }
+        ensures { result ≡ slice_index self.now.sources lane }
+    {
+        self.sources[lane]
+    }
+
+    /// Finds keys and sets for the chosen sources; `true` only where all places meet their equations. Where they do not
+    /// after so many sweeps back and forth, the rows have to be found in another way.
+    pub fn run(&mut self, near: &Near, sweeps: u32) -> bool
+        requires near { length near.now ≡ self.old.count }
+        ensures count { self.new.count ≡ self.old.count }
+        ensures sources { self.new.sources ≡ self.old.sources }
+        ensures solved { IsTrue result → IsSolved near.now self.new }
+    {
+        let plan = Plan {
+            order: self.order.as_slice(),
+            sweeps,
+        };
+        solve(
+            near.table(),
+            lanes_of(self.sources),
+            plan,
+            self.keys.as_mut_slice(),
+            self.sets.as_mut_slice(),
+            self.waits.as_mut_slice(),
+        )
+    }
+
+    /// Writes the sets of one lane by places, with all moves at the source.
+    pub fn sets_of(&self, lane: usize, row: &mut [u8])
+        requires lane { lane < 16 }
+        requires row { length row.old ≡ self.now.count }
+        requires source { slice_index self.now.sources lane < self.now.count }
+        ensures first { HasFirstSets self.now lane row.new }
+        ensures some { HasMoves self.now row.new }
+    {
+        self.write_row(lane, row);
+    }
+
+    /// Writes the sets of one lane as they stand, with all moves at the source.
+    fn write_row(&self, lane: usize, row: &mut [u8])
+        requires lane { lane < 16 }
+        requires row { length row.old ≡ self.now.count }
+        requires source { slice_index self.now.sources lane < self.now.count }
+        ensures row { IsRowOf self.now lane row.new }
+        ensures bytes { (place : ℕ) → slice_index row.new place < 256 }
+    {
+        gather(&self.sets, lane, row);
+        row[usize::from(self.sources[lane])] = FULL;
+    }
+}
+
+/// The sources as keys, to be compared with places.
+fn lanes_of(sources: [u16; 16]) -> u32x16
+    ensures { (lane : ℕ) → lane < 16 → slice_index result lane ≡ slice_index sources lane }
+{
+    let mut lanes = [0; 16];
+    for lane in 0..LANES {
+        lanes[lane] = u32::from(sources[lane]);
+    }
+    u32x16::from_array(lanes)
+}
+
+/// The first wanted places of an order, at most sixteen, after one that comes before them all.
+fn take_nearest(first: u16, order: &[u16], wanted: &mut [bool]) -> ([u16; 16], usize)
+    requires inside { first < length wanted.old }
+    requires first { slice_index_or wanted.old first false ≡ true }
+    ensures some { (0 < result.1) × (result.1 ≤ 16) }
+    ensures sources { (lane : ℕ) → lane < 16 → slice_index result.0 lane < length wanted.old }
+    ensures taken { AreTaken wanted.old wanted.new (take result.1 result.0) }
+{
+    let mut sources = [first; 16];
+    let mut count = 1;
+    give_up(wanted, first);
+    for place in order {
+        if count == LANES {
+            break;
+        }
+        if is_wanted(wanted, *place) {
+            give_up(wanted, *place);
+            sources[count] = *place;
+            count += 1;
+        }
+    }
+    (sources, count)
+}
+
+/// Whether it is a place that is wanted.
+fn is_wanted(wanted: &[bool], place: u16) -> bool
+    ensures { IsTrue result → (place < length wanted.now)
+        × (slice_index_or wanted.now place false ≡ true) }
+{
+    usize::from(place) < wanted.len() && wanted[usize::from(place)]
+}
+
+/// The place is no longer wanted.
+fn give_up(wanted: &mut [bool], place: u16)
+    requires { place < length wanted.old }
+    ensures { wanted.new ≡ slice_set wanted.old place false }
+{
+    wanted[usize::from(place)] = false;
+}
+
+/// Copies the sets of one lane.
+fn gather(sets: &[u8x16], lane: usize, row: &mut [u8])
+    requires lane { lane < 16 }
+    requires room { length row.old < length sets.now }
+    ensures { (place : ℕ) → place < length row.new
+        → slice_index row.new place ≡ lane_of sets.now lane place }
+{
+    for place in 0..row.len() {
+        row[place] = sets[place].as_array()[lane];
+    }
+}
