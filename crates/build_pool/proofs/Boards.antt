@@ -1,0 +1,105 @@
+-- A map whose passable cells are those of a list.
+use Rattle.std.proofs.Common.{◌≡◌, ℕ, ◌+◌, ◌*◌, ◌<◌, ◌≤◌, ◌↔◌, Bool, true, false, cond, List, [], ◌∷◌, ◌++◌, length, get_or, set, take, replicate, All, count_by, max, sym, ap, ◌∙◌, subst, inl, inr, arith}
+use Rattle.std.specs.List.{Contains}
+use Rattle.std.proofs.lemmas.Bool.{cases_eq, cases_lt, false≢true}
+use Rattle.std.proofs.lemmas.Nat.{mul-le}
+use Rattle.std.proofs.lemmas.List.{get_or-set_same, get_or-set_other, length-set, length-replicate, get_or_default, take_more, take_all}
+use Rattle.std.proofs.lemmas.List.Elements.{Contains-push_cases, Contains-push, Contains-append_left}
+use Rattle.std.proofs.lemmas.List.Sums.{sum_by-set}
+use Rattle.std.proofs.lemmas.List.Folds.{sum_by-replicate}
+use Rattle.moves.specs.declared.Cell.{Cell}
+use Rattle.moves.specs.declared.TheConstants.{MAX_PASSABLE}
+use Rattle.moves.specs.Maps.{Map, IsWithinLimits, IsPassable, IsSearchable, place_of, map_with}
+use Rattle.moves.specs.ComponentLaws.{HasJust}
+use Rattle.moves.proofs.OneValue.{one_value}
+use Rattle.moves.proofs.RowMajor.{same_cell_from_place, place_inside}
+use Rattle.build_pool.specs.Places.{IsInSides, LieOnMap}
+
+-- the cells before a place lie inside the sides, which are no greater than those of any map that has all cells
+pub record HasSides (cells : List Cell) (width height upto : ℕ) : Type 0 where
+  pub inside : (k : ℕ) (d : Cell) → k < upto → IsInSides width height (get_or cells k d)
+  pub least : (columns rows : ℕ) → All (IsInSides columns rows) cells → (width ≤ columns) × (height ≤ rows)
+
+pub sides_within : (cells : List Cell) (width height upto : ℕ) → HasSides cells width height upto → 0 < length cells → upto ≡ length cells → LieOnMap cells → IsWithinLimits width height
+sides_within cells width height upto p some all on_map =
+    let least = p.least on_map.width on_map.height on_map.inside in
+    let first = p.inside 0 (record { x = 0; y = 0 }) (omega arith) in
+    let left = first.column in
+    let top = first.row in
+    record {
+      some_columns = omega arith;
+      some_rows = omega arith;
+      columns = omega (arith, least.0, on_map.limits.columns);
+      rows = omega (arith, least.1, on_map.limits.rows);
+      cells = omega (arith, mul-le width height on_map.width on_map.height least.0 least.1, on_map.limits.cells);
+    }
+
+-- the cells before a place are marked, and no others
+pub record AreMarked (cells : List Cell) (width height : ℕ) (marks : List Bool) (upto : ℕ) : Type 0 where
+  pub whole : length marks ≡ width * height
+  pub marked : (c : Cell) → IsInSides width height c → (get_or marks (place_of width c) false ≡ true) ↔ Contains (take upto cells) c
+  pub few : count_by (λ mark. mark) marks ≤ upto
+
+pub marked_none : (cells : List Cell) (width height : ℕ) (marks : List Bool) → marks ≡ replicate (width * height) false → AreMarked cells width height marks 0
+marked_none cells width height marks blank = record {
+  whole = ap length blank ∙ length-replicate (width * height) false;
+  marked = λ c inside. (
+    λ mark. absurd (false≢true (sym (ap (λ xs. get_or xs (place_of width c) false) blank ∙ one_value (width * height) (place_of width c) false) ∙ mark)),
+    λ has. absurd (let none = has.1 in omega arith),
+  );
+  few = let none = sum_by-replicate (λ (mark : Bool). cond {A = ℕ} mark 1 0) (width * height) false in rw blank (omega (arith, none));
+}
+
+module _ (cells : List Cell) (width height : ℕ) (marks : List Bool) (upto : ℕ) (p : AreMarked cells width height marks upto) (all : All (IsInSides width height) cells) (less : upto < length cells) (cell : Cell) (at : cell ≡ get_or cells upto cell) where
+  cell_inside : IsInSides width height cell
+  cell_inside = subst (IsInSides width height) (sym at) (all upto cell less)
+
+  below : place_of width cell < length marks
+  below = omega (arith, p.whole, place_inside width height cell cell_inside.column cell_inside.row)
+
+  more : take (upto + 1) cells ≡ take upto cells ++ cell ∷ []
+  more = take_more cells upto cell less ∙ ap (λ c. take upto cells ++ c ∷ []) (sym at)
+
+  pub marked_more : AreMarked cells width height (set marks (place_of width cell) true) (upto + 1)
+  marked_more = record {
+    whole = length-set marks (place_of width cell) true ∙ p.whole;
+    marked = λ c inside. rw more
+        (elim (cases_eq (place_of width c) (place_of width cell)) [
+          | inl same ↦
+              let is : c ≡ cell = same_cell_from_place width c cell inside.column cell_inside.column same in (
+                λ _. subst (Contains (take upto cells ++ cell ∷ [])) (sym is) (Contains-push (take upto cells) cell),
+                λ _. ap (λ k. get_or (set marks (place_of width cell) true) k false) same ∙ get_or-set_same marks (place_of width cell) true false below,
+              )
+          | inr other ↦
+              let read = get_or-set_other marks (place_of width cell) (place_of width c) true false other in (
+                λ mark. Contains-append_left (take upto cells) (cell ∷ []) c ((p.marked c inside).0 (sym read ∙ mark)),
+                λ has. elim (Contains-push_cases (take upto cells) cell c has) [
+                  | inl before ↦ read ∙ (p.marked c inside).1 before
+                  | inr is ↦ absurd (other (ap (place_of width) (sym is)))
+                ],
+              )
+        ]);
+    few = omega (arith, p.few, sum_by-set (λ mark. cond {A = ℕ} mark 1 0) marks (place_of width cell) true false below);
+  }
+
+-- all cells are marked
+module _ (cells : List Cell) (width height : ℕ) (marks : List Bool) (upto : ℕ) (p : AreMarked cells width height marks upto) (all : All (IsInSides width height) cells) (end : upto ≡ length cells) where
+  pub just_marked : HasJust (map_with width height marks) cells
+  just_marked =
+      let whole : take upto cells ≡ cells = take_all upto cells (omega arith) in
+      record {
+        just_these = λ c. (
+          λ free.
+              let inside : IsInSides width height c = record { column = free.inside.column; row = free.inside.row } in
+              subst (λ xs. Contains xs c) whole ((p.marked c inside).0 free.passable),
+          λ has.
+              let inside : IsInSides width height c = subst (IsInSides width height) has.2 (all has.0 c has.1) in
+              record {
+                inside = record { column = inside.column; row = inside.row };
+                passable = (p.marked c inside).1 (subst (λ xs. Contains xs c) (sym whole) has);
+              },
+        );
+      }
+
+  pub few_marked : length cells ≤ MAX_PASSABLE → IsSearchable (map_with width height marks)
+  few_marked few = omega (arith, p.few)

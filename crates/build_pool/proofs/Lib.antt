@@ -1,0 +1,4 @@
+pub mod Boards
+pub mod Connecting
+pub mod Sourcing
+pub mod Joining

@@ -1,0 +1,130 @@
+//! Builds the rows of a component: from each of its cells a search, the first sets to all its cells, and their row.
+//!
+//! The sources are cut into pieces, one for each worker, that run side by side. Rows depend on the cells alone, so the
+//! result is the same for any number of workers. (Botea 2011; Strasser, Harabor and Botea 2014)
+#![tactic(auto)]
+
+ghost use Rattle.std.specs.Prelude.{◌≡◌, ◌+◌, ◌*◌, ◌/◌, ◌<◌, ◌≤◌, AllPairs, length, IfOk};
+ghost use Rattle.moves.specs.Maps.{ComesBefore, IsSearchable};
+ghost use Rattle.moves.specs.StraightPaths.{IsConnected};
+ghost use Rattle.moves.specs.FirstSetLists.{cell_of, AreFirstSets};
+ghost use Rattle.cell_order.specs.Orders.{kind_of, ordered};
+ghost use Rattle.row_store.specs.Rows.{IsRowFrom, AreRows};
+ghost use Rattle.build_pool.specs.Places.{LieOnMap, AreComponent};
+ghost use Rattle.build_pool.specs.Pieces.{CanBuild, ArePieceRows};
+
+mod board;
+mod piece;
+#[cfg(test)]
+mod tests;
+
+use board::board_of;
+use cell_order::{OrderKind, order_of};
+use first_sets::FirstSets;
+use grid_search::Search;
+use moves::{Cell, Grid, MAX_PASSABLE};
+use piece::{build_piece, write_sets};
+use row_store::{CompData, RowPool};
+use run_pack::{Run, pack};
+use std::alloc::{AllocError, Global};
+use std::thread;
+use std::thread::Threads;
+
+/// The most workers that build side by side.
+pub const MAX_WORKERS: u32 = 64;
+
+/// What each piece of a build passes before its first row. A test's gate may hold it there.
+pub trait Gate: Sync {
+    /// The piece with that number begins.
+    fn enter(&self, piece: u32);
+}
+
+/// A gate that holds no piece.
+#[derive(Clone, Copy, Debug, Default)]
+pub struct FreeGate;
+
+impl Gate for FreeGate {
+    fn enter(&self, _piece: u32) {}
+}
+
+/// A component with the rows of its cells in the named order, built by so many workers, from 1 to 64. The cells are from 1
+/// to 32,768 cells in row-major order that are connected by straight moves among themselves and lie on one map.
+///
+/// With n cells, piece i has the sources from place i·n / workers to before (i + 1)·n / workers, rounded down. Each piece
+/// passes the gate once, before its rows.
+///
+/// # Errors
+///
+/// `AllocError` where memory runs out.
+pub fn build_rows<R: Threads + Sync, G: Gate>(
+    rt: &R,
+    alloc: Global,
+    kind: OrderKind,
+    cells: &[Cell],
+    workers: u32,
+    gate: &G,
+) -> Result<CompData, AllocError>
+    requires some { 0 < length cells.now }
+    requires few { length cells.now ≤ MAX_PASSABLE }
+    requires rows { AllPairs ComesBefore cells.now }
+    requires connected { IsConnected cells.now }
+    requires on_map { LieOnMap cells.now }
+    requires worker { 0 < workers }
+    requires workers { workers ≤ MAX_WORKERS }
+    ensures kind { IfOk result (λ comp. comp.kind ≡ kind_of kind) }
+    ensures cells { IfOk result (λ comp. comp.cells ≡ ordered kind cells.now) }
+    ensures rows { IfOk result (λ comp. AreRows (ordered kind cells.now) comp.rows) }
+{
+    let order = order_of(alloc, kind, cells)?;
+    let board = board_of(alloc, cells)?;
+    let pieces = thread::map_indices(
+        rt,
+        alloc,
+        workers as usize,
+        &|piece: usize| -> Result<RowPool, AllocError>
+            requires { CanBuild board order.items workers piece }
+            ensures { IfOk result (ArePieceRows board order.items workers piece) }
+        { build_piece(alloc, &board, &order, workers, piece as u32, gate) },
+    )?;
+    let mut pool = RowPool::new(alloc);
+    for piece in pieces {
+        pool.append(piece?)?;
+    }
+    CompData::of_pool(alloc, kind.number(), order, pool)
+}
+
+/// The row of one source: the tight row of its first sets to the cells, which are a whole component of the grid in some
+/// order.
+///
+/// # Errors
+///
+/// `AllocError` where memory runs out.
+pub fn one_row(
+    alloc: Global,
+    cells: &[Cell],
+    place: u32,
+    search: &mut Search,
+    sets: &mut FirstSets,
+    grid: &Grid,
+) -> Result<Vec<Run>, AllocError>
+    requires component { AreComponent grid.now cells.now }
+    requires searchable { IsSearchable grid.now }
+    requires few { length cells.now ≤ MAX_PASSABLE }
+    requires place { place < length cells.now }
+    requires search { grid.now.width * grid.now.height ≤ search.old.room }
+    requires sets { grid.now.width * grid.now.height ≤ sets.old.room }
+    ensures row { IfOk result (λ row. IsRowFrom grid.now cells.now (cell_of cells.now place) row.items) }
+    ensures search { search.new.room ≡ search.old.room }
+    ensures sets { sets.new.room ≡ sets.old.room }
+{
+    let mut bytes = vec![in alloc; 0u8; cells.len()]?;
+    write_sets(
+        grid,
+        cells,
+        place as usize,
+        search,
+        sets,
+        bytes.as_mut_slice(),
+    );
+    pack(alloc, &bytes)
+}

@@ -1,0 +1,235 @@
+//! Components of small maps, written as their rows with `/` between them, and their rows of first moves.
+
+ghost use Rattle.std.specs.Prelude.{◌≡◌, ◌<◌, ◌≤◌, AllPairs, length, IfOk};
+ghost use Rattle.moves.specs.Maps.{ComesBefore};
+ghost use Rattle.moves.specs.StraightPaths.{IsConnected};
+ghost use Rattle.build_pool.specs.Places.{LieOnMap};
+
+use crate::{FreeGate, Gate, build_rows};
+use cell_order::OrderKind;
+use components::label;
+use moves::{Cell, Grid, MAX_PASSABLE, Move};
+use row_store::CompData;
+use run_pack::steps::Steps;
+use std::alloc::{AllocError, Global};
+use std::fmt::Write;
+use std::marker::Brand;
+use std::process::Abort;
+use std::sync::atomic::{AtomicU64, Ordering};
+use std::sync::ledger::{Blank, Ledger};
+use std::test::Fail;
+use std::thread::Threads;
+
+/// How long a gate holds a piece, in turns of its loop.
+const TURNS: u64 = 100_000_000;
+
+/// The cells of a map's first component.
+fn first_component(rt: &impl Abort, alloc: Global, grid: &Grid) -> Result<Vec<Cell>, AllocError>
+    ensures some { IfOk result (λ cells. 0 < length cells.items) }
+    ensures few { IfOk result (λ cells. length cells.items ≤ MAX_PASSABLE) }
+    ensures rows { IfOk result (λ cells. AllPairs ComesBefore cells.items) }
+    ensures connected { IfOk result (λ cells. IsConnected cells.items) }
+    ensures on_map { IfOk result (λ cells. LieOnMap cells.items) }
+{
+    let labels = label(alloc, grid)?;
+    assert!(rt; labels.count() > 0);
+    let first = labels.cells(0);
+    assert!(rt; first.len() <= MAX_PASSABLE as usize);
+    // The limits of the grid are told by its width.
+    let _ = grid.width();
+    let cells = Vec::from_slice(alloc, first)?;
+    Ok(cells)
+}
+
+/// The rows of a component as text: the start and the move of each run.
+fn text_of(alloc: Global, comp: &CompData) -> Result<String, AllocError> {
+    let mut text = String::new(alloc);
+    for from in 0..comp.cells().len() as u32 {
+        if from > 0 {
+            text.push('/')?;
+        }
+        for place in 0..comp.row_len(from) {
+            let run = comp.row_run(from, place);
+            let name = Move::of(run.mv).unwrap_or_default();
+            write!(text, " {}{name}", run.start)?;
+        }
+    }
+    Ok(text)
+}
+
+/// The moves that are looked up from each cell to each other one, with a count of steps.
+fn looked_up<L: Ledger>(alloc: Global, comp: &CompData, blank: Blank) -> Result<String, AllocError>
+    requires name { blank.name ≡ L.name }
+    requires parts { blank.parts ≡ L.parts }
+    requires some { 0 < blank.parts }
+{
+    let mut steps = Steps::<L>::new(blank);
+    let mut text = String::new(alloc);
+    let count = comp.cells().len() as u32;
+    for from in 0..count {
+        for to in 0..count {
+            if from != to {
+                let name = comp.first_move(from, to, &mut steps);
+                write!(text, " {name}")?;
+            }
+        }
+    }
+    Ok(text)
+}
+
+/// The rows of the first component of a map.
+fn rows_of<R: Threads + Sync + Abort>(
+    rt: &R,
+    alloc: Global,
+    grid: &Grid,
+    kind: OrderKind,
+    workers: u32,
+) -> Result<CompData, AllocError>
+    requires worker { 0 < workers }
+    requires workers { workers ≤ 64 }
+{
+    let cells = first_component(rt, alloc, grid)?;
+    build_rows(rt, alloc, kind, &cells, workers, &FreeGate)
+}
+
+#[test]
+fn rows_of_small_maps(rt: HostRuntime) -> Result<(), Fail> {
+    let alloc = rt.alloc();
+    // The sides, the rows of the map, the order of the cells, and the rows of the first component.
+    let table = [
+        (1, 1, ".", OrderKind::Rows, " 0N"),
+        (3, 1, "...", OrderKind::Rows, " 0E/ 0W 2E/ 0W"),
+        (3, 1, "...", OrderKind::Dfs, " 0E/ 0W 2E/ 0W"),
+        (3, 2, "@@@/@..", OrderKind::Rows, " 0E/ 0W"),
+        (
+            2,
+            2,
+            "../..",
+            OrderKind::Rows,
+            " 0E 2S 3SE/ 0W 2SW 3S/ 0N 1NE 3E/ 0NW 1N 2W",
+        ),
+        (2, 2, ".@/..", OrderKind::Rows, " 0S/ 0N 2E/ 0W"),
+    ];
+    for (width, height, rows, kind, want) in table {
+        let grid = Grid::of_rows(alloc, width, height, rows)?;
+        let comp = rows_of(&rt, alloc, &grid, kind, 1)?;
+        assert_eq!(rt; text_of(alloc, &comp)?.as_str(), want, "{rows}");
+    }
+    Ok(())
+}
+
+#[test]
+fn rows_in_both_orders(rt: HostRuntime) -> Result<(), Fail> {
+    let alloc = rt.alloc();
+    let grid = Grid::of_rows(alloc, 3, 2, ".../...")?;
+    for (kind, row, last) in [
+        (OrderKind::Rows, " 0E 3S 4SE/", Cell { x: 2, y: 1 }),
+        (OrderKind::Dfs, " 0E 4SE 5S/", Cell { x: 0, y: 1 }),
+    ] {
+        let comp = rows_of(&rt, alloc, &grid, kind, 1)?;
+        assert!(rt; text_of(alloc, &comp)?.as_str().starts_with(row));
+        assert_eq!(rt; comp.cells().last(), Some(&last));
+        assert_eq!(rt; comp.kind(), kind.number());
+    }
+    Ok(())
+}
+
+#[test]
+fn look_ups(rt: HostRuntime) -> Result<(), Fail> {
+    let alloc = rt.alloc();
+    for (width, height, rows, want) in [
+        (3, 1, "...", " E E W E W W"),
+        (2, 2, "../..", " E S SE W SW S N NE E NW N W"),
+        (2, 2, ".@/..", " S S N E W W"),
+    ] {
+        let grid = Grid::of_rows(alloc, width, height, rows)?;
+        let comp = rows_of(&rt, alloc, &grid, OrderKind::Rows, 1)?;
+        let found = looked_up::<Brand>(alloc, &comp, Blank::new(1))?;
+        assert_eq!(rt; found.as_str(), want, "{rows}");
+    }
+    Ok(())
+}
+
+#[test]
+fn places_of_cells(rt: HostRuntime) -> Result<(), Fail> {
+    let alloc = rt.alloc();
+    let grid = Grid::of_rows(alloc, 4, 3, "@@@@/@.@./@...")?;
+    let comp = rows_of(&rt, alloc, &grid, OrderKind::Rows, 2)?;
+    let mut text = String::new(alloc);
+    for y in 0..4 {
+        for x in 0..5 {
+            match comp.index(Cell { x, y }) {
+                Some(place) => write!(text, "{place}")?,
+                None => text.push('-')?,
+            }
+        }
+    }
+    assert_eq!(rt; text.as_str(), "------0-1--234------");
+    assert_eq!(rt;
+        comp.index(Cell {
+            x: u16::MAX,
+            y: u16::MAX
+        }),
+        None
+    );
+    Ok(())
+}
+
+#[test]
+fn any_number_of_workers(rt: HostRuntime) -> Result<(), Fail> {
+    let alloc = rt.alloc();
+    for (width, height, rows) in [(3, 1, "..."), (4, 4, "..../.@../..@./....")] {
+        let grid = Grid::of_rows(alloc, width, height, rows)?;
+        let alone = rows_of(&rt, alloc, &grid, OrderKind::Rows, 1)?;
+        let want = text_of(alloc, &alone)?;
+        for workers in [2, 3, 7, 64] {
+            let comp = rows_of(&rt, alloc, &grid, OrderKind::Rows, workers)?;
+            assert_eq!(rt;
+                text_of(alloc, &comp)?.as_str(),
+                want.as_str(),
+                "{workers} workers"
+            );
+            assert_eq!(rt; comp.runs(), alone.runs());
+        }
+    }
+    Ok(())
+}
+
+/// A gate that holds each of two pieces until the other has entered.
+#[derive(Drop)]
+struct HoldGate {
+    /// How often each piece has entered.
+    entered: [AtomicU64; 2],
+    /// How many holds were ended by the limit on turns.
+    ended: AtomicU64,
+}
+
+impl Gate for HoldGate {
+    fn enter(&self, piece: u32) {
+        let own = (piece % 2) as usize;
+        self.entered[own].fetch_add(1, Ordering::SeqCst);
+        for _ in 0..TURNS {
+            if self.entered[1 - own].load(Ordering::SeqCst) > 0 {
+                return;
+            }
+        }
+        self.ended.fetch_add(1, Ordering::SeqCst);
+    }
+}
+
+#[test]
+fn pieces_run_side_by_side(rt: HostRuntime) -> Result<(), Fail> {
+    let alloc = rt.alloc();
+    let gate = HoldGate {
+        entered: [AtomicU64::new(0), AtomicU64::new(0)],
+        ended: AtomicU64::new(0),
+    };
+    let grid = Grid::of_rows(alloc, 3, 1, "...")?;
+    let cells = first_component(&rt, alloc, &grid)?;
+    let comp = build_rows(&rt, alloc, OrderKind::Rows, &cells, 2, &gate)?;
+    assert_eq!(rt; text_of(alloc, &comp)?.as_str(), " 0E/ 0W 2E/ 0W");
+    assert_eq!(rt; gate.entered[0].load(Ordering::SeqCst), 1);
+    assert_eq!(rt; gate.entered[1].load(Ordering::SeqCst), 1);
+    assert_eq!(rt; gate.ended.load(Ordering::SeqCst), 0);
+    Ok(())
+}
