@@ -1,0 +1,5 @@
+pub mod Walking
+pub mod Determined
+pub mod Databases
+pub mod BestWalks
+pub mod Homes

@@ -1,0 +1,60 @@
+-- What a version answers to a query for a path, by cases in their order.
+use Rattle.std.specs.Prelude.{◌≡◌, ℕ, ◌+◌, ◌*◌, ◌^◌, ◌<◌, ◌≤◌, List, ◌∷◌, length, Contains}
+use Rattle.moves.specs.declared.Cell.{Cell}
+use Rattle.moves.specs.declared.Move.{Move}
+use Rattle.moves.specs.Maps.{Map, IsInside, IsPassable}
+use Rattle.moves.specs.Paths.{Reaches, IsBest}
+use Rattle.cell_order.specs.declared.OrderKind.{OrderKind}
+use Rattle.versions.specs.Spelled.{Spells}
+use Rattle.row_store.specs.Rows.{row_at}
+use Rattle.row_store.specs.Comps.{Comp}
+use Rattle.versions.specs.declared.version.Next.{Next}
+use Rattle.versions.specs.declared.version.Next.TheVariants.{Arrived, Unreachable, Go}
+use Rattle.versions.specs.Databases.{Versioned, comp_at, IsDatabase}
+
+-- these moves are spelled from the start to the goal, by the rows of the component that has both
+pub record IsSpelled (comps : List Comp) (start goal : Cell) (moves : List Move) : Type 0 where
+  pub label : ℕ
+  pub within : label < length comps
+  pub leaves : Contains (comp_at comps label).cells start
+  pub arrives : Contains (comp_at comps label).cells goal
+  pub spelled : Spells (comp_at comps label).cells (comp_at comps label).rows start moves goal
+
+-- the walk from the start to the goal: the one list of moves that is spelled. It is a best path of the whole map, and has
+-- fewer moves than some component has cells.
+pub record IsWalk (map : Map) (comps : List Comp) (start goal : Cell) (moves : List Move) : Type 0 where
+  pub spelled : IsSpelled comps start goal moves
+  pub best : IsBest map start moves goal
+  pub short : length moves < length (comp_at comps spelled.label).cells
+  pub only : (others : List Move) → IsSpelled comps start goal others → others ≡ moves
+
+-- walks are best: where a path exists, the database of the map spells one
+abbrev pub WalksAreBest : Type 0
+WalksAreBest =
+    (map : Map) (order : OrderKind) (comps : List Comp) → IsDatabase map order comps → (start goal : Cell) → Reaches map start goal
+    → (moves : List Move) × IsWalk map comps start goal moves
+
+-- the component is one of these, and has both cells
+pub record IsHome (comps : List Comp) (start goal : Cell) (comp : Comp) : Type 0 where
+  pub label : ℕ
+  pub within : label < length comps
+  pub is : comp_at comps label ≡ comp
+  pub leaves : Contains comp.cells start
+  pub arrives : Contains comp.cells goal
+
+-- where a path goes on from a passable cell to a passable goal: it has arrived where the two are one, no path exists, or the
+-- move is the first of the walk
+abbrev pub IsNext : Versioned → Cell → Cell → Next → Type 0
+IsNext version at goal Arrived = at ≡ goal
+IsNext version at goal Unreachable = Reaches version.map at goal → ⊥
+IsNext version at goal (Go move) = (rest : List Move) × IsWalk version.map version.comps at goal (move ∷ rest)
+
+-- no more probes than a look-up in some row of the component takes
+abbrev pub HasFewProbesIn : Comp → ℕ → Type 0
+HasFewProbesIn comp probes = (from : ℕ) × (2 ^ probes ≤ 2 * length (row_at comp.rows from) + 1)
+
+-- no more probes than a look-up in some row takes: s probes of a row of n runs, where 2^s ≤ 2n + 1
+pub record HasFewProbes (comps : List Comp) (probes : ℕ) : Type 0 where
+  pub label : ℕ
+  pub place : ℕ
+  pub few : 2 ^ probes ≤ 2 * length (row_at (comp_at comps label).rows place) + 1

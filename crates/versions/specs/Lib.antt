@@ -1,0 +1,6 @@
+pub mod Spelled
+pub mod Databases
+pub mod Queries
+pub mod Answers
+pub mod Stored
+pub mod Counts

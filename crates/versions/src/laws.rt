@@ -1,0 +1,14 @@
+//! Laws of databases, for proofs. None of these functions does anything: each one's contract is a law.
+
+ghost use Rattle.versions.specs.Answers.{WalksAreBest};
+ghost use Rattle.versions.specs.Databases.{DatabasesAreDetermined};
+
+/// A map has one database in each order, however it is built.
+pub fn databases_are_determined()
+    ensures { DatabasesAreDetermined }
+{}
+
+/// Walks are best: where a path exists the database spells one walk, which is a best path of the whole map.
+pub fn walks_are_best()
+    ensures { WalksAreBest }
+{}
