@@ -1,0 +1,4 @@
+pub mod Counted
+pub mod Among
+pub mod Sharing
+pub mod Assembling

@@ -1,0 +1,15 @@
+//! Builds versions: the database of a map, with what a former version has of it taken over.
+//!
+//! A component's database depends on its cells alone, and so one that has the same cells in the former version is
+//! shared with it. The rows of all others are built. (Botea 2011; Strasser, Harabor and Botea 2014)
+#![tactic(auto)]
+
+mod building;
+mod planning;
+mod plans;
+#[cfg(test)]
+mod tests;
+
+pub use building::build;
+pub use planning::plan;
+pub use plans::{BuildReport, Plan};
