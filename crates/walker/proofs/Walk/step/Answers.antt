@@ -1,0 +1,21 @@
+use Rattle.std.proofs.Common.{rules, ◌≡◌, ◌≢◌, ◌<◌, Contains, Some, None, length, ℕ, subst, sym, refl, ap, ◌∙◌, arith}
+use Rattle.walker.specs.Walks.{Advances}
+use Rattle.moves.specs.FirstSetLists.{cell_of}
+use Rattle.moves.proofs.MoveLaws.{same_target}
+use Rattle.walker.proofs.Stepping.{has_next, stays, goes, some_if_not_none}
+use Rattle.walker.proofs.Walk.step.Goals as goal
+
+pub returns-then-self : goal.returns-then-self
+returns-then-self c = subst (λ w. Advances w w None) c.self.view_is (stays _ _ _ _ c.self.invariant c.if-self.true)
+
+pub unwrap-self-inside-requires : goal.unwrap-self-inside-requires
+unwrap-self-inside-requires c =
+    let next = has_next _ _ _ _ c.self.invariant c.look_up-by.result c.look_up-by.ensures.best in
+    let same = same_target c.self.inside.at c.look_up-by.result next.to c.target-self-inside.result next.target c.target-self-inside.ensures in
+    some_if_not_none c.index.result c.index.ensures.none (subst (Contains c.self.inside.comp.now.cells) same next.inside)
+
+pub returns : goal.returns
+returns c =
+    subst (λ w. Advances w (record { comp = c.self.inside.comp.now; at = c.target-self-inside.result; goal = cell_of c.self.inside.comp.now.cells c.self.inside.goal }) (Some c.look_up-by.result))
+    c.self.view_is
+    (goes _ _ _ _ c.self.invariant c.look_up-by.result c.target-self-inside.result c.if-self.false c.look_up-by.ensures.kept c.target-self-inside.ensures)

@@ -1,0 +1,156 @@
+//! Walks: the path between two cells of a version is read from its database, one look-up a move, and no search is made.
+//! (Botea 2011)
+#![tactic(auto)]
+
+ghost use Rattle.std.specs.Prelude.{◌≡◌, ◌≢◌, ◌<◌, IfErr, IfOk, OnOk, length};
+ghost use Rattle.moves.specs.declared.Cell.{Cell};
+ghost use Rattle.moves.specs.Moves.{IsTarget};
+ghost use Rattle.moves.specs.Paths.{IsLeastCost};
+ghost use Rattle.row_store.specs.Comps.{BeginsBestPath, IsMoveOfRow};
+ghost use Rattle.versions.specs.Queries.{AreEnds, IsRefusal};
+ghost use Rattle.walker.specs.Walks.{Advances, CostsAhead, HasFewAhead, IsBegun};
+
+use moves::{Cell, MAX_PASSABLE, MAX_SIDE, Move};
+use root_cost::Cost;
+use row_store::CompData;
+use run_pack::steps::Steps;
+use std::marker::{Brand, Model};
+use std::sync::ledger::{Blank, Ledger};
+use versions::{QueryRefusal, Version, judge};
+
+/// A walk under way: a component of a version, the cell that was reached, and the goal.
+#[derive(Drop)]
+pub struct Walk<'a> {
+    comp: &'a CompData,
+    at: Cell,
+    /// The place of the cell that was reached among the component's cells.
+    place: u32,
+    /// The place of the goal.
+    goal: u32,
+}
+
+impl<'a> Model for Walk<'a> {
+    ghost use Rattle.moves.specs.FirstSetLists.{cell_of};
+    ghost use Rattle.walker.specs.Walks.{IsUnderWay, Walking};
+
+    ghost Value = { Walking };
+
+    ghost view = { λ w. record { comp = w.comp.now; at = w.at; goal = cell_of w.comp.now.cells w.goal } };
+
+    ghost invariant = { λ w. IsUnderWay w.comp.now w.at w.place w.goal };
+}
+
+impl<'a> Walk<'a> {
+    /// The walk from a cell to another; `None` exactly where no path exists. It takes no memory.
+    ///
+    /// # Errors
+    ///
+    /// The first cause to refuse the two cells, the start before the goal.
+    pub fn start(
+        version: &'a Version,
+        start: Cell,
+        goal: Cell,
+    ) -> Result<Option<Walk<'a>>, QueryRefusal>
+        ensures ends { OnOk result (AreEnds version.entry.now.map start goal) }
+        ensures walk { IfOk result (IsBegun version.entry.now start goal) }
+        ensures refused { IfErr result (IsRefusal version.entry.now.map start goal) }
+    {
+        judge(version.grid(), start, goal)?;
+        match version.home(start, goal) {
+            None => Ok(None),
+            Some(comp) => Ok(Some(Walk {
+                comp,
+                at: start,
+                place: comp.index(start).unwrap(),
+                goal: comp.index(goal).unwrap(),
+            })),
+        }
+    }
+
+    /// The next move of the walk; `None` exactly at the goal.
+    pub fn step(&mut self) -> Option<Move>
+        ensures { Advances self.old self.new result }
+    {
+        if self.place == self.goal {
+            return None;
+        }
+        let by = look_up::<Brand>(self.comp, self.place, self.goal, Blank::new(1));
+        self.at = target(self.at, by);
+        self.place = self.comp.index(self.at).unwrap();
+        Some(by)
+    }
+
+    /// The cell that was reached.
+    pub fn at(&self) -> Cell
+        ensures { result ≡ self.now.at }
+    {
+        self.at
+    }
+}
+
+/// What the walk from a cell to another costs, which is the least cost; `None` exactly where no path exists. It takes no
+/// memory.
+///
+/// # Errors
+///
+/// The first cause to refuse the two cells, the start before the goal.
+pub fn measure(version: &Version, start: Cell, goal: Cell) -> Result<Option<Cost>, QueryRefusal>
+    ensures ends { OnOk result (AreEnds version.now.map start goal) }
+    ensures cost { IfOk result (IsLeastCost version.now.map start goal) }
+    ensures refused { IfErr result (IsRefusal version.now.map start goal) }
+{
+    match Walk::start(version, start, goal)? {
+        None => Ok(None),
+        Some(mut walk) => Ok(Some(cost_ahead(&mut walk))),
+    }
+}
+
+/// What the moves cost that are ahead of a walk. The walk is at its goal then.
+fn cost_ahead(walk: &mut Walk) -> Cost
+    requires { HasFewAhead walk.old }
+    ensures { CostsAhead walk.old result }
+{
+    let mut cost = Cost::ZERO;
+    for _ in 0..MAX_PASSABLE {
+        match walk.step() {
+            Some(by) => cost = cost.plus(by.is_diagonal()),
+            None => return cost,
+        }
+    }
+    cost
+}
+
+/// The move that is kept in the row of one place for another.
+fn look_up<L: Ledger>(comp: &CompData, from: u32, to: u32, blank: Blank) -> Move
+    requires name { blank.name ≡ L.name }
+    requires parts { blank.parts ≡ L.parts }
+    requires some { 0 < blank.parts }
+    requires from { from < length comp.now.cells }
+    requires to { to < length comp.now.cells }
+    requires apart { from ≢ to }
+    ensures kept { IsMoveOfRow comp.now from to result }
+    ensures best { BeginsBestPath comp.now.cells from to result }
+{
+    let mut steps = Steps::<L>::new(blank);
+    comp.first_move(from, to, &mut steps)
+}
+
+/// The cell that the move leads to.
+fn target(from: Cell, by: Move) -> Cell
+    requires column { from.x < MAX_SIDE }
+    requires row { from.y < MAX_SIDE }
+    requires some { (to : Cell) × IsTarget from by to }
+    ensures { IsTarget from by result }
+{
+    let x = match by {
+        Move::N | Move::S => from.x,
+        Move::NE | Move::E | Move::SE => from.x + 1,
+        Move::SW | Move::W | Move::NW => from.x - 1,
+    };
+    let y = match by {
+        Move::E | Move::W => from.y,
+        Move::SE | Move::S | Move::SW => from.y + 1,
+        Move::N | Move::NE | Move::NW => from.y - 1,
+    };
+    Cell { x, y }
+}
