@@ -1,3 +1,2 @@
 pub mod Growing
 pub mod NamedFiles
-pub mod Untold

@@ -1,13 +1,25 @@
--- What a writer's bytes become. `None` where it does not tell them.
-use Rattle.std.specs.Prelude.{ℕ, ◌≡◌, ◌≤◌, List, ◌++◌, length, take, Option, Some, None}
+-- What is said of told bytes. `None` where they are not told.
+use Rattle.std.specs.Prelude.{ℕ, ◌≡◌, ◌<◌, ◌≤◌, List, length, take, Option, IfSome}
+use Rattle.std.specs.Io.KnownBytes.{Appends}
 
--- the bytes are told before and after and grew by this piece, or are told neither time
-abbrev pub GrowsBy : Option (List ℕ) → Option (List ℕ) → List ℕ → Type 0
-GrowsBy (Some before) (Some after) piece = after ≡ before ++ piece
-GrowsBy (Some before) None piece = ⊥
-GrowsBy None (Some after) piece = ⊥
-GrowsBy None None piece = Unit {0}
+-- told bytes are these
+abbrev pub Tells : Option (List ℕ) → List ℕ → Type 0
+Tells told bytes = IfSome told (λ held. bytes ≡ held)
 
--- the bytes grew by a first part of the text
+-- told bytes are so many at most
+abbrev pub TellsAtMost : Option (List ℕ) → ℕ → Type 0
+TellsAtMost told limit = IfSome told (λ held. length held ≤ limit)
+
+-- told bytes are more
+abbrev pub TellsMoreThan : Option (List ℕ) → ℕ → Type 0
+TellsMoreThan told limit = IfSome told (λ held. limit < length held)
+
+-- of what is told of each name, all is as it was
+abbrev pub TellsTheSame : (List ℕ → Option (List ℕ)) → (List ℕ → Option (List ℕ)) → Type 0
+TellsTheSame before now = (name : List ℕ) → now name ≡ before name
+
+-- told bytes grew by a first part of the text, which is less than the whole: of `path` they grew
+-- by nothing, `p`, `pa` or `pat`
 abbrev pub PutsPrefix : Option (List ℕ) → Option (List ℕ) → List ℕ → Type 0
-PutsPrefix before after text = (count : ℕ) × (count ≤ length text) × GrowsBy before after (take count text)
+PutsPrefix before after text =
+    (count : ℕ) × (count < length text) × Appends before after (take count text)

@@ -1,4 +1,5 @@
 pub mod Causes
 pub mod Contents
+pub mod Devices
 pub mod FilesInMemory
 pub mod SinkInMemory

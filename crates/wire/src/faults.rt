@@ -1,4 +1,4 @@
-// Faults of the outside, and how they are counted.
+//! Faults of the outside, and how they are counted.
 ghost use Rattle.std.specs.Prelude.{◌≡◌, ◌≤◌, ◌==◌};
 ghost use Rattle.std.specs.List.{list_any};
 ghost use Rattle.wire.specs.Causes.{one_more};

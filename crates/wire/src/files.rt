@@ -1,6 +1,7 @@
-// Files to be read, by name.
-ghost use Rattle.std.specs.Prelude.{◌≡◌, ◌<◌, ◌≤◌, ℕ, List, Option, length, vec_len, IfOk, IfSome, OnOk, IsErrOf};
-ghost use Rattle.wire.specs.Causes.{Rose};
+//! Files to be read, by name.
+ghost use Rattle.std.specs.Prelude.{◌≡◌, ◌≤◌, ℕ, List, Option, vec_len, IfOk, OnOk, IsErrOf};
+ghost use Rattle.wire.specs.Causes.{NoneFell, Rose};
+ghost use Rattle.wire.specs.Contents.{Tells, TellsAtMost, TellsMoreThan, TellsTheSame};
 ghost use Rattle.wire.specs.declared.files.FileError.TheVariants.{NoMemory};
 
 use std::alloc::{AllocError, Global};
@@ -42,13 +43,14 @@ pub trait Files {
         ensures within { IfOk result (λ bytes. vec_len bytes ≤ limit) }
 
         // Where the content is told, Ok gives it, and it is too long exactly above the limit.
-        ensures bytes { IfOk result (λ bytes. IfSome (content self.old name.now) (λ held. bytes.items ≡ held)) }
-        ensures fits { OnOk result (IfSome (content self.old name.now) (λ held. length held ≤ limit)) }
+        ensures bytes { IfOk result (λ bytes. Tells (content self.old name.now) bytes.items) }
+        ensures fits { OnOk result (TellsAtMost (content self.old name.now) limit) }
         ensures too_long { IsErrOf result FileError.TooLong
-            → IfSome (content self.old name.now) (λ held. limit < length held) }
+            → TellsMoreThan (content self.old name.now) limit }
 
         // A fault has its cause in the count of this very name.
-        ensures cause { IsErrOf result FileError.Failed → Rose (faults self.old name.now) (faults self.new name.now) }
-        ensures later { (other : List ℕ) → faults self.old other ≤ faults self.new other }
-        ensures kept { (other : List ℕ) → content self.new other ≡ content self.old other };
+        ensures cause { IsErrOf result FileError.Failed
+            → Rose (faults self.old name.now) (faults self.new name.now) }
+        ensures later { NoneFell (faults self.old) (faults self.new) }
+        ensures kept { TellsTheSame (content self.old) (content self.new) };
 }

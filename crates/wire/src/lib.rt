@@ -11,18 +11,24 @@ mod files;
 mod host_files;
 mod mem_files;
 mod mem_sink;
+mod opener;
+mod reader_files;
 mod sink;
 mod std_sink;
 mod steady_sink;
+mod writer_sink;
 
 pub use faults::Failed;
 pub use files::{FileError, Files};
-pub use host_files::HostFiles;
+pub use host_files::{HostFiles, HostOpener};
 pub use mem_files::MemFiles;
 pub use mem_sink::MemSink;
+pub use opener::{Opened, Opener};
+pub use reader_files::ReaderFiles;
 pub use sink::{Sink, put_all};
 pub use std_sink::StdSink;
 pub use steady_sink::SteadySink;
+pub use writer_sink::WriterSink;
 
 #[cfg(test)]
 mod tests;

@@ -1,6 +1,7 @@
-// Files in memory, with planned faults.
-ghost use Rattle.std.specs.Prelude.{ℕ, List, ◌≡◌, ◌≢◌, ◌<◌, ◌≤◌, ◌↔◌, length, vec_len, IfOk, IfSome, IsErrOf, IsTrue, AllPairs, All, Some, None, position, string_bytes, bytes_eq};
-ghost use Rattle.wire.specs.Causes.{Rose};
+//! Files in memory, with planned faults.
+ghost use Rattle.std.specs.Prelude.{ℕ, List, ◌≡◌, ◌≢◌, ◌<◌, ◌≤◌, ◌↔◌, length, vec_len, IfOk, IsErrOf, IsTrue, AllPairs, All, Some, None, position, string_bytes, bytes_eq};
+ghost use Rattle.wire.specs.Causes.{NoneFell, Rose};
+ghost use Rattle.wire.specs.Contents.{TellsMoreThan};
 ghost use Rattle.wire.specs.FilesInMemory.{named_bytes, place_of};
 
 use crate::faults::{count_fault, is_planned};
@@ -35,7 +36,8 @@ impl Model for MemFiles {
 }
 
 impl MemFiles {
-    ghost use Rattle.wire.specs.FilesInMemory.{named_bytes, new_files, content_of, faults_of};
+    ghost use Rattle.wire.specs.FilesInMemory.{HasNoFault, NamesDiffer, TellsEach, TellsNoOther};
+    ghost use Rattle.wire.specs.FilesInMemory.{faults_of, named_bytes, new_files};
 
     /// Files of these names and bytes. `fails` has the numbers of the reads that are to fail; the
     /// first read is number 1.
@@ -44,12 +46,12 @@ impl MemFiles {
         files: Vec<(String, Vec<u8>)>,
         fails: Vec<u64>,
     ) -> Result<MemFiles, AllocError>
-        requires { AllPairs (λ one other. string_bytes one.0 ≢ string_bytes other.0) files.items }
-        ensures value { IfOk result (λ memory. memory ≡ new_files (named_bytes files.items) fails.items) }
-        ensures told { IfOk result (λ memory. All (λ file. content_of memory.files (string_bytes file.0) ≡ Some file.1.items) files.items) }
-        ensures untold { IfOk result (λ memory. (name : List ℕ)
-            → All (λ file. string_bytes file.0 ≢ name) files.items → content_of memory.files name ≡ None) }
-        ensures counts { IfOk result (λ memory. (name : List ℕ) → faults_of memory name ≡ 0) }
+        requires { NamesDiffer files.items }
+        ensures value { IfOk result (λ memory.
+            memory ≡ new_files (named_bytes files.items) fails.items) }
+        ensures told { IfOk result (λ memory. TellsEach memory files.items) }
+        ensures untold { IfOk result (λ memory. TellsNoOther memory files.items) }
+        ensures counts { IfOk result HasNoFault }
     {
         Ok(MemFiles {
             faults: vec![in alloc; 0; files.len() + 1]?,
@@ -104,16 +106,19 @@ impl Files for MemFiles {
 
     fn read_all(&mut self, alloc: Global, name: &str, limit: usize) -> Result<Vec<u8>, FileError>
         ensures within { IfOk result (λ bytes. vec_len bytes ≤ limit) }
-        ensures bytes { IfOk result (λ bytes. content_of self.old.files name.now ≡ Some bytes.items) }
+        ensures bytes { IfOk result (λ bytes.
+            content_of self.old.files name.now ≡ Some bytes.items) }
         ensures too_long { IsErrOf result FileError.TooLong
-            → IfSome (content_of self.old.files name.now) (λ held. limit < length held) }
+            → TellsMoreThan (content_of self.old.files name.now) limit }
 
         ensures fails { IsErrOf result FileError.Failed ↔ IsTrue (read_fails self.old name.now) }
-        ensures failed { IsErrOf result FileError.Failed → self.new ≡ with_fault_at self.old name.now }
+        ensures failed { IsErrOf result FileError.Failed
+            → self.new ≡ with_fault_at self.old name.now }
         ensures otherwise { (IsErrOf result FileError.Failed → ⊥) → self.new ≡ with_read self.old }
 
-        ensures cause { IsErrOf result FileError.Failed → Rose (faults_of self.old name.now) (faults_of self.new name.now) }
-        ensures later { (other : List ℕ) → faults_of self.old other ≤ faults_of self.new other }
+        ensures cause { IsErrOf result FileError.Failed
+            → Rose (faults_of self.old name.now) (faults_of self.new name.now) }
+        ensures later { NoneFell (faults_of self.old) (faults_of self.new) }
         ensures kept { self.new.files ≡ self.old.files }
     {
         self.calls = self.calls.saturating_add(1);

@@ -1,4 +1,4 @@
-// A sink in memory, with planned faults.
+//! A sink in memory, with planned faults.
 ghost use Rattle.std.specs.Prelude.{◌≡◌, ◌≤◌, [], take, IfOk, OnErr, IsErr, IsTrue, ◌↔◌};
 
 use crate::faults::{count_fault, is_planned};
@@ -33,7 +33,8 @@ impl Model for MemSink {
       faults = sink.faults;
     } };
 
-    ghost invariant = { λ sink. (vec_len sink.bytes ≤ sink.room) × (sink.room ≤ vec_capacity sink.bytes) };
+    ghost invariant = { λ sink.
+        (vec_len sink.bytes ≤ sink.room) × (sink.room ≤ vec_capacity sink.bytes) };
 }
 
 impl MemSink {
@@ -93,7 +94,8 @@ impl Sink for MemSink {
     fn put(&mut self, piece: &[u8]) -> Result<usize, Failed>
         ensures fails { IsErr result ↔ IsTrue (put_fails self.old piece.now) }
         ensures count { IfOk result (λ count. count ≡ next_count self.old piece.now) }
-        ensures taken { IfOk result (λ count. self.new ≡ with_piece self.old (take count piece.now)) }
+        ensures taken { IfOk result (λ count.
+            self.new ≡ with_piece self.old (take count piece.now)) }
         ensures fault { OnErr result (self.new ≡ with_fault self.old) }
         ensures later { self.old.faults ≤ self.new.faults }
     {

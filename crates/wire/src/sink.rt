@@ -1,7 +1,8 @@
-// Where bytes are put.
-ghost use Rattle.std.specs.Prelude.{◌<◌, ◌≤◌, ℕ, List, [], Option, length, take, IfOk, OnOk, OnErr};
+//! Where bytes are put.
+ghost use Rattle.std.specs.Prelude.{◌<◌, ◌≤◌, ℕ, List, Option, length, take, IfOk, OnOk, OnErr};
+ghost use Rattle.std.specs.Io.KnownBytes.{Appends, Keeps};
 ghost use Rattle.wire.specs.Causes.{Rose};
-ghost use Rattle.wire.specs.Contents.{GrowsBy, PutsPrefix};
+ghost use Rattle.wire.specs.Contents.{PutsPrefix};
 
 use crate::Failed;
 
@@ -18,17 +19,18 @@ pub trait Sink {
     fn put(&mut self, piece: &[u8]) -> Result<usize, Failed>
         ensures count { IfOk result (λ count. count ≤ length piece.now) }
         ensures some { IfOk result (λ count. 0 < length piece.now → 0 < count) }
-        ensures grows { IfOk result (λ count. GrowsBy (bytes self.old) (bytes self.new) (take count piece.now)) }
-        ensures kept { OnErr result (GrowsBy (bytes self.old) (bytes self.new) []) }
+        ensures grows { IfOk result (λ count.
+            Appends (bytes self.old) (bytes self.new) (take count piece.now)) }
+        ensures kept { OnErr result (Keeps (bytes self.old) (bytes self.new)) }
 
         ensures cause { OnErr result (Rose (faults self.old) (faults self.new)) }
         ensures later { faults self.old ≤ faults self.new };
 }
 
 /// Puts a whole text, in as many pieces as the sink takes it in. After a fault a first part of the
-/// text has been put.
+/// text has been put, which is less than the whole: the fault met a piece that was not empty.
 pub fn put_all<K: Sink>(sink: &mut K, text: &[u8]) -> Result<(), Failed>
-    ensures put { OnOk result (GrowsBy (K.bytes sink.old) (K.bytes sink.new) text.now) }
+    ensures put { OnOk result (Appends (K.bytes sink.old) (K.bytes sink.new) text.now) }
     ensures prefix { OnErr result (PutsPrefix (K.bytes sink.old) (K.bytes sink.new) text.now) }
 
     ensures cause { OnErr result (Rose (K.faults sink.old) (K.faults sink.new)) }

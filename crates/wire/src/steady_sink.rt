@@ -1,4 +1,4 @@
-// A sink that takes everything and keeps nothing.
+//! A sink that takes everything and keeps nothing.
 ghost use Rattle.std.specs.Prelude.{◌≡◌, Ok, None, length};
 
 use crate::{Failed, Sink};

@@ -1,11 +1,11 @@
 use Rattle.std.proofs.Common.{length, ◌-◌, ◌≤◌, take}
-use Rattle.wire.specs.Contents.{GrowsBy}
+use Rattle.std.specs.Io.KnownBytes.{Appends}
 use Rattle.wire.proofs.sink.put_all.Given as goal
 
 abbrev pub invariant-loop-put : goal.invariant-loop-put
 invariant-loop-put g l = record {
   within : l.put ≤ length l.text;
-  grows : GrowsBy (g.K.Sink.bytes l.fn.sink) (g.K.Sink.bytes l.sink) (take l.put l.text);
+  grows : Appends (g.K.Sink.bytes l.fn.sink) (g.K.Sink.bytes l.sink) (take l.put l.text);
   later : g.K.Sink.faults l.fn.sink ≤ g.K.Sink.faults l.sink;
 }
 
