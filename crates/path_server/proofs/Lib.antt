@@ -1,10 +1,8 @@
 pub mod Routing
 pub mod Telling
-pub mod Ending
 pub mod ClapLemmas
 pub mod CommandLemmas
-pub mod NameLemmas
 pub mod NumberLemmas
+pub mod RequestLemmas
 pub mod OptionLemmas
 pub mod PlainLemmas
-pub mod RequestLemmas

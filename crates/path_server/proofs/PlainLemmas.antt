@@ -1,5 +1,5 @@
 -- Words of which none begins with a hyphen go to the arguments of a command in order.
-use Rattle.std.proofs.Common.{◌≡◌, ◌∙◌, ℕ, List, [], ◌∷◌, true, false, None, is_some, codes, fold, map, refl, ap, ap₂, arith}
+use Rattle.std.proofs.Common.{◌≡◌, ◌∙◌, ℕ, List, [], ◌∷◌, true, false, None, Some, is_some, codes, fold, refl, ap, ap₂, arith}
 use Rattle.std.proofs.lemmas.Bool.Decides.{nat_tests}
 use Rattle.std.specs.List.{AllByRecursion}
 use Rattle.std.specs.Str.{bytes_eq}
@@ -10,9 +10,11 @@ use Rattle.clap.specs.declared.error.kind.ErrorKind.TheVariants.{MissingRequired
 use Rattle.clap.proofs.OnLiterals.{clap_on_literals}
 use Rattle.clap.specs.Kinds.{Kinds, or_else}
 use Rattle.clap.specs.Faults.{built_fault, check_fault, defaults_fault, entered_fault, settle_fault, step_fault, turn_fault, walk_fault}
-use Rattle.path_server.specs.Words.{command_app, is_taken, path_in, required_rule, value_of}
-use Rattle.path_server.specs.Requests.{cell_at, check_app, check_by, check_from, path_app, path_by, request_of, request_with}
-use Rattle.path_server.specs.PlainWords.{IsPlain, PlainWordsAreRead, plain_check, plain_path}
+use Rattle.path_server.specs.declared.commands.Verb.TheVariants.{Path, Check}
+use Rattle.path_server.specs.Words.{command_app, is_taken, path_in, value_of}
+use Rattle.path_server.specs.Commands.{app_for, verb_named, verb_rules}
+use Rattle.path_server.specs.Requests.{build_at, cell_at, check_by, check_from, path_by, request_by, request_of}
+use Rattle.path_server.specs.PlainWords.{IsPlain, PlainWordsAreRead, plain_check, plain_path, standard_build}
 
 -- the walk between two words, where nothing waits and no word was `--`
 abbrev pub walk_at : Held → ℕ → Walk
@@ -63,11 +65,8 @@ faults_are a words w e = ap (faults_at a words) e
 
 -- ---- `check`
 
-abbrev check_ids : List Text
-check_ids = codes "MAP" ∷ []
-
 abbrev pub check_built : App
-check_built = built (record { top = record (new_shape (codes "check")) { rules = map required_rule check_ids; disable_help_flag = true; disable_version_flag = true }; subs = [] })
+check_built = built (record { top = record (new_shape (codes "check")) { rules = verb_rules Check; disable_help_flag = true; disable_version_flag = true }; subs = [] })
 
 abbrev pub check_walk : Text → Walk
 check_walk file = next check_built.top.rules file (walk_from nothing_held)
@@ -80,16 +79,16 @@ unfolding defaults_fault walk_fault
 check_fault_one file plain = faults_are check_built (file ∷ []) (check_walk file) (check_end file plain)
     ∙ ap (λ kinds. or_else kinds []) (fault_step check_built.top file [] 1 nothing_held plain)
 
-check_row : (file : Text) → IsPlain file → matches_of check_app (codes "check" ∷ file ∷ []) ≡ finished check_built.top.rules (check_walk file).held
-unfolding check_app command_app
+check_row : (file : Text) → IsPlain file → matches_of (app_for Check) (codes "check" ∷ file ∷ []) ≡ finished check_built.top.rules (check_walk file).held
+unfolding app_for command_app
 check_row file plain = ap (λ (w : Walk). finished check_built.top.rules w.held) (check_end file plain)
 
-check_one : (file : Text) → IsPlain file → request_with check_app check_by (codes "check" ∷ file ∷ []) ≡ check_from (path_in file)
-unfolding request_with check_app command_app is_taken value_of check_by
+check_one : (file : Text) → IsPlain file → request_by Check (codes "check" ∷ file ∷ []) ≡ check_from (path_in file) (Some standard_build)
+unfolding request_by app_for command_app is_taken value_of check_by build_at
 check_one file plain = rw (check_fault_one file plain, check_row file plain) refl
 
-check_none : request_with check_app check_by (codes "check" ∷ []) ≡ None
-unfolding request_with check_app command_app is_taken clap_on_literals
+check_none : request_by Check (codes "check" ∷ []) ≡ None
+unfolding request_by app_for command_app is_taken clap_on_literals
 check_none = refl
 
 pub check_stray : (file other : Text) (rest : List Text) → IsPlain file → IsPlain other
@@ -97,22 +96,19 @@ pub check_stray : (file other : Text) (rest : List Text) → IsPlain file → Is
 check_stray file other rest p q = fault_step check_built.top file (other ∷ rest) 1 nothing_held p
     ∙ fault_step check_built.top other rest 2 (check_walk file).held q
 
-check_many : (file other : Text) (rest : List Text) → IsPlain file → IsPlain other → request_with check_app check_by (codes "check" ∷ file ∷ other ∷ rest) ≡ None
-unfolding request_with check_app command_app is_taken
+check_many : (file other : Text) (rest : List Text) → IsPlain file → IsPlain other → request_by Check (codes "check" ∷ file ∷ other ∷ rest) ≡ None
+unfolding request_by app_for command_app is_taken
 check_many file other rest p q = rw (check_stray file other rest p q) refl
 
-pub plain_check_read : (words : List Text) → AllByRecursion IsPlain words → request_with check_app check_by (codes "check" ∷ words) ≡ plain_check words
+pub plain_check_read : (words : List Text) → AllByRecursion IsPlain words → request_by Check (codes "check" ∷ words) ≡ plain_check words
 plain_check_read [] plain = check_none
 plain_check_read (file ∷ []) plain = check_one file plain.0
 plain_check_read (file ∷ other ∷ rest) plain = check_many file other rest plain.0 plain.1.0
 
 -- ---- `path`
 
-abbrev path_ids : List Text
-path_ids = codes "MAP" ∷ codes "SX" ∷ codes "SY" ∷ codes "GX" ∷ codes "GY" ∷ []
-
 abbrev pub path_built : App
-path_built = built (record { top = record (new_shape (codes "path")) { rules = map required_rule path_ids; disable_help_flag = true; disable_version_flag = true }; subs = [] })
+path_built = built (record { top = record (new_shape (codes "path")) { rules = verb_rules Path; disable_help_flag = true; disable_version_flag = true }; subs = [] })
 
 abbrev pub top : Shape
 top = path_built.top
@@ -209,16 +205,16 @@ unfolding defaults_fault walk_fault
 found-5 a b c d e p q r s t = faults_are path_built (a ∷ b ∷ c ∷ d ∷ e ∷ []) (walk-5 a b c d e) (end-5 a b c d e p q r s t)
     ∙ ap (λ kinds. or_else kinds []) (fault-1 a (b ∷ c ∷ d ∷ e ∷ []) p ∙ fault-2 a b (c ∷ d ∷ e ∷ []) q ∙ fault-3 a b c (d ∷ e ∷ []) r ∙ fault-4 a b c d (e ∷ []) s ∙ fault-5 a b c d e [] t)
 
-path_rows : (a b c d e : Text) → IsPlain a → IsPlain b → IsPlain c → IsPlain d → IsPlain e → matches_of path_app (codes "path" ∷ a ∷ b ∷ c ∷ d ∷ e ∷ []) ≡ finished top.rules (walk-5 a b c d e).held
-unfolding path_app command_app
+path_rows : (a b c d e : Text) → IsPlain a → IsPlain b → IsPlain c → IsPlain d → IsPlain e → matches_of (app_for Path) (codes "path" ∷ a ∷ b ∷ c ∷ d ∷ e ∷ []) ≡ finished top.rules (walk-5 a b c d e).held
+unfolding app_for command_app
 path_rows a b c d e p q r s t = ap (λ (w : Walk). finished top.rules w.held) (end-5 a b c d e p q r s t)
 
-path_five : (a b c d e : Text) → IsPlain a → IsPlain b → IsPlain c → IsPlain d → IsPlain e → request_with path_app path_by (codes "path" ∷ a ∷ b ∷ c ∷ d ∷ e ∷ []) ≡ plain_path (a ∷ b ∷ c ∷ d ∷ e ∷ [])
-unfolding request_with path_app command_app is_taken value_of path_by cell_at
+path_five : (a b c d e : Text) → IsPlain a → IsPlain b → IsPlain c → IsPlain d → IsPlain e → request_by Path (codes "path" ∷ a ∷ b ∷ c ∷ d ∷ e ∷ []) ≡ plain_path (a ∷ b ∷ c ∷ d ∷ e ∷ [])
+unfolding request_by app_for command_app is_taken value_of path_by cell_at build_at
 path_five a b c d e p q r s t = rw (found-5 a b c d e p q r s t, path_rows a b c d e p q r s t) refl
 
-path_none : request_with path_app path_by (codes "path" ∷ []) ≡ None
-unfolding request_with path_app command_app is_taken clap_on_literals
+path_none : request_by Path (codes "path" ∷ []) ≡ None
+unfolding request_by app_for command_app is_taken clap_on_literals
 path_none = refl
 
 pub path_stray : (a b c d e f : Text) (rest : List Text) → IsPlain a → IsPlain b → IsPlain c → IsPlain d → IsPlain e → IsPlain f
@@ -226,27 +222,27 @@ pub path_stray : (a b c d e f : Text) (rest : List Text) → IsPlain a → IsPla
 path_stray a b c d e f rest p q r s t u = fault-1 a (b ∷ c ∷ d ∷ e ∷ f ∷ rest) p ∙ fault-2 a b (c ∷ d ∷ e ∷ f ∷ rest) q ∙ fault-3 a b c (d ∷ e ∷ f ∷ rest) r
     ∙ fault-4 a b c d (e ∷ f ∷ rest) s ∙ fault-5 a b c d e (f ∷ rest) t ∙ fault-6 a b c d e f rest u
 
-path_few-1 : (a : Text) → IsPlain a → request_with path_app path_by (codes "path" ∷ a ∷ []) ≡ None
-unfolding request_with path_app command_app is_taken
+path_few-1 : (a : Text) → IsPlain a → request_by Path (codes "path" ∷ a ∷ []) ≡ None
+unfolding request_by app_for command_app is_taken
 path_few-1 a p = rw (found-1 a p) refl
 
-path_few-2 : (a b : Text) → IsPlain a → IsPlain b → request_with path_app path_by (codes "path" ∷ a ∷ b ∷ []) ≡ None
-unfolding request_with path_app command_app is_taken
+path_few-2 : (a b : Text) → IsPlain a → IsPlain b → request_by Path (codes "path" ∷ a ∷ b ∷ []) ≡ None
+unfolding request_by app_for command_app is_taken
 path_few-2 a b p q = rw (found-2 a b p q) refl
 
-path_few-3 : (a b c : Text) → IsPlain a → IsPlain b → IsPlain c → request_with path_app path_by (codes "path" ∷ a ∷ b ∷ c ∷ []) ≡ None
-unfolding request_with path_app command_app is_taken
+path_few-3 : (a b c : Text) → IsPlain a → IsPlain b → IsPlain c → request_by Path (codes "path" ∷ a ∷ b ∷ c ∷ []) ≡ None
+unfolding request_by app_for command_app is_taken
 path_few-3 a b c p q r = rw (found-3 a b c p q r) refl
 
-path_few-4 : (a b c d : Text) → IsPlain a → IsPlain b → IsPlain c → IsPlain d → request_with path_app path_by (codes "path" ∷ a ∷ b ∷ c ∷ d ∷ []) ≡ None
-unfolding request_with path_app command_app is_taken
+path_few-4 : (a b c d : Text) → IsPlain a → IsPlain b → IsPlain c → IsPlain d → request_by Path (codes "path" ∷ a ∷ b ∷ c ∷ d ∷ []) ≡ None
+unfolding request_by app_for command_app is_taken
 path_few-4 a b c d p q r s = rw (found-4 a b c d p q r s) refl
 
-path_many : (a b c d e f : Text) (rest : List Text) → IsPlain a → IsPlain b → IsPlain c → IsPlain d → IsPlain e → IsPlain f → request_with path_app path_by (codes "path" ∷ a ∷ b ∷ c ∷ d ∷ e ∷ f ∷ rest) ≡ None
-unfolding request_with path_app command_app is_taken
+path_many : (a b c d e f : Text) (rest : List Text) → IsPlain a → IsPlain b → IsPlain c → IsPlain d → IsPlain e → IsPlain f → request_by Path (codes "path" ∷ a ∷ b ∷ c ∷ d ∷ e ∷ f ∷ rest) ≡ None
+unfolding request_by app_for command_app is_taken
 path_many a b c d e f rest p q r s t u = rw (path_stray a b c d e f rest p q r s t u) refl
 
-pub plain_path_read : (words : List Text) → AllByRecursion IsPlain words → request_with path_app path_by (codes "path" ∷ words) ≡ plain_path words
+pub plain_path_read : (words : List Text) → AllByRecursion IsPlain words → request_by Path (codes "path" ∷ words) ≡ plain_path words
 plain_path_read [] plain = path_none
 plain_path_read (a ∷ []) plain = path_few-1 a plain.0
 plain_path_read (a ∷ b ∷ []) plain = path_few-2 a b plain.0 plain.1.0
@@ -256,5 +252,5 @@ plain_path_read (a ∷ b ∷ c ∷ d ∷ e ∷ []) plain = path_five a b c d e p
 plain_path_read (a ∷ b ∷ c ∷ d ∷ e ∷ f ∷ rest) plain = path_many a b c d e f rest plain.0 plain.1.0 plain.1.1.0 plain.1.1.1.0 plain.1.1.1.1.0 plain.1.1.1.1.1.0
 
 pub plain_words_read : PlainWordsAreRead
-unfolding request_of
+unfolding request_of verb_named
 plain_words_read words plain = (plain_path_read words plain, plain_check_read words plain)

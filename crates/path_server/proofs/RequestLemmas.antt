@@ -1,31 +1,45 @@
 -- What a command makes of words, and what it made of the values that a parse found.
-use Rattle.std.proofs.Common.{◌≡◌, List, true, false, Option, Some, None, Err, IfOk, refl, sym, ap, option_map}
+use Rattle.std.proofs.Common.{◌≡◌, List, [], ◌∷◌, length, String, Bool, true, false, Option, Some, None, Err, IfOk, string_bytes, find, position, inl, inr, refl, sym, ap, option_map, arith}
+use Rattle.std.specs.Option.{option_and_then}
+use Rattle.std.specs.List.{position_or_len}
+use Rattle.std.proofs.lemmas.Bool.{cases_lt}
+use Rattle.std.proofs.lemmas.Bool.Decides.{nat_tests}
+use Rattle.std.proofs.lemmas.List.Folds.{find_at}
+use Rattle.std.proofs.lemmas.Option.{slice_get_past}
+use Rattle.std.specs.Global.{Global}
+use Rattle.std.specs.List.{slice_get}
 use Rattle.std.specs.Option.{ok_or}
-use Rattle.clap.specs.Words.{App, Text, first_value, found_of, is_simple_and_free}
+use Rattle.clap.specs.Words.{Text, first_value, found_of, is_simple_and_free}
 use Rattle.clap.specs.declared.parser.matches.ArgMatches.{ArgMatches}
 use Rattle.clap.proofs.OnLiterals.{clap_on_literals}
+use Rattle.path_server.specs.declared.commands.Verb.{Verb}
+use Rattle.path_server.specs.declared.commands.Verb.TheVariants.{Path, Check}
 use Rattle.path_server.specs.declared.request.Request.{Request}
 use Rattle.path_server.specs.declared.request.RequestError.TheVariants.{Usage}
-use Rattle.path_server.specs.Words.{HasValues, command_app, is_taken}
-use Rattle.path_server.specs.Requests.{Asked, Values, asked, check_app, path_app, request_with}
+use Rattle.path_server.specs.Commands.{app_for, verb_named, verb_of}
+use Rattle.path_server.specs.Words.{HasValues, command_app, is_taken, texts_of}
+use Rattle.path_server.specs.Requests.{Asked, asked, asked_by, request_by}
 
-pub simple_path : is_simple_and_free path_app ≡ true
-unfolding path_app command_app clap_on_literals
-simple_path = refl
+-- clap says of each command what it makes of any words
+pub simple_app : (verb : Verb) → is_simple_and_free (app_for verb) ≡ true
+unfolding app_for command_app clap_on_literals
+simple_app Path = refl
+simple_app Check = refl
 
-pub simple_check : is_simple_and_free check_app ≡ true
-unfolding check_app command_app clap_on_literals
-simple_check = refl
+-- the first word names the command
+pub named_first : (words : List (String Global)) (name : String Global) → Some name ≡ slice_get words 0 → verb_of (texts_of words) ≡ verb_named (string_bytes name)
+named_first [] name e = absurd cc
+named_first (word ∷ words) name e = let same : word ≡ name = cc in ap (λ first. verb_named (string_bytes first)) same
 
 -- clap takes the words: the command reads the values that the parse found
-pub request_found : (app : App) (reading : Values → Option Asked) (words : List Text) (m : ArgMatches) → HasValues app words m → reading (first_value (found_of m)) ≡ request_with app reading words
-unfolding request_with
-request_found app reading words m found = rw found.taken (ap reading (λ i id. found.values id i))
+pub request_found : (verb : Verb) (words : List Text) (m : ArgMatches) → HasValues (app_for verb) words m → asked_by verb (first_value (found_of m)) ≡ request_by verb words
+unfolding request_by
+request_found verb words m found = rw found.taken (ap (asked_by verb) (λ i id. found.values id i))
 
 -- clap does not take them
-pub request_refused : (app : App) (reading : Values → Option Asked) (words : List Text) → is_taken app words ≡ false → request_with app reading words ≡ None
-unfolding request_with
-request_refused app reading words refused = rw refused
+pub request_refused : (verb : Verb) (words : List Text) → is_taken (app_for verb) words ≡ false → request_by verb words ≡ None
+unfolding request_by
+request_refused verb words refused = rw refused
 
 -- a request that was read, or a refusal, is what the definition says
 pub read_some : (o : Option Request) (x : Option Asked) → option_map asked o ≡ x → IfOk (ok_or o Usage) (λ request. x ≡ Some (asked request))
@@ -35,3 +49,12 @@ read_some None x e = tt
 pub read_none : (o : Option Request) (x : Option Asked) → option_map asked o ≡ x → ok_or o Usage ≡ Err Usage → x ≡ None
 read_none (Some request) x e h = absurd cc
 read_none None x e h = sym e
+
+-- the first that passes is what stands at the place of the first that passes
+pub find_by_position : {X : Type 0} (p : X → Bool) (xs : List X) → option_and_then (λ place. slice_get xs place) (position p xs) ≡ find p xs
+find_by_position p xs =
+    let found = find_at p xs in
+    elim (cases_lt (position_or_len p xs) (length xs)) [
+      | inl within ↦ grind (arith, nat_tests)
+      | inr past ↦ let none = slice_get_past xs (position_or_len p xs) past in grind (arith, nat_tests)
+    ]

@@ -1,6 +1,6 @@
 -- Walking along least costs to the search's source.
-use Rattle.std.proofs.Common.{◌≡◌, ◌≢◌, ℕ, ◌+◌, ◌<◌, ◌≤◌, ◌⊎◌, Bool, true, false, List, [], ◌∷◌, ◌++◌, length, get_or, Some, None, Option, inl, inr, arith, refl, sym, ap, subst, ◌∙◌}
-use Rattle.std.specs.Prelude.{All, Contains, IfSome}
+use Rattle.std.proofs.Common.{◌≡◌, ◌+◌, ◌<◌, Bool, true, false, List, [], ◌∷◌, ◌++◌, Some, inl, inr, arith, refl, sym, ap, subst, ◌∙◌}
+use Rattle.std.specs.Prelude.{Contains}
 use Rattle.root_cost.specs.declared.Cost.{Cost}
 use Rattle.root_cost.specs.Costs.{sum_of, no_cost, plus_step}
 use Rattle.root_cost.proofs.Adding.{sum_of-none, sum_of-none_first, plus_step-sum_of, plus_step-sum_of_first, none_at_most}
@@ -8,11 +8,10 @@ use Rattle.moves.proofs.CostsOfPaths.{cost_of-push}
 use Rattle.moves.proofs.LawsOfPaths.{one_more}
 use Rattle.moves.specs.declared.Cell.{Cell}
 use Rattle.moves.specs.declared.Move.{Move}
-use Rattle.moves.specs.Maps.{Map, IsInside, IsPassable, passable_count}
+use Rattle.moves.specs.Maps.{Map, IsInside, IsPassable}
 use Rattle.moves.specs.Moves.{is_diagonal, IsLegal}
 use Rattle.moves.specs.Neighbours.{AreNeighbours}
 use Rattle.moves.specs.Paths.{Leads, cost_of, IsBest, IsLeastCost}
-use Rattle.moves.specs.CostTables.{after_step}
 use Rattle.moves.proofs.TableLaws.{same_or_apart}
 use Rattle.moves.proofs.LeastCosts.{least_back, least_begins, same_least, best_of_least}
 use Rattle.grid_search.specs.Searches.{Searched, HasSearched, cost_at}

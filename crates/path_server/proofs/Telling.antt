@@ -1,5 +1,5 @@
 -- What the costs of a search say of a path.
-use Rattle.std.proofs.Common.{◌≡◌, ℕ, List, Option, Some, None, inl, inr, refl, sym, ◌∙◌, subst}
+use Rattle.std.proofs.Common.{◌≡◌, ℕ, List, Some, None, inl, inr, refl, sym, ◌∙◌, subst}
 use Rattle.root_cost.specs.declared.Cost.{Cost}
 use Rattle.root_cost.specs.Costs.{IsMicro}
 use Rattle.moves.specs.declared.Cell.{Cell}

@@ -1,8 +1,10 @@
 pub mod Words
+pub mod Commands
 pub mod Requests
 pub mod PlainWords
 pub mod Texts
 pub mod Queries
 pub mod Routes
-pub mod Causes
-pub mod Answers
+pub mod Statuses
+pub mod Runs
+pub mod System

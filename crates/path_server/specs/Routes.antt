@@ -7,6 +7,7 @@ use Rattle.moves.specs.CostTables.{after_step}
 use Rattle.grid_search.specs.Searches.{Searched, cost_at}
 
 -- From a cell of that cost the move leads to a cell just one step nearer to the search's source.
-pub record IsNearer (search : Searched) (cost : Cost) (by : Move) (next : Cell) (rest : Cost) : Type 0 where
+pub record IsNearer (search : Searched) (cost : Cost) (by : Move) (next : Cell) (rest : Cost)
+    : Type 0 where
   pub there : cost_at search next ≡ Some rest
   pub here : cost ≡ after_step rest by

@@ -1,9 +1,11 @@
 -- The words of a command, as clap reads them, and what a value of a command may be.
 use Rattle.std.specs.Prelude.{◌≡◌, ℕ, Bool, true, ◌&&◌, List, [], ◌∷◌, Option, Some, None, String}
-use Rattle.std.specs.Prelude.{map, length, nat_lt, nat_le, if◌then◌else◌, string_bytes, IsTrue}
+use Rattle.std.specs.Prelude.{map, length, codes, nat_lt, nat_le, if◌then◌else◌, string_bytes}
+use Rattle.std.specs.Prelude.{IsTrue}
 use Rattle.std.specs.Char.{is_ascii_digit}
 use Rattle.std.specs.Global.{Global}
 use Rattle.std.specs.List.{list_all}
+use Rattle.std.specs.Str.{bytes_eq}
 use Rattle.std.specs.Str.Parse.{digits_value}
 use Rattle.clap.specs.Walk.{Rule, Text, first_of, is_empty}
 use Rattle.clap.specs.Simple.{App, matches_of, new_rule, new_shape}
@@ -11,6 +13,9 @@ use Rattle.clap.specs.Matches.{first_value, found_of}
 use Rattle.clap.specs.Faults.{fault_of}
 use Rattle.clap.specs.declared.builder.action.ArgAction.TheVariants.{Set}
 use Rattle.clap.specs.declared.parser.matches.ArgMatches.{ArgMatches}
+use Rattle.cell_order.specs.declared.OrderKind.{OrderKind}
+use Rattle.cell_order.specs.declared.OrderKind.TheVariants.{Rows, Dfs}
+use Rattle.path_server.specs.declared.words.TheConstants.{MAX_WORKERS}
 
 -- the bytes of each word
 abbrev pub texts_of : List (String Global) → List Text
@@ -22,12 +27,16 @@ texts_of = map string_bytes
 abbrev pub required_rule : Text → Rule
 required_rule id = record (new_rule id) { required = true; action = Some Set }
 
--- the command with this name and these required arguments, in this order: it has no option, and
--- not even the flags for help and for the version
-unfoldable pub command_app : Text → List Text → App
-command_app name positionals = record {
+-- an option `--id VALUE` or `--id=VALUE`, which may be left out
+abbrev pub option_rule : Text → Rule
+option_rule id = record (new_rule id) { long = Some id; action = Some Set }
+
+-- the command with this name and these arguments and options: it has not even the flags for help
+-- and for the version
+unfoldable pub command_app : Text → List Rule → App
+command_app name rules = record {
   top = record (new_shape name) {
-    rules = map required_rule positionals;
+    rules = rules;
     disable_help_flag = true;
     disable_version_flag = true;
   };
@@ -38,7 +47,7 @@ command_app name positionals = record {
 unfoldable pub is_taken : App → List Text → Bool
 is_taken app words = is_empty (fault_of app words)
 
--- the value that clap finds in the words for the argument of this name
+-- the value that clap finds in the words for the argument or option of this name
 unfoldable pub value_of : App → List Text → Text → Option Text
 value_of app words id = first_of id (matches_of app words)
 
@@ -62,9 +71,23 @@ abbrev pub up_to : ℕ → Option ℕ → Option ℕ
 up_to limit (Some number) = if nat_le number limit then Some number else None
 up_to limit None = None
 
+-- the number where it is not 0
+abbrev pub not_zero : Option ℕ → Option ℕ
+not_zero (Some number) = if nat_lt 0 number then Some number else None
+not_zero None = None
+
 -- a column or a row: a number from 0 to 65,535
 unfoldable pub coordinate_in : Text → Option ℕ
 coordinate_in text = up_to 65535 (number_in text)
+
+-- how many threads build a database: a number from 1 to 64
+unfoldable pub workers_in : Text → Option ℕ
+workers_in text = not_zero (up_to MAX_WORKERS (number_in text))
+
+-- an order of cells
+abbrev pub order_in : Text → Option OrderKind
+order_in text = if bytes_eq text (codes "rows") then Some Rows
+    else if bytes_eq text (codes "dfs") then Some Dfs else None
 
 -- the name of a file: any text that is not empty
 abbrev pub path_in : Text → Option Text

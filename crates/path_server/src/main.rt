@@ -1,35 +1,57 @@
-//! The program `path_server`: exact best paths on grid maps, from the words of a command line to the printed answer.
+//! The program `path_server`: exact best paths on grid maps, from the words of a command line to
+//! the printed answer.
 #![tactic(auto)]
 
+mod check;
+mod commands;
+mod help;
+mod map_file;
+mod path;
 mod query;
 mod request;
 mod request_laws;
 mod route;
 mod run;
 mod status;
-mod text;
+mod system;
 mod words;
 
-use run::run;
-use std::alloc::AllocError;
+use help::{advice, argument_advice};
+use run::{refuse, run};
+use status::Status;
 use std::process::ExitCode;
 use std::{env, io};
+use system::{command_words, exit_code};
 use wire::{HostFiles, StdSink};
 
-/// Runs the command that the words ask for over the system's files and standard output. Words that are no text are a
-/// faulty command line, as no words are.
+/// Runs the command that the words ask for over the system's files and standard output, and tells
+/// on standard error what a person may do about an end other than `Done`.
 fn main(rt: HostRuntime) -> ExitCode {
     let mut files = HostFiles::new(&rt);
     let mut out = StdSink::new(&rt);
-    let status = match arguments(&rt) {
-        Ok(words) => run(rt.alloc(), words.as_slice(), &mut files, &mut out),
-        Err(_) => run(rt.alloc(), &[], &mut files, &mut out),
+    let arguments = arguments(&rt);
+    let status = match command_words(&arguments) {
+        Ok(words) => {
+            let status = run(rt.alloc(), words, &mut files, &mut out);
+            if let Ok(text) = advice(rt.alloc(), words, &status, files.reason()) {
+                tell(&rt, text.as_str());
+            }
+            status
+        }
+        Err(error) => {
+            tell(&rt, argument_advice(error));
+            refuse(rt.alloc(), &mut out, Status::from(error))
+        }
     };
-    ExitCode::from(status.code())
+    exit_code(&status)
 }
 
-/// The words after the program's own name.
+/// Puts a text on standard error. Nothing is left to do where it takes none.
+fn tell(rt: &HostRuntime, text: &str) {
+    let _ = eprint!(rt; "{text}");
+}
+
+/// All arguments, of which the first is the program's own name.
 fn arguments(rt: &HostRuntime) -> io::Result<Vec<String>> {
-    let words: Vec<String> = env::args(rt)?.skip(1).collect(rt.alloc())?;
-    Ok(words)
+    Ok(env::args(rt)?.collect(rt.alloc())?)
 }

@@ -1,7 +1,7 @@
 //! A best path, read off the costs that a search has found.
 
 ghost use Rattle.std.specs.Prelude.{◌≡◌, ◌+◌, ◌<◌, ◌≤◌, IfNone, IfOk, IfSome, Some};
-ghost use Rattle.moves.specs.Maps.{IsPassable, passable_count};
+ghost use Rattle.moves.specs.Maps.{IsPassable, IsSearchable};
 ghost use Rattle.moves.specs.Paths.{IsBest};
 ghost use Rattle.grid_search.specs.Searches.{HasSearched, cost_at};
 ghost use Rattle.path_server.specs.Routes.{IsNearer};
@@ -9,7 +9,7 @@ ghost use Rattle.moves.specs.Moves.{IsLegal};
 ghost use Rattle.root_cost.specs.declared.Cost.{Cost};
 
 use grid_search::Search;
-use moves::{Cell, Grid, Move};
+use moves::{Cell, Grid, MAX_PASSABLE, Move};
 use root_cost::Cost;
 use std::alloc::{AllocError, Global};
 
@@ -23,7 +23,7 @@ pub fn best_path(
     cost: Cost,
 ) -> Result<Vec<Move>, AllocError>
     requires searched { HasSearched grid.now goal search.now }
-    requires cells { passable_count grid.now ≤ 32768 }
+    requires cells { IsSearchable grid.now }
     requires start { IsPassable grid.now start }
     requires cost { cost_at search.now start ≡ Some cost }
     ensures { IfOk result (λ moves. IsBest grid.now start moves.items goal) }
@@ -53,7 +53,7 @@ struct Step {
 /// A step that begins a best path from the cell; `None` at the search's source alone.
 fn onward(grid: &Grid, search: &Search, goal: Cell, at: Cell, cost: Cost) -> Option<Step>
     requires searched { HasSearched grid.now goal search.now }
-    requires cells { passable_count grid.now ≤ 32768 }
+    requires cells { IsSearchable grid.now }
     requires passable { IsPassable grid.now at }
     requires cost { cost_at search.now at ≡ Some cost }
     ensures legal { IfSome result (λ step. IsLegal grid.now at step.by step.next) }
@@ -69,11 +69,13 @@ fn onward(grid: &Grid, search: &Search, goal: Cell, at: Cell, cost: Cost) -> Opt
     None
 }
 
-/// What a best path from the next cell costs, where that cell is just one step nearer to the search's source.
+/// What a best path from the next cell costs, where that cell is just one step nearer to the
+/// search's source.
 fn rest_after(search: &Search, cost: Cost, by: Move, next: Cell) -> Option<Cost>
     requires column { next.x < search.now.width }
     requires row { next.y < search.now.height }
-    requires small { IfSome (cost_at search.now next) (λ rest. rest.straight + rest.diagonal < 32768) }
+    requires small { IfSome (cost_at search.now next)
+        (λ rest. rest.straight + rest.diagonal < MAX_PASSABLE) }
     ensures nearer { IfSome result (IsNearer search.now cost by next) }
     ensures no_nearer { IfNone result ((rest : Cost) → IsNearer search.now cost by next rest → ⊥) }
 {

@@ -1,13 +1,14 @@
 //! How the program ends.
 
-ghost use Rattle.std.specs.Prelude.{◌≡◌};
-ghost use Rattle.path_server.specs.Answers.{status_code};
+ghost use Rattle.std.specs.Prelude.{◌≡◌, IfOk, string_bytes};
+ghost use Rattle.path_server.specs.Statuses.{status_code, status_text};
 
 use crate::query::QueryRefusal;
 use crate::request::RequestError;
 use map_read::MapFault;
-use std::alloc::AllocError;
+use std::alloc::{AllocError, Global};
 use std::fmt;
+use std::fmt::Write;
 
 /// How a run ends.
 #[derive(Clone, Copy, Debug, Drop, PartialEq, Eq)]
@@ -74,9 +75,10 @@ impl From<QueryRefusal> for Status {
 }
 
 impl From<RequestError> for Status {
-    ghost use Rattle.path_server.specs.Causes.{IsRequestStatus};
+    ghost use Rattle.std.specs.Prelude.{◌≡◌};
+    ghost use Rattle.path_server.specs.Statuses.{status_of};
 
-    ghost from_gives = { IsRequestStatus };
+    ghost from_gives = { λ error status. status ≡ status_of error };
 
     fn from(error: RequestError) -> Status {
         match error {
@@ -86,10 +88,11 @@ impl From<RequestError> for Status {
     }
 }
 
-/// The line that is printed of the status, without its end; nothing where the work was done or the output fails.
+/// The line that is printed of the status, without its end; nothing where the work was done or the
+/// output fails.
 impl fmt::Display for Status {
     ghost use Rattle.std.specs.Prelude.{Some};
-    ghost use Rattle.path_server.specs.Answers.{status_words};
+    ghost use Rattle.path_server.specs.Statuses.{status_words};
 
     ghost output = { λ status. Some (status_words status) };
 
@@ -104,4 +107,13 @@ impl fmt::Display for Status {
             Status::TooLong { limit } => write!(f, "file too long: {limit}"),
         }
     }
+}
+
+/// The line of a status.
+pub fn status_text(alloc: Global, status: &Status) -> Result<String, AllocError>
+    ensures { IfOk result (λ text. string_bytes text ≡ status_text status.now) }
+{
+    let mut text = String::new(alloc);
+    write!(text, "{status}\n")?;
+    Ok(text)
 }

@@ -1,8 +1,13 @@
-//! The words of a command, read by clap, and the values that they may be.
+//! The values that a word of a command may be.
 ghost use Rattle.std.specs.Prelude.{◌≡◌, option_map};
 ghost use Rattle.std.specs.Char.{is_ascii_digit};
 ghost use Rattle.std.specs.List.{list_all};
-ghost use Rattle.path_server.specs.Words.{coordinate_in, is_number, number_in, path_in};
+ghost use Rattle.path_server.specs.Words.{coordinate_in, is_number, number_in, order_in, path_in, workers_in};
+
+use cell_order::OrderKind;
+
+/// How many threads may build a database at most.
+pub const MAX_WORKERS: u32 = 64;
 
 /// Whether the text is one to ten decimal digits and nothing else.
 fn is_number(text: &str) -> bool
@@ -36,6 +41,32 @@ pub fn coordinate(text: &str) -> Option<u16>
     ensures { result ≡ coordinate_in text.now }
 {
     u16::try_from(number(text)?).ok()
+}
+
+/// The number of threads that the text spells, from 1 to 64; `None` exactly where it is no number
+/// or another one.
+#[tactic(auto, unfolding(crate::specs::Words::workers_in))]
+pub fn workers(text: &str) -> Option<u32>
+    ensures { result ≡ workers_in text.now }
+{
+    let count = number(text)?;
+    if count > MAX_WORKERS as u64 || count == 0 {
+        return None;
+    }
+    Some(count as u32)
+}
+
+/// The order that the text names; `None` exactly where it is neither `rows` nor `dfs`.
+pub fn order(text: &str) -> Option<OrderKind>
+    ensures { result ≡ order_in text.now }
+{
+    if text == "rows" {
+        Some(OrderKind::Rows)
+    } else if text == "dfs" {
+        Some(OrderKind::Dfs)
+    } else {
+        None
+    }
 }
 
 /// The name of a file: any text that is not empty.

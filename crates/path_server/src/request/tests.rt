@@ -1,4 +1,6 @@
-use crate::request::{Request, RequestError, read_request};
+//! What command lines ask for.
+use crate::request::{BuildOptions, Request, RequestError, read_request};
+use cell_order::OrderKind;
 use moves::Cell;
 use std::alloc::{AllocError, Global};
 use std::test::Fail;
@@ -12,7 +14,17 @@ fn words_of(alloc: Global, line: &str) -> Result<Vec<String>, AllocError> {
     Ok(words)
 }
 
-fn path<'a>(map: &'a str, start: (u16, u16), goal: (u16, u16)) -> Request<'a> {
+/// Without options: row by row, on one thread.
+const STANDARD: BuildOptions = BuildOptions {
+    order: OrderKind::Rows,
+    workers: 1,
+};
+
+fn options(order: OrderKind, workers: u32) -> BuildOptions {
+    BuildOptions { order, workers }
+}
+
+fn path<'a>(map: &'a str, start: (u16, u16), goal: (u16, u16), build: BuildOptions) -> Request<'a> {
     Request::Path {
         map,
         start: Cell {
@@ -23,26 +35,62 @@ fn path<'a>(map: &'a str, start: (u16, u16), goal: (u16, u16)) -> Request<'a> {
             x: goal.0,
             y: goal.1,
         },
+        build,
     }
+}
+
+fn check<'a>(map: &'a str, build: BuildOptions) -> Request<'a> {
+    Request::Check { map, build }
 }
 
 #[test]
 fn takes_the_words(rt: HostRuntime) -> Result<(), Fail> {
+    use OrderKind::{Dfs, Rows};
+    let short = (0, 0);
     let cases = [
-        ("path|m.map|0|1|2|3|", path("m.map", (0, 1), (2, 3))),
+        (
+            "path|m.map|0|1|2|3|",
+            path("m.map", (0, 1), (2, 3), STANDARD),
+        ),
         (
             "path|m.map|65535|0|0000000007|0065535|",
-            path("m.map", (65535, 0), (7, 65535)),
+            path("m.map", (65535, 0), (7, 65535), STANDARD),
         ),
-        ("path|-|0|0|1|1|", path("-", (0, 0), (1, 1))),
-        ("path|a map|0|0|1|1|", path("a map", (0, 0), (1, 1))),
+        ("path|-|0|0|1|1|", path("-", short, (1, 1), STANDARD)),
+        (
+            "path|a map|0|0|1|1|",
+            path("a map", short, (1, 1), STANDARD),
+        ),
         // what follows `--` is no option
-        ("path|--|m.map|0|0|1|1|", path("m.map", (0, 0), (1, 1))),
-        ("path|--|-x|0|0|1|1|", path("-x", (0, 0), (1, 1))),
-        ("path|m.map|0|0|1|1|--|", path("m.map", (0, 0), (1, 1))),
-        ("check|path|", Request::Check { map: "path" }),
-        ("check|-|", Request::Check { map: "-" }),
-        ("check|--|--help|", Request::Check { map: "--help" }),
+        (
+            "path|--|m.map|0|0|1|1|",
+            path("m.map", short, (1, 1), STANDARD),
+        ),
+        ("path|--|-x|0|0|1|1|", path("-x", short, (1, 1), STANDARD)),
+        (
+            "path|m.map|0|0|1|1|--|",
+            path("m.map", short, (1, 1), STANDARD),
+        ),
+        ("check|path|", check("path", STANDARD)),
+        ("check|-|", check("-", STANDARD)),
+        ("check|--|--help|", check("--help", STANDARD)),
+        ("check|--|--order|", check("--order", STANDARD)),
+        // options stand anywhere
+        ("check|m.map|--order|dfs|", check("m.map", options(Dfs, 1))),
+        ("check|--order=dfs|m.map|", check("m.map", options(Dfs, 1))),
+        ("check|m.map|--order|rows|", check("m.map", STANDARD)),
+        (
+            "check|--workers|64|m.map|",
+            check("m.map", options(Rows, 64)),
+        ),
+        (
+            "check|m.map|--workers=0000000007|",
+            check("m.map", options(Rows, 7)),
+        ),
+        (
+            "path|m.map|0|0|--workers|2|1|--order|dfs|1|",
+            path("m.map", short, (1, 1), options(Dfs, 2)),
+        ),
     ];
     for (line, wanted) in cases {
         let words = words_of(rt.alloc(), line)?;
@@ -87,10 +135,23 @@ fn refuses_the_words(rt: HostRuntime) -> Result<(), Fail> {
         "path|m.map|1.0|0|1|1|",
         "path|m.map|--|-1|0|1|1|",
         // options
-        "path|--order|rows|m.map|0|0|1|1|",
-        "path|m.map|0|0|1|1|--order|rows|",
-        "path|m.map|0|0|1|1|--workers|2|",
-        "path|m.map|0|0|1|1|--workers=2|",
+        "path|m.map|0|0|1|1|--order|",
+        "path|m.map|0|0|1|1|--order|Rows|",
+        "path|m.map|0|0|1|1|--order=|",
+        "path|m.map|0|0|1|1|--orders|rows|",
+        "path|m.map|0|0|1|1|--ord|rows|",
+        "path|m.map|0|0|1|1|-o|rows|",
+        "path|m.map|0|0|1|1|--order|rows|--order|rows|",
+        "path|--order|rows|m.map|0|0|1|1|--order=dfs|",
+        "path|m.map|0|0|1|1|--workers|",
+        "path|m.map|0|0|1|1|--workers|0|",
+        "path|m.map|0|0|1|1|--workers|65|",
+        "path|m.map|0|0|1|1|--workers|00000000001|",
+        "path|m.map|0|0|1|1|--workers|two|",
+        "path|m.map|0|0|1|1|--workers=2|--workers=2|",
+        "path|m.map|0|0|1|1|--room|2|",
+        "--order|rows|check|m.map|",
+        "check|--order|m.map|",
         "path|--help|",
         "path|m.map|0|0|1|1|-h|",
         "path|--version|",

@@ -1,6 +1,7 @@
 //! Whole runs, over one file in memory and output in memory.
 use crate::run::run;
 use crate::status::Status;
+use map_read::MAX_MAP_BYTES;
 use std::alloc::{AllocError, Global};
 use std::test::Fail;
 use wire::{MemFiles, MemSink};
@@ -44,153 +45,60 @@ fn run_over(
     Ok((status, out))
 }
 
+/// Lines that end with a line feed each, from a text with a semicolon after each.
+fn lines_of(alloc: Global, text: &str) -> Result<Vec<u8>, AllocError> {
+    let mut lines = Vec::with_capacity(alloc, text.len())?;
+    for byte in text.bytes() {
+        lines.push(if byte == b';' { b'\n' } else { byte })?;
+    }
+    Ok(lines)
+}
+
+/// The sides and rows of `M`, the words, the exit status, and the text.
+const RUNS: &str = "\
+height 1,width 3 | ... | path M 0 0 2 0 | 0 | cost 2 0;length 2.000000;moves E E;
+height 2,width 2 | ../.. | path M 0 0 1 1 | 0 | cost 0 1;length 1.414213;moves SE;
+height 2,width 2 | .@/.. | path M 0 0 1 1 | 0 | cost 2 0;length 2.000000;moves S E;
+height 2,width 2 | .@/@. | path M 0 0 1 1 | 0 | unreachable;
+height 1,width 3 | ... | path M 1 0 1 0 | 0 | cost 0 0;length 0.000000;moves;
+height 1,width 3 | ... | path M 0000000002 0 0 00 | 0 | cost 2 0;length 2.000000;moves W W;
+height 1,width 3 | ... | path --order dfs M 0 0 1 0 --workers=64 | 0 | cost 1 0;length 1.000000;moves E;
+height 1,width 3 | ... | check M | 0 | size 3 1;cells 3;
+height 1,width 2 | @@ | check M | 0 | size 2 1;cells 0;
+width 2,height 2 | G@/TS | check M --order rows | 0 | size 2 2;cells 2;
+height 1,width 2 | @@ | path M 0 0 1 0 | 4 | blocked start;
+height 1,width 2 | @@ | path M 2 0 0 0 | 4 | outside start;
+height 1,width 3 | .@. | path M 0 0 1 0 | 4 | blocked goal;
+height 1,width 3 | .@. | path M 0 0 0 1 | 4 | outside goal;
+height 1,width 3 | .@. | path M 1 0 3 0 | 4 | blocked start;
+height 1,width 3 | .@. | path M 65535 65535 1 0 | 4 | outside start;
+height 1,width 4 | ...W | path M 0 0 1 0 | 2 | map refused: water at 3 0;
+height 1,width 3 | .. | check M | 2 | map refused: line 5 has 2 cells, not 3;
+height 3,width 1 | ./. | check M | 2 | map refused: 2 rows found;
+height 0,width 1 | . | path M 9 9 9 9 | 2 | map refused: size at line 2;
+height 1,height 1 | . | check M | 2 | map refused: header at line 3;
+height 1,width 3 | .x. | check M | 2 | map refused: byte 120 at 1 0;
+height 1,width 3 | .../x | check M | 2 | map refused: extra line 6;
+height 1,width 3 | ... | path N 0 0 2 0 | 5 | read fault;
+height 1,width 3 | ... |  | 1 | usage: path check scen made replay talk serve ask;
+height 1,width 3 | ... | talk M | 1 | usage: path check scen made replay talk serve ask;
+height 1,width 3 | ... | path M 0 0 2 | 1 | usage: path check scen made replay talk serve ask;
+height 1,width 3 | ... | check M --workers 65 | 1 | usage: path check scen made replay talk serve ask;
+";
+
 #[test]
 fn answers_have_their_texts(rt: HostRuntime) -> Result<(), Fail> {
     let alloc = rt.alloc();
-    let (three, four) = ("height 1,width 3", "height 2,width 2");
-    // The sides and rows of `M`, the words, the exit status, and the text.
-    let table = [
-        (
-            three,
-            "...",
-            "path M 0 0 2 0",
-            0,
-            "cost 2 0\nlength 2.000000\nmoves E E\n",
-        ),
-        (
-            four,
-            "../..",
-            "path M 0 0 1 1",
-            0,
-            "cost 0 1\nlength 1.414213\nmoves SE\n",
-        ),
-        (
-            four,
-            ".@/..",
-            "path M 0 0 1 1",
-            0,
-            "cost 2 0\nlength 2.000000\nmoves S E\n",
-        ),
-        (four, ".@/@.", "path M 0 0 1 1", 0, "unreachable\n"),
-        (
-            three,
-            "...",
-            "path M 1 0 1 0",
-            0,
-            "cost 0 0\nlength 0.000000\nmoves\n",
-        ),
-        (
-            three,
-            "...",
-            "path M 0000000002 0 0 00",
-            0,
-            "cost 2 0\nlength 2.000000\nmoves W W\n",
-        ),
-        (three, "...", "check M", 0, "size 3 1\ncells 3\n"),
-        (
-            "height 1,width 2",
-            "@@",
-            "check M",
-            0,
-            "size 2 1\ncells 0\n",
-        ),
-        (
-            "width 2,height 2",
-            "G@/TS",
-            "check M",
-            0,
-            "size 2 2\ncells 2\n",
-        ),
-        (
-            "height 1,width 2",
-            "@@",
-            "path M 0 0 1 0",
-            4,
-            "blocked start\n",
-        ),
-        (
-            "height 1,width 2",
-            "@@",
-            "path M 2 0 0 0",
-            4,
-            "outside start\n",
-        ),
-        (three, ".@.", "path M 0 0 1 0", 4, "blocked goal\n"),
-        (three, ".@.", "path M 0 0 0 1", 4, "outside goal\n"),
-        (three, ".@.", "path M 1 0 3 0", 4, "blocked start\n"),
-        (three, ".@.", "path M 65535 65535 1 0", 4, "outside start\n"),
-        (
-            "height 1,width 4",
-            "...W",
-            "path M 0 0 1 0",
-            2,
-            "map refused: water at 3 0\n",
-        ),
-        (
-            three,
-            "..",
-            "check M",
-            2,
-            "map refused: line 5 has 2 cells, not 3\n",
-        ),
-        (
-            "height 3,width 1",
-            "./.",
-            "check M",
-            2,
-            "map refused: 2 rows found\n",
-        ),
-        (
-            "height 0,width 1",
-            ".",
-            "path M 9 9 9 9",
-            2,
-            "map refused: size at line 2\n",
-        ),
-        (
-            "height 1,height 1",
-            ".",
-            "check M",
-            2,
-            "map refused: header at line 3\n",
-        ),
-        (three, ".x.", "check M", 2, "map refused: byte 120 at 1 0\n"),
-        (three, ".../x", "check M", 2, "map refused: extra line 6\n"),
-        (three, "...", "path N 0 0 2 0", 5, "read fault\n"),
-        (
-            three,
-            "...",
-            "",
-            1,
-            "usage: path check scen made replay talk serve ask\n",
-        ),
-        (
-            three,
-            "...",
-            "talk M",
-            1,
-            "usage: path check scen made replay talk serve ask\n",
-        ),
-        (
-            three,
-            "...",
-            "path M 0 0 2",
-            1,
-            "usage: path check scen made replay talk serve ask\n",
-        ),
-        (
-            three,
-            "...",
-            "check M --order rows",
-            1,
-            "usage: path check scen made replay talk serve ask\n",
-        ),
-    ];
-    for (sides, rows, line, code, text) in table {
-        let mut files = one_file(alloc, map_text(alloc, sides, rows)?, &[])?;
-        let (status, out) = run_over(alloc, line, &mut files, &[])?;
-        assert_eq!(rt; status.code(), code, "{line} on {rows}");
-        assert_eq!(rt; out.bytes(), text.as_bytes(), "{line} on {rows}");
+    for case in RUNS.lines() {
+        let fields: Vec<&str> = case.split(" | ").collect(alloc)?;
+        assert_eq!(rt; fields.len(), 5, "{case}");
+        if let [sides, rows, line, code, text] = fields.as_slice() {
+            let mut files = one_file(alloc, map_text(alloc, sides, rows)?, &[])?;
+            let (status, out) = run_over(alloc, line, &mut files, &[])?;
+            let lines = lines_of(alloc, text)?;
+            assert_eq!(rt; code.parse().ok(), Some(status.code()), "{case}");
+            assert_eq!(rt; out.bytes(), lines.as_slice(), "{case}");
+        }
     }
     Ok(())
 }
@@ -227,12 +135,12 @@ fn faults_are_told(rt: HostRuntime) -> Result<(), Fail> {
 fn long_files_are_refused(rt: HostRuntime) -> Result<(), Fail> {
     let alloc = rt.alloc();
     let mut bytes = map_text(alloc, "height 1,width 3", "...")?;
-    bytes.resize(2_097_152, b'\n')?;
+    bytes.resize(MAX_MAP_BYTES, b'\n')?;
     let mut files = one_file(alloc, bytes, &[])?;
     let (status, out) = run_over(alloc, "check M", &mut files, &[])?;
     assert_eq!(rt; status, Status::Done);
     assert_eq!(rt; out.bytes(), b"size 3 1\ncells 3\n".as_slice());
-    let longer = vec![in alloc; b'\n'; 2_097_153]?;
+    let longer = vec![in alloc; b'\n'; MAX_MAP_BYTES + 1]?;
     let mut files = one_file(alloc, longer, &[])?;
     let (status, out) = run_over(alloc, "path M 0 0 2 0", &mut files, &[])?;
     assert_eq!(rt; status, Status::TooLong { limit: 2_097_152 });

@@ -1,5 +1,5 @@
 -- One step more, and at the end the path is whole.
-use Rattle.path_server.proofs.Routing.{underway_none, underway_more, underway_all, left_falls}
+use Rattle.path_server.proofs.Routing.{underway_more, underway_all}
 use Rattle.path_server.proofs.route.best_path.Goals as goal
 
 pub loop-step-preserved : goal.loop-step-preserved

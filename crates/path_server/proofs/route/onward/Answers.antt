@@ -1,5 +1,5 @@
 -- One neighbour more is no nearer, and at the end none is.
-use Rattle.std.proofs.Common.{◌≡◌, ◌+◌, get_or, inl, inr, subst, arith}
+use Rattle.std.proofs.Common.{◌≡◌, get_or, inl, inr, subst, arith}
 use Rattle.std.proofs.lemmas.Bool.{cases_lt}
 use Rattle.std.specs.Prelude.{All}
 use Rattle.std.proofs.lemmas.List.{get_or_default}

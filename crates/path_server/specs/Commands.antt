@@ -1,0 +1,74 @@
+-- The commands of the program, a line each: the name, and the arguments and options.
+use Rattle.std.specs.Prelude.{List, [], ◌∷◌, ◌++◌, Bool, Option, None, is_some, codes, find, map}
+use Rattle.std.specs.Str.{bytes_eq}
+use Rattle.clap.specs.Walk.{Rule, Text}
+use Rattle.clap.specs.Simple.{App}
+use Rattle.path_server.specs.declared.commands.Verb.{Verb}
+use Rattle.path_server.specs.declared.commands.Verb.TheVariants.{Path, Check}
+use Rattle.path_server.specs.declared.commands.Field.{Field}
+use Rattle.path_server.specs.declared.commands.Field.TheVariants.{Argument, Setting}
+use Rattle.path_server.specs.declared.commands.Value.{Value}
+use Rattle.path_server.specs.declared.commands.Value.TheVariants as value
+use Rattle.path_server.specs.Words.{command_app, coordinate_in, option_rule, order_in, path_in}
+use Rattle.path_server.specs.Words.{required_rule, workers_in}
+
+-- what clap reads of an argument or option
+abbrev pub rule_for : Field → Rule
+rule_for (Argument id form) = required_rule id.now
+rule_for (Setting id form) = option_rule id.now
+
+-- the text is such a value
+abbrev pub is_value : Value → Text → Bool
+is_value value.File text = is_some (path_in text)
+is_value value.Coordinate text = is_some (coordinate_in text)
+is_value value.Order text = is_some (order_in text)
+is_value value.Workers text = is_some (workers_in text)
+
+-- how a value is shown
+abbrev pub form_text : Value → Text
+form_text value.File = codes "FILE"
+form_text value.Coordinate = codes "N"
+form_text value.Order = codes "rows|dfs"
+form_text value.Workers = codes "N"
+
+-- how an argument or option is shown
+abbrev pub field_text : Field → Text
+field_text (Argument id form) = codes " " ++ id.now
+field_text (Setting id form) = codes " [--" ++ id.now ++ codes " " ++ form_text form ++ codes "]"
+
+-- arguments of these names, and how a database is built
+abbrev pub with_build : List Text → List Rule
+with_build arguments =
+    map required_rule arguments ++ option_rule (codes "order") ∷ option_rule (codes "workers") ∷ []
+
+abbrev pub verbs : List Verb
+verbs = Path ∷ Check ∷ []
+
+-- the word that names the command
+abbrev pub verb_name : Verb → Text
+verb_name Path = codes "path"
+verb_name Check = codes "check"
+
+-- its arguments in order, and its options
+abbrev pub verb_rules : Verb → List Rule
+verb_rules Path =
+    with_build (codes "MAP" ∷ codes "SX" ∷ codes "SY" ∷ codes "GX" ∷ codes "GY" ∷ [])
+verb_rules Check = with_build (codes "MAP" ∷ [])
+
+-- how they are shown
+abbrev pub verb_synopsis : Verb → Text
+verb_synopsis Path = codes " MAP SX SY GX GY [--order rows|dfs] [--workers N]"
+verb_synopsis Check = codes " MAP [--order rows|dfs] [--workers N]"
+
+-- the command as clap reads it
+unfoldable pub app_for : Verb → App
+app_for verb = command_app (verb_name verb) (verb_rules verb)
+
+-- the command of this name, byte by byte
+unfoldable pub verb_named : Text → Option Verb
+verb_named name = find (λ verb. bytes_eq (verb_name verb) name) verbs
+
+-- the command that the first word names
+abbrev pub verb_of : List Text → Option Verb
+verb_of [] = None
+verb_of (name ∷ rest) = verb_named name

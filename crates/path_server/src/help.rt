@@ -1,0 +1,266 @@
+//! What a person is told on standard error, beside the line on standard output: what is wrong with
+//! the words or with the file, and what would be right.
+
+ghost use Rattle.std.specs.Prelude.{◌≡◌, ◌++◌, [], IfOk, codes, flat_map, string_bytes};
+ghost use Rattle.path_server.specs.Commands.{field_text, verb_name, verb_synopsis};
+ghost use Rattle.path_server.specs.Texts.{line};
+
+use crate::commands::{Field, Verb, command};
+use crate::query::{End, QueryRefusal};
+use crate::request::{Request, RequestError, first_verb, read_request};
+use crate::status::Status;
+use clap::ArgMatches;
+use map_read::MapFault;
+use moves::{Cell, MAX_CELLS, MAX_PASSABLE, MAX_SIDE};
+use std::alloc::{AllocError, Global};
+use std::fmt::Write;
+use std::io::ErrorKind;
+
+/// What to tell of a run over these words that ended so; `reason` is why the last file was not
+/// read. The text is empty where the work was done, and ends with a line feed where it is not.
+pub fn advice(
+    alloc: Global,
+    words: &[String],
+    status: &Status,
+    reason: Option<ErrorKind>,
+) -> Result<String, AllocError>
+    ensures { status.now ≡ Status.Done → IfOk result (λ text. string_bytes text ≡ []) }
+{
+    let mut text = String::new(alloc);
+    match (status, read_request(alloc, words)) {
+        (Status::Done, _) => {}
+        (Status::Usage, _) => push_usage(&mut text, alloc, words)?,
+        (Status::NoMemory, _) => text.push_str("path_server: out of memory\n")?,
+        (Status::WriteFault, _) => text.push_str("path_server: the output failed\n")?,
+        (_, Ok(request)) => push_on_file(&mut text, request, status, reason)?,
+        (_, Err(_)) => {}
+    }
+    Ok(text)
+}
+
+/// What to tell where the arguments could not be read.
+pub fn argument_advice(error: RequestError) -> &'static str {
+    match error {
+        RequestError::Usage => "path_server: an argument is not UTF-8 text\n",
+        RequestError::NoMemory => "path_server: out of memory\n",
+    }
+}
+
+/// What is wrong with the file that was asked for, or with the query of it.
+fn push_on_file(
+    text: &mut String,
+    request: Request,
+    status: &Status,
+    reason: Option<ErrorKind>,
+) -> Result<(), AllocError> {
+    let file = request.map();
+    match status {
+        Status::ReadFault => push_read_fault(text, file, reason),
+        Status::TooLong { limit } => write!(text, "{file}: expected at most {limit} bytes\n"),
+        Status::Map(fault) => push_map_fault(text, file, *fault),
+        Status::Query(refusal) => push_refusal(text, file, request, *refusal),
+        _ => Ok(()),
+    }
+}
+
+// ---- files
+
+/// Why the file was not read.
+fn push_read_fault(
+    text: &mut String,
+    file: &str,
+    reason: Option<ErrorKind>,
+) -> Result<(), AllocError> {
+    match reason {
+        Some(ErrorKind::NotFound) => write!(text, "path_server: {file}: no such file\n"),
+        Some(reason) => write!(text, "path_server: {file}: {reason}\n"),
+        None => write!(text, "path_server: {file}: it cannot be read\n"),
+    }
+}
+
+/// How many lines stand before the first row of a map, and 1 more: lines are numbered from 1.
+const FIRST_ROW: u32 = 5;
+
+/// The line at which a map is refused, and what was expected there.
+fn push_map_fault(text: &mut String, file: &str, fault: MapFault) -> Result<(), AllocError> {
+    let line = fault_line(fault);
+    write!(text, "{file}:{line}: expected ")?;
+    match fault {
+        MapFault::Header { line: 1 } => text.push_str("'type octile'\n"),
+        MapFault::Header { line: 4 } => text.push_str("'map'\n"),
+        MapFault::Header { .. } => text.push_str("'height H' and 'width W', in either order\n"),
+        MapFault::Size { .. } => {
+            write!(
+                text,
+                "sides from 1 to {MAX_SIDE} and at most {MAX_CELLS} cells\n"
+            )
+        }
+        MapFault::RowLength {
+            expected,
+            found,
+            ..
+        } => write!(text, "{expected} cells, found {found}\n"),
+        MapFault::BadCell { x, byte, .. } => {
+            write!(
+                text,
+                "one of . G S @ O T at column {x}, found byte {byte}\n"
+            )
+        }
+        MapFault::Water { x, .. } => {
+            write!(text, "one of . G S @ O T at column {x}, found water (W)\n")
+        }
+        MapFault::MissingRows { found } => write!(text, "a row, found {found} rows\n"),
+        MapFault::Extra { .. } => text.push_str("nothing after the last row\n"),
+        MapFault::TooManyCells { x, .. } => {
+            write!(
+                text,
+                "at most {MAX_PASSABLE} passable cells, one more at column {x}\n"
+            )
+        }
+    }
+}
+
+/// The line of the file, from 1 on, at which a map is refused.
+fn fault_line(fault: MapFault) -> u32 {
+    match fault {
+        MapFault::Header { line } | MapFault::Size { line } => line,
+        MapFault::RowLength { line, .. } | MapFault::Extra { line } => line,
+        MapFault::BadCell { y, .. } | MapFault::Water { y, .. } => u32::from(y) + FIRST_ROW,
+        MapFault::TooManyCells { y, .. } => u32::from(y) + FIRST_ROW,
+        MapFault::MissingRows { found } => found.saturating_add(FIRST_ROW),
+    }
+}
+
+/// Which end of a query is refused, and why.
+fn push_refusal(
+    text: &mut String,
+    file: &str,
+    request: Request,
+    refusal: QueryRefusal,
+) -> Result<(), AllocError> {
+    let (which, why) = match refusal {
+        QueryRefusal::Outside { which } => (which, "lies outside the map"),
+        QueryRefusal::Blocked { which } => (which, "is blocked"),
+    };
+    match (request, which) {
+        (Request::Path { start, .. }, End::Start) => push_end(text, file, "start", start, why),
+        (Request::Path { goal, .. }, End::Goal) => push_end(text, file, "goal", goal, why),
+        (Request::Check { .. }, _) => Ok(()),
+    }
+}
+
+/// One end of a query, and why it is refused.
+fn push_end(
+    text: &mut String,
+    file: &str,
+    end: &str,
+    cell: Cell,
+    why: &str,
+) -> Result<(), AllocError> {
+    let Cell { x, y } = cell;
+    write!(text, "{file}: the {end}, ")?;
+    write!(text, "column {x} and row {y}, {why}\n")
+}
+
+// ---- words
+
+/// What is wrong with the words, and what the command that they name takes; where they name none,
+/// what there is.
+fn push_usage(text: &mut String, alloc: Global, words: &[String]) -> Result<(), AllocError> {
+    match (first_verb(words), words.first()) {
+        (Some(verb), _) => {
+            push_wrong_word(text, alloc, verb, words)?;
+            push_synopsis(text, "usage: ", verb)
+        }
+        (None, Some(name)) => {
+            write!(text, "path_server: '{name}' is no command; there are:\n")?;
+            push_commands(text)
+        }
+        (None, None) => {
+            text.push_str("path_server: no command is named; there are:\n")?;
+            push_commands(text)
+        }
+    }
+}
+
+/// Each command, a line each.
+fn push_commands(text: &mut String) -> Result<(), AllocError> {
+    for verb in Verb::ALL {
+        push_synopsis(text, "  ", verb)?;
+    }
+    Ok(())
+}
+
+/// The line of a command, with its arguments and options, after some text.
+fn push_synopsis(text: &mut String, before: &str, verb: Verb) -> Result<(), AllocError>
+    ensures { IfOk result (λ _. string_bytes text.new ≡ string_bytes text.old ++ line
+        (before.now ++ codes "path_server " ++ verb_name verb ++ verb_synopsis verb)) }
+{
+    text.push_str(before)?;
+    text.push_str("path_server ")?;
+    text.push_str(verb.name())?;
+    push_fields(text, verb.fields())?;
+    text.push_str("\n")
+}
+
+/// The arguments and options.
+fn push_fields(text: &mut String, fields: &[Field]) -> Result<(), AllocError>
+    ensures { IfOk result (λ _.
+        string_bytes text.new ≡ string_bytes text.old ++ flat_map field_text fields.now) }
+{
+    for field in fields {
+        write!(text, "{field}")?;
+    }
+    Ok(())
+}
+
+/// Which word is wrong, and why.
+fn push_wrong_word(
+    text: &mut String,
+    alloc: Global,
+    verb: Verb,
+    words: &[String],
+) -> Result<(), AllocError> {
+    let name = verb.name();
+    match command(alloc, verb)?.try_get_matches_from(words) {
+        Ok(matches) => push_wrong_value(text, verb, &matches),
+        Err(error) => {
+            write!(text, "path_server {name}:")?;
+            let message = format!(in alloc; "{error}")?;
+            push_first_part(text, message.as_str())
+        }
+    }
+}
+
+/// The message of a refusal up to its first empty line, in one line and without its first word.
+fn push_first_part(text: &mut String, message: &str) -> Result<(), AllocError> {
+    for line in message.split('\n') {
+        let line = line.trim();
+        if line.is_empty() {
+            break;
+        }
+        text.push_str(" ")?;
+        text.push_str(line.strip_prefix("error: ").unwrap_or(line))?;
+    }
+    text.push_str("\n")
+}
+
+/// The first value that does not pass its reader, and what it should be.
+fn push_wrong_value(
+    text: &mut String,
+    verb: Verb,
+    matches: &ArgMatches<'_>,
+) -> Result<(), AllocError> {
+    let name = verb.name();
+    for field in verb.fields() {
+        let (Field::Argument(id, value) | Field::Setting(id, value)) = *field;
+        if let Some(word) = matches.get_str(id) {
+            if !value.takes(word) {
+                let wanted = value.wanted();
+                write!(text, "path_server {name}: ")?;
+                return write!(text, "{id}: '{word}' is not {wanted}\n");
+            }
+        }
+    }
+    Ok(())
+}
