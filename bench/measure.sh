@@ -1,14 +1,31 @@
-# Sourced by the scripts of this folder, which run in the root of the repository: it builds the C++ twins, compares check
-# sums and measures user times. A COMMAND is a string of words without quotes, in which {} stands for a number of repeats.
+# Sourced by bench/run, in the root of the repository: builds our program and the C++ twins, compares check sums and
+# measures user times. A COMMAND is a string of words without quotes, in which {} stands for a number of repeats.
 # shellcheck shell=bash
 set -o pipefail
 shopt -s inherit_errexit
 export LC_ALL=C
 
-# Compiles bench/NAME.cpp to bench/build/NAME: NAME
-build() {
+# our program, and how often each command is run
+# shellcheck disable=SC2034
+ours=crates/bench/out/bench
+rounds=${ROUNDS:-15}
+
+# Proves and builds our program; what `rt` prints is shown where that fails.
+build_ours() {
+    local log=bench/build/ours.log
     mkdir -p bench/build
-    g++ -O3 -march=x86-64-v2 -o "bench/build/$1" "bench/$1.cpp"
+    if ! (cd crates/bench && rt run -- order 0) >"$log" 2>&1 </dev/null; then
+        tail -n 20 "$log" >&2
+        exit 1
+    fi
+}
+
+# Compiles bench/NAME.cpp to bench/build/NAME, where a source is newer: NAME
+build_twin() {
+    local twin=bench/build/$1
+    if [[ ! -x $twin || -n $(find bench -maxdepth 1 -name '*.[ch]pp' -newer "$twin") ]]; then
+        g++ -O3 -march=x86-64-v2 -o "$twin" "bench/$1.cpp"
+    fi
 }
 
 # Runs a command with so many repeats: COMMAND N
@@ -37,14 +54,14 @@ user_time() {
     { time repeated "$@" >/dev/null 2>&3; } 3>&2 2>&1
 }
 
-# In each round every command runs in turn with N repeats, and then every one with 2N. A round's figure is the difference
-# of a command's two user times, so that starting up and all that is done once are left out. Prints a line for each command:
-# the median of the rounds, in nanoseconds an item. ITEMS is how many items the N repeats have, one number for all commands
-# or one for each; ROUNDS is odd: ROUNDS N ITEMS COMMAND..
+# In each round every command runs in turn with N repeats, and then every one with 2N. A round's figure is the
+# difference of a command's two user times, so that starting up and all that is done once are left out. Prints a line
+# for each command: the median of the rounds, in nanoseconds an item. ITEMS is how many items the N repeats have, one
+# number for all commands or one for each: N ITEMS COMMAND..
 medians() {
-    local rounds=$1 n=$2 round i
-    local -a items once twice commands=("${@:4}")
-    read -ra items <<<"$3"
+    local n=$1 round i
+    local -a items once twice commands=("${@:3}")
+    read -ra items <<<"$2"
     for ((round = 0; round < rounds; round++)); do
         for i in "${!commands[@]}"; do once[i]=$(user_time "${commands[i]}" "$n"); done
         for i in "${!commands[@]}"; do twice[i]=$(user_time "${commands[i]}" $((2 * n))); done
@@ -53,8 +70,8 @@ medians() {
         awk -v rounds="$rounds" '(NR - 1) % rounds == int(rounds / 2) { print $2 }'
 }
 
-# Prints what `medians` has found in a line: ours, each twin, and the ratio of ours to it. UNIT is ns, us or ms, and the
-# names are those of the twins: WHAT UNIT NAME..
+# Prints what `medians` has found as a row of the table: ours, the twins, and the ratios of ours to them. UNIT is ns, us
+# or ms, and the names are those of the twins: WHAT UNIT NAME..
 report() {
     local IFS=,
     awk -v what="$1" -v unit="$2" -v names="${*:3}" '
@@ -66,9 +83,11 @@ report() {
         END {
             count = split(names, name, ",")
             if (NR != count + 1) exit 1
-            line = what ": Rattle " figure(cost[1])
-            for (i = 1; i <= count; i++)
-                line = line sprintf("; %s %s, ratio %.2f", name[i], figure(cost[i + 1]), cost[1] / cost[i + 1])
-            print line
+            for (i = 1; i <= count; i++) {
+                comma = i > 1 ? ", " : ""
+                twins = twins comma (count > 1 ? name[i] " " : "") figure(cost[i + 1])
+                ratios = ratios comma sprintf("%.2f", cost[1] / cost[i + 1])
+            }
+            print "| " what " | " figure(cost[1]) " | " twins " | " ratios " |"
         }'
 }

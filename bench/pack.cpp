@@ -1,8 +1,8 @@
-// The twin of crates/bench_pack: reads a row of sets from a file, packs it and looks it up.
+// The twin of the work `pack` of crates/bench: reads a row of sets from a file, packs it and looks it up.
 // Build: g++ -O3 -march=x86-64-v2 -o bench/build/pack bench/pack.cpp
 // Run: bench/build/pack FILE PACKS FINDS
-// FILE has a set a line, as `bench_pack KIND row` prints them. It packs them so often and once more, looks 32,768 places up
-// so often, and prints what bench_pack prints: the number of words, its sum over the repeats, and the sum of the moves.
+// FILE has a set a line, as `bench row KIND` prints them. It packs them so often and once more, looks 32,768 places up
+// so often, and prints the number of words, its sum over the repeats, and the sum of the moves.
 #include <cstdint>
 #include <cstdio>
 #include <cstdlib>
@@ -14,7 +14,7 @@ static uint32_t next(uint32_t state) {
     return state * 1664525u + 1013904223u;
 }
 
-// The sets in the file, one number a line, as `bench_pack KIND row` prints them.
+// The sets in the file, one number a line, as `bench row KIND` prints them.
 static std::vector<uint8_t> read_sets(const char *path) {
     std::vector<uint8_t> sets;
     FILE *file = fopen(path, "r");

@@ -1,8 +1,9 @@
-// Least costs from one cell after another on a grid map, by two queues (search.hpp) and by std's heap: twins of the crate
-// grid_search.
+// Least costs from one cell after another on a grid map, by two queues (search.hpp) and by std's heap: twins of the
+// crate grid_search.
 // Build: g++ -O3 -march=x86-64-v2 -o bench/build/search bench/search.cpp
 // Run: bench/build/search KIND HOW REPEATS    It prints a check sum.
-// KIND: open | blocked    HOW: queues | heap | sources (only counts the sources that are not blocked, and searches nothing)
+// KIND: open | blocked    HOW: queues | heap | sources (only counts the sources that are not blocked, and searches
+// nothing)
 #include "search.hpp"
 
 #include <cstdio>

@@ -1,5 +1,5 @@
-// Least costs from one cell after another on a grid map, by two queues: a plain twin of the crate grid_search. search.cpp
-// times it, and first_sets.cpp fills sets along the order that it finds, which is that of the crate.
+// Least costs from one cell after another on a grid map, by two queues: a plain twin of the crate grid_search.
+// search.cpp times it, and fill.cpp fills sets along the order that it finds, which is that of the crate.
 #pragma once
 #include "grid.hpp"
 
