@@ -1,0 +1,268 @@
+#!/usr/bin/env bash
+# Tries the states that ./path_server, ./build and ./install can be left in, one by one: never built, killed in the
+# middle, run twice at once, called from another folder or through a link, with sources newer or older than the program,
+# with something else in the program's place. It works on a made repository of three crates, in which a script stands in
+# for `rt`: it locks, keeps work by the sum of the sources and replaces the program as `rt` does, and takes half a
+# second for a crate. At the end the real program is called, where it is built.
+# Prints a line for each state. Status: 0 all are as they should be; 1 one is not.
+set -u
+top=$(cd -- "$(dirname -- "${BASH_SOURCE[0]}")/.." && pwd) || exit 1
+room=$(mktemp -d) || exit 1
+trap 'rm -rf "$room"' EXIT
+repo="$room/a repository"
+calls=$room/calls
+failed=0
+unset CDPATH
+
+# ---- the made repository ----
+
+stand_in() {
+    cat <<'RT'
+#!/usr/bin/env bash
+# Stands in for `rt lib` and `rt run -- WORD..`, in a crate's folder.
+exec 7<. && flock 7
+name=$(basename "$PWD")
+echo "$name" >>"$CALLS"
+if [ -e broken ]; then echo "error: $name is broken"; exit 1; fi
+if [ -e out/unusable ]; then echo "rt: the kept work of $name cannot be used: remove $PWD/out .."; exit 1; fi
+mkdir -p out
+sum=$(cat src/* ../low/src/* | sha256sum)
+if [ "$(cat out/stamp 2>/dev/null)" != "$sum" ] || { [ "$1" = run ] && [ ! -e "out/$name" ]; }; then
+  rm -f out/stamp
+  sleep 0.4
+  if [ "$name" = beside ]; then sleep "${SLOW:-0}"; fi
+  echo "$name" >>"$CALLS.proved"
+  if [ "$1" = run ]; then
+    cp src/program "out/.$name" && chmod 755 "out/.$name" && mv -fT "out/.$name" "out/$name"
+  fi
+  echo "$sum" >out/stamp
+fi
+if [ "$1" = run ]; then shift 2; exec "./out/$name" "$@"; fi
+RT
+}
+
+# A program that prints its name, its words and a line of its input, and ends with a status, but for `check`:
+# NAME STATUS
+program() {
+    cat <<END
+#!/usr/bin/env bash
+printf '$1'
+printf '<%s>' "\$@"
+read -r line
+echo "\$line"
+[ "\$1" = check ] || exit $2
+END
+}
+
+# A repository in which nothing is built yet
+fresh() {
+    rm -rf "$repo" "$calls" "$calls.proved"
+    mkdir -p "$repo/crates/"{low,beside,path_server}/src "$repo/maps" "$room/bin" "$room/elsewhere"
+    cat >"$repo/crates.txt" <<'END'
+# a comment
+low: std_thing
+beside: low
+unused: low
+path_server may_wait=1: beside low clap
+END
+    touch "$repo/crates/"{low,beside,path_server}/src/main.rt "$repo/maps/tutorial.map"
+    program one 0 >"$repo/crates/path_server/src/program"
+    cp -- "$top/path_server" "$top/build" "$top/install" "$top"/LICENSE-* "$repo"
+    stand_in >"$room/bin/rt" && chmod 755 "$room/bin/rt"
+    : >"$calls" && : >"$calls.proved"
+}
+
+export CALLS=$calls PATH="$room/bin:$PATH"
+built=$repo/crates/path_server/out/path_server
+
+# ---- what is asked ----
+
+state=''
+state() { state=$1; }
+
+# A command is as it should be: it ends with STATUS and prints TEXT on standard output: STATUS TEXT COMMAND..
+prints() {
+    local got status
+    got=$("${@:3}" 2>"$room/err" </dev/null)
+    status=$?
+    judge "$status: $got" "$1: $2"
+}
+
+# Two texts are the same: GOT WANTED
+judge() {
+    if [[ $1 == "$2" ]]; then
+        echo "ok: $state"
+    else
+        failed=1
+        printf 'FAILED: %s\n  wanted: %s\n  got:    %s\n' "$state" "$2" "$1"
+        sed 's/^/  | /' "$room/err" 2>/dev/null
+    fi
+}
+
+# What was said on standard error has TEXT: TEXT
+said() { judge "$(grep -o -m 1 -- "$1" "$room/err")" "$1"; }
+
+# So often `rt` was called, and these crates were proved: NUMBER CRATE..
+worked() { judge "$({ wc -l <"$calls" && sort "$calls.proved"; } | paste -sd ' ')" "$*"; }
+
+forget_calls() { : >"$calls" && : >"$calls.proved"; }
+
+# ---- the states ----
+
+fresh
+state "never built: builds and runs, with the words and standard input as they are"
+judge "$(cd "$room/elsewhere" && "$repo/path_server" path 'a b' '' '*' 2>"$room/err" <<<text)" "one<path><a b><><*>text"
+state "never built: each crate is proved once, lowest first, and no other"
+judge "$(tr '\n' ' ' <"$calls")" "low beside path_server "
+state "progress: all are done, and the time"
+said "build: done, 3 of 3 crates in 0:0"
+
+forget_calls
+state "built: runs at once" && prints 0 "one<check><m>" "$repo/path_server" check m
+state "built: asks rt for nothing" && worked 0
+state "built: ./build says that nothing has changed" && prints 0 "" "$repo/build"
+state "built: it says so in words" && said "nothing has changed since the last build"
+state "built: it asks rt for nothing" && worked 0
+
+state "sources touched: runs at once"
+touch "$repo/crates/low/src/main.rt" "$repo/crates.txt"
+prints 0 "one<x>" "$repo/path_server" x
+state "sources touched: ./build says that nothing has changed"
+"$repo/build" 2>"$room/err"
+said "nothing has changed since the last build"
+forget_calls
+state "sources changed: the program that is there runs at once"
+program two 3 >"$repo/crates/path_server/src/program"
+prints 0 "one<x>" "$repo/path_server" x
+state "sources changed: asks rt for nothing" && worked 0
+state "sources changed: ./build builds" && prints 0 "" "$repo/build"
+state "sources changed: just that crate is proved" && worked 3 path_server
+state "its own status is the program's" && prints 3 "two<x>" "$repo/path_server" x
+state "sources older than the program" && touch -d '2001-01-01' "$repo/crates/"*/src/* &&
+    prints 3 "two<x>" "$repo/path_server" x
+state "program older than the sources" && touch -d '2001-01-01' "$built" && prints 3 "two<x>" "$repo/path_server" x
+
+ln -sfn "$repo/path_server" "$room/elsewhere/absolute"
+ln -sfn absolute "$room/elsewhere/twice"
+ln -sfn "../a repository" "$room/elsewhere/folder"
+state "through a link to a link, from another folder" && prints 3 "two<x>" env -C "$room/elsewhere" ./twice x
+state "through a link to its folder" && prints 3 "two<x>" env -C "$room/elsewhere" folder/path_server x
+state "found by PATH" && prints 3 "two<x>" env PATH="$repo:$PATH" path_server x
+fresh
+state "./build through a link, from another folder" && ln -sfn "$repo/build" "$room/elsewhere/build" &&
+    prints 0 "" env -C "$room/elsewhere" ./build
+state "./build through a link builds" && prints 0 "one<x>" "$repo/path_server" x
+
+fresh
+SLOW=3 "$repo/build" 2>"$room/err"
+state "progress: which crate, how many are done of how many, and the time"
+said "build: proving beside, 1 of 3 crates are done, 0:0"
+if command -v script >/dev/null; then
+    fresh
+    SLOW=4 script -qec "'$repo/build'" /dev/null >"$room/err" 2>&1 </dev/null
+    state "progress on a terminal: one line that is rewritten"
+    times=$(grep -o $'\r\e\[Kbuild: proving beside, [^,]*, 0:..' "$room/err" | sort -u | wc -l)
+    judge "$(grep -c proving "$room/err") line, more than two times: $((times > 2))" "1 line, more than two times: 1"
+fi
+
+# A build is stopped in its second crate, and then once more run to its end: SIGNAL STATUS
+killed() {
+    fresh
+    state "./build stopped by $1: its status"
+    "$repo/build" 2>"$room/err" &
+    local build=$!
+    until grep -q beside "$calls"; do sleep 0.05; done
+    kill "-$1" "$build"
+    wait "$build" 2>/dev/null
+    judge "$?" "$2"
+    state "./build stopped by $1: the next one builds" && prints 0 "" "$repo/build"
+    state "./build stopped by $1: the program runs" && prints 0 "one<x>" "$repo/path_server" x
+    state "./build stopped by $1: what was proved is kept" && judge "$(grep -c low "$calls.proved")" 1
+}
+killed TERM 143
+killed HUP 129
+killed KILL 137
+
+fresh
+"$repo/path_server" x 2>/dev/null </dev/null >/dev/null &
+launcher=$!
+until grep -q beside "$calls"; do sleep 0.05; done
+kill -KILL "$launcher"
+wait "$launcher" 2>/dev/null
+state "./path_server killed in its first build: the next one runs" && prints 0 "one<x>" "$repo/path_server" x
+
+fresh
+for i in 1 2 3; do "$repo/path_server" "$i" >"$room/out.$i" 2>/dev/null </dev/null & done
+wait
+state "three at once, never built: each prints its own" && judge "$(cat "$room"/out.[123])" $'one<1>\none<2>\none<3>'
+state "three at once: each crate is proved once" && judge "$(sort "$calls.proved" | paste -sd ' ')" "beside low path_server"
+state "program replaced while it runs"
+program two 3 >"$repo/crates/path_server/src/program"
+mkfifo "$room/pipe"
+"$repo/path_server" x <"$room/pipe" >"$room/out.1" &
+exec 5>"$room/pipe"
+prints 0 "" "$repo/build"
+echo text >&5
+exec 5>&-
+wait
+state "program replaced while it runs: it goes on" && judge "$(cat "$room/out.1")" "one<x>text"
+state "program replaced while it runs: the next call has the new one" && prints 3 "two<x>" "$repo/path_server" x
+
+# The program is put out of the way, something is done in its place, and it is built anew: COMMAND..
+replaced() {
+    rm -rf "$built"
+    "$@" "$built"
+    state "in the program's place by '$*': built anew" && prints 3 "two<x>" "$repo/path_server" x
+}
+replaced true
+replaced touch
+replaced mkdir
+replaced ln -s /nowhere
+replaced cp "$repo/crates/path_server/src/program"
+
+fresh
+touch "$repo/crates/beside/broken"
+state "a crate that is refused: status 125, and nothing on standard output" && prints 125 "" "$repo/path_server" x
+state "a crate that is refused: rt's words are shown" && said "error: beside is broken"
+state "a crate that is refused: it is named" && said "the crate beside could not be built"
+state "a crate that is refused: ./build ends with 1" && prints 1 "" "$repo/build"
+rm "$repo/crates/beside/broken"
+state "once it is mended: runs" && prints 0 "one<x>" "$repo/path_server" x
+touch "$repo/crates/beside/out/unusable"
+rm "$built"
+state "kept work that cannot be used: all anew" && prints 0 "one<x>" "$repo/path_server" x
+
+fresh
+mkdir -p "$room/few"
+for tool in bash dirname readlink env sed cat; do ln -sf "$(command -v $tool)" "$room/few/$tool"; done
+state "no rt: status 125" && prints 125 "" env PATH="$room/few" "$repo/path_server" x
+state "no rt: it says what is needed" && said "the Rattle toolchain is needed"
+
+state "./install, never built: builds and copies" && prints 0 "" env -C "$room/elsewhere" "$repo/install" "to here"
+state "./install: the copy runs" && prints 0 "one<x>" "$room/elsewhere/to here/bin/path_server" x
+prefix="$room/elsewhere/to here"
+state "./install: the licences"
+judge "$(cat "$prefix/share/doc/path_server/"LICENSE-*)" "$(cat "$top"/LICENSE-*)"
+state "./install, what a killed copy left"
+echo half >"$prefix/bin/.path_server.new"
+prints 0 "" "$repo/install" "$prefix"
+state "./install, what a killed copy left is gone" && judge "$(ls -A "$prefix/bin")" path_server
+for i in 1 2 3; do "$repo/install" "$room/elsewhere/three" 2>/dev/null & done
+wait
+state "./install three times at once" && prints 0 "one<x>" "$room/elsewhere/three/bin/path_server" x
+state "./install with no folder" && prints 2 "" "$repo/install"
+state "./install to a place where none can be" && prints 1 "" "$repo/install" /dev/null/x
+
+# ---- the real program ----
+
+real=$top/crates/path_server/out/path_server
+if [[ -x $real ]]; then
+    ln -sfn "$top/path_server" "$room/elsewhere/real"
+    state "the real program, through a link from another folder"
+    passable=$(tail -n +5 "$top/maps/tutorial.map" | tr -cd '.GS' | wc -c)
+    prints 0 $'size 40 20\ncells '"$passable" env -C "$room/elsewhere" ./real check "$top/maps/tutorial.map"
+fi
+if [[ -x $real && -f $real.stamp && -z ${BUILD_LEFT_OUT:-} ]]; then
+    state "the real ./build, nothing changed" && prints 0 "" env PATH="${PATH#*:}" "$top/build"
+fi
+exit $failed
