@@ -1,26 +1,14 @@
 -- The bound on the depth of visits never shows: there is room for all cells that were not seen, and no visit goes deeper.
-use Rattle.std.proofs.Common.{◌≡◌, ℕ, zero, suc, ◌+◌, ◌<◌, ◌≤◌, Bool, true, false, ◌&&◌, ◌||◌, not, cond, List, [], ◌∷◌, ◌++◌, length, refl, sym, ap, subst, ◌∙◌, inl, inr, arith}
-use Rattle.std.specs.List.{fold, list_any}
-use Rattle.std.proofs.lemmas.Bool.{cases_Bool, and_parts, or_cases, or_left, or_right, false≢true, cond-true, cond-false}
+use Rattle.std.proofs.Common.{◌≡◌, ℕ, zero, suc, ◌+◌, ◌≤◌, Bool, true, false, not, cond, List, [], ◌∷◌, ◌++◌, length, refl, sym, ap, ◌∙◌, inl, inr, arith}
+use Rattle.std.specs.List.{fold}
+use Rattle.std.proofs.lemmas.Bool.{cases_Bool, and_parts, or_cases, or_left, or_right, false≢true}
 use Rattle.std.proofs.lemmas.List.{length_push}
 use Rattle.std.proofs.lemmas.List.Folds.{list_any-append}
 use Rattle.moves.specs.declared.Cell.{Cell}
 use Rattle.moves.specs.Maps.{is_cell, has_cell}
-use Rattle.moves.proofs.Connected.{Contains-from_has_cell, has_cell-from_contains}
+use Rattle.moves.proofs.Connected.{is_cell-true, is_cell-same}
 use Rattle.cell_order.specs.Orders.{is_new, cells_beside, visit, VisitsHaveNoBound}
 use Rattle.cell_order.proofs.Visiting.{Visits, nothing, passes, enters, visits_fold, visit_passes}
-use Rattle.cell_order.proofs.Permutations.{contains_cases}
-
--- the test of two cells, by that of a list of one
-is_cell-true : (a b : Cell) → is_cell a b ≡ true → b ≡ a
-is_cell-true a b h =
-    elim (contains_cases b [] a (Contains-from_has_cell (b ∷ []) a (or_left (is_cell a b) false h))) [
-      | inl same ↦ same
-      | inr none ↦ absurd (let l = none.1 in omega arith)
-    ]
-
-is_cell-same : (a : Cell) → is_cell a a ≡ true
-is_cell-same a = elim (or_cases (is_cell a a) false (has_cell-from_contains (a ∷ []) a (0, omega arith, refl))) [ inl same ↦ same | inr none ↦ absurd (false≢true none) ]
 
 -- how many of the cells were not seen
 pub left : List Cell → List Cell → ℕ
@@ -49,7 +37,7 @@ has_push seen cell c h = list_any-append (is_cell c) seen (cell ∷ []) ∙ or_l
 
 has_last : (seen : List Cell) (cell : Cell) → has_cell (seen ++ cell ∷ []) cell ≡ true
 has_last seen cell =
-    list_any-append (is_cell cell) seen (cell ∷ []) ∙ or_right (has_cell seen cell) (has_cell (cell ∷ []) cell) (or_left (is_cell cell cell) false (is_cell-same cell))
+    list_any-append (is_cell cell) seen (cell ∷ []) ∙ or_right (has_cell seen cell) (has_cell (cell ∷ []) cell) (or_left (is_cell cell cell) false (is_cell-same cell cell refl))
 
 left_push : (cells seen : List Cell) (cell : Cell) → left cells (seen ++ cell ∷ []) ≤ left cells seen
 unfolding left

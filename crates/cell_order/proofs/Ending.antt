@@ -11,10 +11,11 @@ use Rattle.moves.specs.declared.Cell.{Cell}
 use Rattle.moves.specs.Maps.{ComesBefore}
 use Rattle.moves.specs.Components.{first_of}
 use Rattle.moves.specs.StraightPaths.{IsConnected}
+use Rattle.moves.specs.Rectangles.{place_in}
 use Rattle.moves.proofs.RowMajor.{before_differs}
+use Rattle.moves.proofs.Rectangles.{place_below}
 use Rattle.cell_order.specs.Orders.{north, west, cells_beside, visit}
-use Rattle.cell_order.specs.Boxes.{Box, IsMarked, with_mark, place_in}
-use Rattle.cell_order.proofs.Boxing.{place_below}
+use Rattle.cell_order.specs.Boxes.{Box, IsMarked, with_mark}
 use Rattle.cell_order.proofs.Visiting.{visits_fold}
 use Rattle.cell_order.proofs.Walking.{IsWalk, all_seen, visited}
 use Rattle.cell_order.proofs.Permutations.{permutation}
@@ -31,12 +32,12 @@ pub length_pushed : (rest : List Cell) (c : Cell) → length (rest ++ reverse (c
 length_pushed rest c = omega (arith, length-append rest (reverse (cells_beside c)), length-reverse (cells_beside c), length_beside c)
 
 -- a mark fewer
-pub count_fewer : (box : Box) (c : Cell) → length box.marks ≡ box.width * box.height → IsMarked box c
+pub count_fewer : (box : Box) (c : Cell) → length box.marks ≡ box.area.width * box.area.height → IsMarked box c
     → count_by (λ mark. mark) (with_mark box c false).marks + 1 ≡ count_by (λ mark. mark) box.marks
 count_fewer box c size m =
-    let below = place_below box c m.within in
-    let one : cond {A = ℕ} (get_or box.marks (place_in box c) false) 1 0 ≡ 1 = cond-true _ 1 0 m.marked in
-    omega (arith, sum_by-set (λ mark. cond {A = ℕ} mark 1 0) box.marks (place_in box c) false false (omega arith))
+    let below = place_below box.area c m.within in
+    let one : cond {A = ℕ} (get_or box.marks (place_in box.area c) false) 1 0 ≡ 1 = cond-true _ 1 0 m.marked in
+    omega (arith, sum_by-set (λ mark. cond {A = ℕ} mark 1 0) box.marks (place_in box.area c) false false (omega arith))
 
 module _ (cells : List Cell) (box : Box) (order : List Cell) (p : IsWalk cells box order [])
     (connected : IsConnected cells) (some : 0 < length cells) (rows : AllPairs ComesBefore cells) where

@@ -6,8 +6,8 @@ use Rattle.moves.specs.declared.Cell.{Cell}
 use Rattle.moves.specs.declared.TheConstants.{MAX_SIDE}
 use Rattle.moves.specs.declared.Move.TheVariants.{E}
 use Rattle.moves.specs.Maps.{ComesBefore}
+use Rattle.moves.specs.Rectangles.{IsOnMap}
 use Rattle.moves.specs.StraightPaths.{IsConnected}
-use Rattle.cell_order.specs.Orders.{IsOnMap}
 use Rattle.moves.proofs.Connected.{cell_of, AreBeside, IsJoined, joined_same, joined_next, connected_from}
 
 -- the first cells of a row

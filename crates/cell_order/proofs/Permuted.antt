@@ -1,24 +1,22 @@
 -- An order of connected cells has each of them once.
-use Rattle.std.proofs.Common.{◌≡◌, ◌≢◌, ◌⊎◌, ℕ, zero, suc, ◌+◌, ◌<◌, ◌≤◌, true, false, not, List, [], ◌∷◌, ◌++◌, length, get_or, refl, sym, ap, subst, ◌∙◌, inl, inr, arith}
-use Rattle.std.specs.List.{fold, AllPairs, Contains}
+use Rattle.std.proofs.Common.{◌≡◌, ◌≢◌, ◌⊎◌, ◌<◌, false, not, List, [], ◌∷◌, ◌++◌, length, refl, sym, ap, subst, ◌∙◌, inl, inr, arith}
+use Rattle.std.specs.List.{AllPairs, Contains}
 use Rattle.std.specs.List.Sorted.{IsPermutation}
 use Rattle.std.proofs.lemmas.Bool.{cases_Bool, and_from, false≢true}
 use Rattle.std.proofs.lemmas.List.Elements.{Contains-get_or, Contains-push_cases, Contains-append_left, Contains-append_right}
 use Rattle.std.proofs.lemmas.List.Quantifiers.{all_pairs_push}
 use Rattle.std.proofs.lemmas.List.Sorted.{IsPermutation-refl}
 use Rattle.moves.specs.declared.Cell.{Cell}
-use Rattle.moves.specs.declared.Move.{Move}
 use Rattle.moves.specs.Maps.{ComesBefore, has_cell}
 use Rattle.moves.specs.Components.{first_of}
-use Rattle.moves.specs.StraightPaths.{GoesThrough, IsConnected}
+use Rattle.moves.specs.StraightPaths.{IsConnected}
 use Rattle.moves.proofs.Connected.{Contains-from_has_cell, has_cell-from_contains}
-use Rattle.moves.proofs.RowMajor.{before_differs}
-use Rattle.cell_order.specs.declared.OrderKind.{OrderKind}
+use Rattle.moves.proofs.RowMajor.{before_differs, contains_cases}
 use Rattle.cell_order.specs.declared.OrderKind.TheVariants.{Rows, Dfs}
-use Rattle.cell_order.specs.Orders.{is_new, cells_beside, visit, ordered, OrdersArePermutations}
+use Rattle.cell_order.specs.Orders.{is_new, cells_beside, OrdersArePermutations}
 use Rattle.cell_order.proofs.Visiting.{Visits, nothing, passes, enters}
-use Rattle.cell_order.proofs.Walking.{beside_target}
-use Rattle.cell_order.proofs.Permutations.{AreApart, contains_cases, permutation}
+use Rattle.cell_order.proofs.Walking.{all_reached}
+use Rattle.cell_order.proofs.Permutations.{AreApart, permutation}
 use Rattle.cell_order.proofs.DepthBound.{new_parts, visits_exist, visited_is, left_most}
 
 -- a list has a cell or has it not
@@ -104,15 +102,8 @@ module _ (cells order : List Cell) (visits : Visits cells (first_of cells ∷ []
   first_inside : Contains cells (first_of cells)
   first_inside = Contains-get_or cells 0 (record { x = 0; y = 0 }) some
 
-  along : (from : Cell) (moves : List Move) (to : Cell) → GoesThrough cells from moves to → Contains order from → Contains order to
-  along from [] to goes seen = subst (Contains order) goes seen
-  along from (move ∷ moves) to goes seen =
-      along goes.0 moves to goes.4 (closed visits from goes.0 seen (nothing_seen from) (beside_target from move goes.0 goes.2 goes.1) goes.3)
-
   all_visited : (c : Cell) → Contains cells c → Contains order c
-  all_visited c inside =
-      let way = connected.joined (first_of cells) c first_inside inside in
-      along (first_of cells) way.0 c way.1 (reached visits (first_of cells) (0, omega arith, refl) first_inside)
+  all_visited = all_reached cells order (λ c d seen near inside. closed visits c d seen (nothing_seen c) near inside) connected first_inside (reached visits (first_of cells) (0, omega arith, refl) first_inside)
 
   none_apart : AreApart {X = Cell} []
   none_apart i j d less within = absurd (omega arith)

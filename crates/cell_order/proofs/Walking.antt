@@ -12,17 +12,18 @@ use Rattle.moves.specs.declared.Move.TheVariants.{N, NE, E, SE, S, SW, W, NW}
 use Rattle.moves.specs.Moves.{is_diagonal, IsTarget}
 use Rattle.moves.specs.Components.{first_of}
 use Rattle.moves.specs.StraightPaths.{GoesThrough, IsConnected}
+use Rattle.moves.specs.Rectangles.{place_in}
 use Rattle.moves.proofs.MoveLaws.{same_cell}
 use Rattle.moves.specs.Maps.{has_cell}
 use Rattle.moves.proofs.Connected.{Contains-from_has_cell, has_cell-from_contains}
 use Rattle.cell_order.specs.Orders.{is_new, north, west, cells_beside}
-use Rattle.cell_order.specs.Boxes.{Box, IsMarked, with_mark, place_in}
+use Rattle.cell_order.specs.Boxes.{Box, IsMarked, with_mark}
 use Rattle.cell_order.proofs.Boxing.{marked_fewer}
 use Rattle.cell_order.proofs.Visiting.{Visits, nothing, passes, enters, parted}
 
 -- what the walk keeps
 pub record IsWalk (cells : List Cell) (box : Box) (order pending : List Cell) : Type 0 where
-  pub size : length box.marks ≡ box.width * box.height
+  pub size : length box.marks ≡ box.area.width * box.area.height
   pub marked : (c : Cell) → IsMarked box c ↔ (Contains cells c × (Contains order c → ⊥))
   pub inside : (c : Cell) → Contains order c → Contains cells c
   pub apart : AllPairs (λ a b. a ≢ b) order
@@ -36,7 +37,7 @@ contains_nothing c h = let l = h.1 in omega arith
 contains_first : (c : Cell) → Contains (c ∷ []) c
 contains_first c = (0, omega arith, refl)
 
-pub walk_start : (cells : List Cell) (box : Box) (first : Cell) → length box.marks ≡ box.width * box.height
+pub walk_start : (cells : List Cell) (box : Box) (first : Cell) → length box.marks ≡ box.area.width * box.area.height
     → ((c : Cell) → IsMarked box c ↔ Contains cells c) → first ≡ first_of cells → IsWalk cells box [] (first ∷ [])
 walk_start cells box first size marked same = record {
   size = size;
@@ -122,7 +123,7 @@ module _ (cells : List Cell) (box : Box) (order pending rest : List Cell) (cell 
 
     pub walk_enter : IsWalk cells (with_mark box cell false) (order ++ cell ∷ []) (rest ++ reverse (cells_beside cell))
     walk_enter = record {
-      size = length-set box.marks (place_in box cell) false ∙ p.size;
+      size = length-set box.marks (place_in box.area cell) false ∙ p.size;
       marked = λ c. (
         λ m.
             let before = (marked_fewer box cell c p.size marked.within).0 m in
@@ -173,23 +174,27 @@ beside_target a W b straight t =
     Contains-append_right (north a) _ b (rw is (2, omega arith, same_cell w b (let u = t.0 in omega arith) (let u = t.1 in omega arith)))
 beside_target a NW b straight t = absurd (let h : true ≡ false = straight in cc)
 
+-- a list that has the first of the connected cells, and with each of its cells those beside it, has them all
+module _ (cells order : List Cell) (closed : (c d : Cell) → Contains order c → Contains (cells_beside c) d → Contains cells d → Contains order d)
+    (connected : IsConnected cells) (some : Contains cells (first_of cells)) (first : Contains order (first_of cells)) where
+  along : (from : Cell) (moves : List Move) (to : Cell) → GoesThrough cells from moves to → Contains order from → Contains order to
+  along from [] to goes seen = subst (Contains order) goes seen
+  along from (move ∷ moves) to goes seen =
+      along goes.0 moves to goes.4 (closed from goes.0 seen (beside_target from move goes.0 goes.2 goes.1) goes.3)
+
+  pub all_reached : (c : Cell) → Contains cells c → Contains order c
+  all_reached c inside =
+      let way = connected.joined (first_of cells) c some inside in
+      along (first_of cells) way.0 c way.1 first
+
 -- nothing waits any more: all cells were seen
 module _ (cells : List Cell) (box : Box) (order : List Cell) (p : IsWalk cells box order [])
     (connected : IsConnected cells) (some : Contains cells (first_of cells)) where
-  seen_along : (from : Cell) (moves : List Move) (to : Cell) → GoesThrough cells from moves to → Contains order from → Contains order to
-  seen_along from [] to goes seen = subst (Contains order) goes seen
-  seen_along from (move ∷ moves) to goes seen =
-      seen_along goes.0 moves to goes.4
-      (elim (p.closed from goes.0 seen (beside_target from move goes.0 goes.2 goes.1) goes.3) [
-        | inl then_seen ↦ then_seen
-        | inr waits ↦ absurd (contains_nothing goes.0 waits)
-      ])
-
   pub all_seen : (c : Cell) → Contains cells c → Contains order c
-  all_seen c inside =
-      let way = connected.joined (first_of cells) c some inside in
-      seen_along (first_of cells) way.0 c way.1
-      (elim p.first [ inl seen ↦ seen | inr waits ↦ absurd (contains_nothing (first_of cells) waits) ])
+  all_seen =
+      all_reached cells order
+      (λ c d seen near inside. elim (p.closed c d seen near inside) [ inl then_seen ↦ then_seen | inr waits ↦ absurd (contains_nothing d waits) ])
+      connected some (elim p.first [ inl seen ↦ seen | inr waits ↦ absurd (contains_nothing (first_of cells) waits) ])
 
   pub visited : Visits cells (first_of cells ∷ []) [] order
   visited = p.path order nothing

@@ -2,17 +2,11 @@
 use Rattle.std.specs.Prelude.{◌≡◌, ℕ, zero, suc, ◌+◌, ◌-◌, ◌==◌, ◌<◌, Bool, true, false, ◌&&◌, not, if◌then◌else◌, List, [], ◌∷◌, ◌++◌, length, AllPairs, IsPermutation}
 use Rattle.std.specs.List.{fold}
 use Rattle.moves.specs.declared.Cell.{Cell}
-use Rattle.moves.specs.declared.TheConstants.{MAX_SIDE}
 use Rattle.moves.specs.Maps.{ComesBefore, has_cell}
 use Rattle.moves.specs.Components.{first_of}
 use Rattle.moves.specs.StraightPaths.{IsConnected}
 use Rattle.cell_order.specs.declared.OrderKind.{OrderKind}
 use Rattle.cell_order.specs.declared.OrderKind.TheVariants.{Rows, Dfs}
-
--- column and row are below the limit on sides
-pub record IsOnMap (cell : Cell) : Type 0 where
-  pub column : cell.x < MAX_SIDE
-  pub row : cell.y < MAX_SIDE
 
 -- whether the cell is one of the cells, and was not seen
 abbrev pub is_new : List Cell → List Cell → Cell → Bool

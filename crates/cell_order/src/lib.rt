@@ -3,8 +3,9 @@
 
 ghost use Rattle.std.specs.Prelude.{◌≡◌, ◌+◌, ◌<◌, ◌≤◌, ◌++◌, All, AllPairs, length, reverse, IfOk, IsPermutation};
 ghost use Rattle.moves.specs.Maps.{ComesBefore};
+ghost use Rattle.moves.specs.Rectangles.{IsOnMap};
 ghost use Rattle.moves.specs.StraightPaths.{IsConnected};
-ghost use Rattle.cell_order.specs.Orders.{IsOnMap, OrdersArePermutations, VisitsHaveNoBound, cells_beside, kind_of, ordered};
+ghost use Rattle.cell_order.specs.Orders.{OrdersArePermutations, VisitsHaveNoBound, cells_beside, kind_of, ordered};
 
 #[cfg(test)]
 mod tests;

@@ -1,20 +1,12 @@
 -- Which cells an edit has changed.
-use Rattle.std.proofs.Common.{◌≡◌, ◌≢◌, ◌⊎◌, Bool, List, [], ◌∷◌, ◌++◌, sym, ap, subst, inl, inr}
+use Rattle.std.proofs.Common.{◌≡◌, Bool, List, [], ◌∷◌, ◌++◌, sym, subst, inl, inr}
 use Rattle.std.specs.List.{Contains}
-use Rattle.std.proofs.lemmas.Bool.{cases_eq}
 use Rattle.std.proofs.lemmas.List.Elements.{Contains-append_left, Contains-push}
 use Rattle.moves.specs.declared.Cell.{Cell}
 use Rattle.moves.specs.Maps.{Map, IsInside, IsPassable, with_cell}
-use Rattle.moves.proofs.MoveLaws.{same_cell}
+use Rattle.moves.proofs.TableLaws.{same_or_apart}
 use Rattle.moves.proofs.Terrains.{passable_after, passable_before}
 use Rattle.components.specs.Edits.{AreChanged}
-
-cases_cell : (a b : Cell) → (a ≡ b) ⊎ (a ≢ b)
-cases_cell a b =
-    elim (cases_eq a.x b.x) [
-      | inl column ↦ elim (cases_eq a.y b.y) [ inl row ↦ inl (same_cell a b column row) | inr apart ↦ inr (λ e. apart (ap (λ c. c.y) e)) ]
-      | inr apart ↦ inr (λ e. apart (ap (λ c. c.x) e))
-    ]
 
 -- a map differs from itself nowhere
 pub changed_none : (map : Map) → AreChanged map map []
@@ -26,7 +18,7 @@ changed_same old new changed same = λ c. inr (subst (λ m. IsPassable m c) (sym
 -- one cell more is made passable or blocked
 pub changed_more : (old new : Map) (changed : List Cell) → AreChanged old new changed → (cell : Cell) (passable : Bool) → IsInside new cell → AreChanged old (with_cell new cell passable) (changed ++ cell ∷ [])
 changed_more old new changed are cell passable inside = λ c.
-    elim (cases_cell c cell) [
+    elim (same_or_apart c cell) [
       | inl same ↦ inl (subst (Contains (changed ++ cell ∷ [])) (sym same) (Contains-push changed cell))
       | inr apart ↦
           elim (are c) [

@@ -1,5 +1,5 @@
 -- Two lists in the same strict order with the same elements are the same list.
-use Rattle.std.proofs.Common.{◌≡◌, ℕ, zero, suc, ◌*◌, ◌+◌, ◌<◌, ◌≤◌, ◌⊎◌, List, [], ◌∷◌, length, get_or, nat_eq, refl, sym, ap, ◌∙◌, subst, inl, inr, arith}
+use Rattle.std.proofs.Common.{◌≡◌, ℕ, suc, ◌*◌, ◌+◌, ◌<◌, ◌≤◌, List, [], ◌∷◌, length, get_or, nat_eq, refl, sym, ap, ◌∙◌, subst, inl, inr, arith}
 use Rattle.std.specs.List.{AllPairs, Contains}
 use Rattle.std.proofs.lemmas.Nat.{mul-le}
 use Rattle.std.proofs.lemmas.List.Elements.{Contains-get_or}
@@ -7,21 +7,11 @@ use Rattle.moves.specs.declared.Cell.{Cell}
 use Rattle.moves.specs.Maps.{Map, IsWithinLimits, IsInside, ComesBefore, place_of}
 use Rattle.components.specs.Marks.{Marks, label_at}
 use Rattle.components.specs.Groups.{cells_with}
-use Rattle.moves.proofs.RowMajor.{in_order_where}
+use Rattle.moves.proofs.RowMajor.{in_order_where, contains_cases, contains_later}
 use Rattle.components.proofs.Listing.{its_label, has_label}
-
-first_or_later : {X : Type 0} (y : X) (ys : List X) (x : X) (k : ℕ) → k < length (y ∷ ys) → get_or (y ∷ ys) k x ≡ x → (y ≡ x) ⊎ Contains ys x
-first_or_later y ys x zero less at = inl at
-first_or_later y ys x (suc k) less at = inr (k, omega arith, at)
-
-contains_cases : {X : Type 0} (y : X) (ys : List X) (x : X) → Contains (y ∷ ys) x → (y ≡ x) ⊎ Contains ys x
-contains_cases y ys x has = first_or_later y ys x has.0 has.1 has.2
 
 contains_first : {X : Type 0} (x : X) (xs : List X) → Contains (x ∷ xs) x
 contains_first x xs = (0, omega arith, refl)
-
-contains_rest : {X : Type 0} (y : X) (ys : List X) (x : X) → Contains ys x → Contains (y ∷ ys) x
-contains_rest y ys x has = (suc has.0, let k = has.1 in omega arith, has.2)
 
 contains_none : {X : Type 0} (xs : List X) (x : X) → length xs ≡ 0 → Contains xs x → ⊥
 contains_none xs x none has = let k = has.1 in omega arith
@@ -52,7 +42,7 @@ module _ {X : Type 0} (n : X → ℕ) where
   -- what follows the same first element
   rest_has : (x y : X) (xs ys : List X) → AreRising n (x ∷ xs) → x ≡ y → ((c : X) → Contains (x ∷ xs) c → Contains (y ∷ ys) c) → (c : X) → Contains xs c → Contains ys c
   rest_has x y xs ys p same sub c has =
-      elim (contains_cases y ys c (sub c (contains_rest x xs c has))) [
+      elim (contains_cases y ys c (sub c (contains_later x xs c has))) [
         | inr later ↦ later
         | inl at ↦ absurd (let a = first_is_least x xs p c has in let e : n x ≡ n c = ap n (same ∙ at) in omega arith)
       ]

@@ -1,5 +1,5 @@
 -- What an edit of a map leaves of its components, and the cells from which the others are flooded again.
-use Rattle.std.specs.Prelude.{◌≡◌, ℕ, ◌+◌, ◌*◌, ◌<◌, ◌≤◌, ◌⊎◌, ◌↔◌, Bool, false, true, IsFalse, List, [], length, slice_index_or, All, AllPairs, Contains}
+use Rattle.std.specs.Prelude.{◌≡◌, ℕ, ◌+◌, ◌*◌, ◌<◌, ◌≤◌, ◌⊎◌, ◌↔◌, Bool, false, true, IsFalse, List, [], length, slice_index, slice_index_or, All, AllPairs, Contains}
 use Rattle.moves.specs.declared.Cell.{Cell}
 use Rattle.moves.specs.declared.Move.{Move}
 use Rattle.moves.specs.Maps.{Map, IsInside, IsPassable, place_of}
@@ -26,6 +26,14 @@ pub record Plan : Type 0 where
 -- the component with that number is touched
 abbrev pub IsTouched : List Bool → ℕ → Type 0
 IsTouched touched label = slice_index_or touched label false ≡ true
+
+-- what was touched is touched still
+abbrev pub KeepsTouched : List Bool → List Bool → Type 0
+KeepsTouched old new = (label : ℕ) → IsTouched old label → IsTouched new label
+
+-- the component that has the cell is touched
+abbrev pub TouchesAt : List (List Cell) → Cell → List Bool → Type 0
+TouchesAt components cell touched = (label : ℕ) → IsLabelOf components cell label → IsTouched touched label
 
 -- the component of the cell to which the move leads is touched
 abbrev pub TouchesBeside : Map → List (List Cell) → Cell → Move → List Bool → Type 0
@@ -70,6 +78,27 @@ rank_of cell = 65536 * cell.y + cell.x
 -- the ranks are those of cells inside
 abbrev pub AreRanks : Map → List ℕ → Type 0
 AreRanks map ranks = All (λ rank. (cell : Cell) × IsInside map cell × (rank ≡ rank_of cell)) ranks
+
+-- no component is without cells
+abbrev pub HaveCells : List (List Cell) → Type 0
+HaveCells components = (label : ℕ) → label < length components → 0 < length (slice_index_or components label [])
+
+-- the ranks of one list are in the other too
+abbrev pub KeepsRanks : List ℕ → List ℕ → Type 0
+KeepsRanks old new = (rank : ℕ) → Contains old rank → Contains new rank
+
+-- the ranks of those of the cells that are passable are there
+abbrev pub HasPassableOf : Map → List Cell → List ℕ → Type 0
+HasPassableOf map cells ranks =
+    (cell : Cell) → Contains cells cell → IsPassable map cell → Contains ranks (rank_of cell)
+
+-- the number at a place of the list is greater than those before it
+abbrev pub IsAboveAllBefore : List ℕ → ℕ → Type 0
+IsAboveAllBefore ranks i = (j : ℕ) → j < i → slice_index ranks j < slice_index ranks i
+
+-- the number at a place of the list stands before that place too
+abbrev pub StandsBefore : List ℕ → ℕ → Type 0
+StandsBefore ranks i = (j : ℕ) × (j < i) × (slice_index ranks j ≡ slice_index ranks i)
 
 -- ranks of the first cells of untouched components and of all cells of the touched ones, up to a number
 pub record AreFormerRanks (components : List (List Cell)) (touched : List Bool) (number : ℕ) (ranks : List ℕ) : Type 0 where

@@ -1,5 +1,5 @@
 -- A flood by straight moves: each component gets its label from the first of its cells that is met.
-use Rattle.std.specs.Prelude.{◌≡◌, ℕ, ◌+◌, ◌*◌, ◌<◌, ◌≤◌, ◌⊎◌, true, false, IsFalse, List, length, slice_index, slice_index_or}
+use Rattle.std.specs.Prelude.{◌≡◌, ℕ, ◌+◌, ◌*◌, ◌==◌, ◌<◌, ◌≤◌, ◌⊎◌, true, false, IsFalse, List, filter, length, slice_index, slice_index_or}
 use Rattle.components.specs.declared.TheConstants.{UNLABELLED}
 use Rattle.moves.specs.declared.Cell.{Cell}
 use Rattle.moves.specs.declared.Move.{Move}
@@ -64,6 +64,10 @@ pub record IsScanned (map : Map) (place number : ℕ) (marks : Marks) : Type 0 w
   pub ordered : (cell : Cell) (label : ℕ) → IsInside map cell → label_at map.width marks cell < UNLABELLED → label < label_at map.width marks cell
       → (earlier : Cell) × IsInside map earlier × (place_of map.width earlier < place_of map.width cell) × (label_at map.width marks earlier ≡ label)
   pub few : number ≤ place
+
+-- those of the cells that have the label
+abbrev pub labelled_among : ℕ → Marks → ℕ → List Cell → List Cell
+labelled_among width marks label cells = filter (λ c. label_at width marks c == label) cells
 
 -- where each label's cells begin, one place to the right, and 0 before them
 pub record AreStarts (number : ℕ) (labels starts : List ℕ) : Type 0 where

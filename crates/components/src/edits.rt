@@ -5,7 +5,7 @@ ghost use Rattle.std.specs.List.Sorted.{IsNonDecreasing};
 ghost use Rattle.moves.specs.Maps.{IsWithinLimits, IsInside, IsPassable};
 ghost use Rattle.moves.specs.Components.{IsComponentList};
 ghost use Rattle.components.specs.Groups.{IsLabelOf};
-ghost use Rattle.components.specs.Edits.{HaveSameSides, AreChanged, AreTouched, TouchesAround, TouchesBeside, IsTouched, IsLoose, IsPlan, IsKept, rank_of, AreRanks, AreFormerRanks, AreCellsOf};
+ghost use Rattle.components.specs.Edits.{HaveSameSides, AreChanged, AreTouched, KeepsTouched, TouchesAt, TouchesAround, TouchesBeside, IsLoose, IsPlan, IsKept, HaveCells, KeepsRanks, HasPassableOf, IsAboveAllBefore, StandsBefore, rank_of, AreRanks, AreFormerRanks, AreCellsOf};
 
 use crate::Labels;
 use moves::{Cell, Grid, Move};
@@ -28,7 +28,11 @@ impl<'a> Model for Edit<'a> {
 
     ghost Value = { Plan };
 
-    ghost view = { λ e. record { components = e.labels.now; touched = e.touched.items; seeds = e.seeds.items } };
+    ghost view = { λ e. record {
+      components = e.labels.now;
+      touched = e.touched.items;
+      seeds = e.seeds.items;
+    } };
 }
 
 impl<'a> Edit<'a> {
@@ -123,7 +127,7 @@ fn touched_by(
 /// Marks the components that the cell is in or beside.
 fn touch_around(labels: &Labels, grid: &Grid, cell: Cell, touched: &mut [bool])
     requires { length touched.old ≡ length labels.now }
-    ensures kept { (label : ℕ) → IsTouched touched.old label → IsTouched touched.new label }
+    ensures kept { KeepsTouched touched.old touched.new }
     ensures marked { TouchesAround grid.now labels.now cell touched.new }
 {
     if grid.inside(cell) {
@@ -139,7 +143,7 @@ fn touch_around(labels: &Labels, grid: &Grid, cell: Cell, touched: &mut [bool])
 fn touch_beside(labels: &Labels, grid: &Grid, cell: Cell, by: Move, touched: &mut [bool])
     requires size { length touched.old ≡ length labels.now }
     requires inside { IsInside grid.now cell }
-    ensures kept { (label : ℕ) → IsTouched touched.old label → IsTouched touched.new label }
+    ensures kept { KeepsTouched touched.old touched.new }
     ensures marked { TouchesBeside grid.now labels.now cell by touched.new }
 {
     if let Some(next) = grid.step(cell, by) {
@@ -150,8 +154,8 @@ fn touch_beside(labels: &Labels, grid: &Grid, cell: Cell, by: Move, touched: &mu
 /// Marks the component that has the cell.
 fn touch(labels: &Labels, cell: Cell, touched: &mut [bool])
     requires { length touched.old ≡ length labels.now }
-    ensures kept { (label : ℕ) → IsTouched touched.old label → IsTouched touched.new label }
-    ensures marked { (label : ℕ) → IsLabelOf labels.now cell label → IsTouched touched.new label }
+    ensures kept { KeepsTouched touched.old touched.new }
+    ensures marked { TouchesAt labels.now cell touched.new }
 {
     match labels.of(cell) {
         Some(label) => touched[label as usize] = true,
@@ -162,8 +166,9 @@ fn touch(labels: &Labels, cell: Cell, touched: &mut [bool])
 /// The ranks of the first cells of untouched components and of all cells of the touched ones.
 fn former_ranks(alloc: Global, labels: &Labels, touched: &[bool]) -> Result<Vec<u32>, AllocError>
     requires size { length touched.now ≡ length labels.now }
-    requires some { (label : ℕ) → label < length labels.now → 0 < length (slice_index_or labels.now label []) }
-    ensures { IfOk result (λ ranks. AreFormerRanks labels.now touched.now (length labels.now) ranks.items) }
+    requires some { HaveCells labels.now }
+    ensures { IfOk result (λ ranks.
+        AreFormerRanks labels.now touched.now (length labels.now) ranks.items) }
 {
     let mut ranks = Vec::new(alloc);
     for label in 0..labels.count() {
@@ -194,9 +199,10 @@ fn push_ranks(cells: &[Cell], ranks: &mut Vec<u32>) -> Result<(), AllocError>
 
 /// Appends the ranks of those cells that are passable.
 fn push_passable(grid: &Grid, cells: &[Cell], ranks: &mut Vec<u32>) -> Result<(), AllocError>
-    ensures kept { OnOk result ((rank : ℕ) → Contains ranks.old.items rank → Contains ranks.new.items rank) }
-    ensures more { OnOk result ((cell : Cell) → Contains cells.now cell → IsPassable grid.now cell → Contains ranks.new.items (rank_of cell)) }
-    ensures inside { OnOk result (AreRanks grid.now ranks.old.items → AreRanks grid.now ranks.new.items) }
+    ensures kept { OnOk result (KeepsRanks ranks.old.items ranks.new.items) }
+    ensures more { OnOk result (HasPassableOf grid.now cells.now ranks.new.items) }
+    ensures inside { OnOk result (
+        AreRanks grid.now ranks.old.items → AreRanks grid.now ranks.new.items) }
 {
     for cell in cells {
         if grid.passable(*cell) {
@@ -232,8 +238,8 @@ fn cells_of(alloc: Global, ranks: &[u32]) -> Result<Vec<Cell>, AllocError>
 fn is_new(ranks: &[u32], i: usize) -> bool
     requires within { i < length ranks.now }
     requires order { IsNonDecreasing ranks.now }
-    ensures new { IsTrue result → (j : ℕ) → j < i → slice_index ranks.now j < slice_index ranks.now i }
-    ensures seen { IsFalse result → (j : ℕ) × (j < i) × (slice_index ranks.now j ≡ slice_index ranks.now i) }
+    ensures new { IsTrue result → IsAboveAllBefore ranks.now i }
+    ensures seen { IsFalse result → StandsBefore ranks.now i }
 {
     if i == 0 {
         return true;

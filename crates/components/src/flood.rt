@@ -114,8 +114,10 @@ impl Flood {
     /// cells found, one place to the right: the list has one number more than there are components.
     pub(crate) fn scan(&mut self, alloc: Global, grid: &Grid) -> Result<Vec<u32>, AllocError>
         requires { IsScanned grid.now 0 0 self.old }
-        ensures scanned { IfOk result (λ starts. IsScanned grid.now (grid.now.width * grid.now.height) (vec_len starts - 1) self.new) }
-        ensures starts { IfOk result (λ starts. AreStarts (vec_len starts - 1) self.new.labels starts.items) }
+        ensures scanned { IfOk result (λ starts.
+            IsScanned grid.now (grid.now.width * grid.now.height) (vec_len starts - 1) self.new) }
+        ensures starts { IfOk result (λ starts.
+            AreStarts (vec_len starts - 1) self.new.labels starts.items) }
     {
         let width = grid.width();
         let mut starts = vec![in alloc; 0; 1]?;

@@ -20,7 +20,7 @@ mod tests;
 use edits::Edit;
 use flood::Flood;
 use groups::gather;
-use moves::{Cell, Grid};
+use moves::{Cell, Grid, MAX_SIDE};
 use std::alloc::{AllocError, Global};
 use std::marker::Model;
 
@@ -153,8 +153,8 @@ pub fn labels_are_where_passable()
 /// The next cell in row-major order.
 fn after(cell: Cell, width: u32) -> Cell
     requires column { cell.x < width }
-    requires width { width ≤ 4096 }
-    requires row { cell.y < 4096 }
+    requires width { width ≤ MAX_SIDE }
+    requires row { cell.y < MAX_SIDE }
     ensures column { result.x < width }
     ensures place { place_of width result ≡ place_of width cell + 1 }
 {

@@ -3,8 +3,7 @@
 ghost use Rattle.std.specs.Prelude.{◌≡◌, ℕ, ◌+◌, ◌-◌, ◌*◌, ◌<◌, ◌≤◌, ◌==◌, ◌++◌, vec_len, length, filter, All, Contains, IfOk, OnOk};
 ghost use Rattle.moves.specs.Maps.{IsWithinLimits, IsInside};
 ghost use Rattle.moves.specs.Components.{IsComponent};
-ghost use Rattle.components.specs.Marks.{label_at};
-ghost use Rattle.components.specs.Floods.{IsFresh, IsSpread, IsFlooded, IsScanned};
+ghost use Rattle.components.specs.Floods.{IsFresh, IsSpread, IsFlooded, IsScanned, labelled_among};
 ghost use Rattle.components.specs.Groups.{cells_with, AreGrouped};
 ghost use Rattle.components.specs.Edits.{IsPlan};
 
@@ -27,8 +26,10 @@ impl Flood {
         requires whole { length grid.now.passable ≡ grid.now.width * grid.now.height }
         requires scanned { IsScanned grid.now 0 0 self.old }
         requires plan { IsPlan grid.now edit.now }
-        ensures scanned { IfOk result (λ parts. IsScanned grid.now (grid.now.width * grid.now.height) (vec_len parts.0 - 1) self.new) }
-        ensures grouped { IfOk result (λ parts. AreGrouped grid.now.width self.new.labels parts.0.items parts.1.items) }
+        ensures scanned { IfOk result (λ parts.
+            IsScanned grid.now (grid.now.width * grid.now.height) (vec_len parts.0 - 1) self.new) }
+        ensures grouped { IfOk result (λ parts.
+            AreGrouped grid.now.width self.new.labels parts.0.items parts.1.items) }
         ensures some { IfOk result (λ parts. 0 < vec_len parts.0) }
     {
         let mut starts = vec![in alloc; 0; 1]?;
@@ -62,7 +63,8 @@ impl Flood {
         requires flooded { IsFlooded grid.now label self.old }
         ensures spread { OnOk result (IsSpread grid.now label root self.old self.new) }
         ensures flooded { OnOk result (IsFlooded grid.now (label + 1) self.new) }
-        ensures cells { OnOk result (cells.new.items ≡ cells.old.items ++ cells_with grid.now.width self.new.labels label) }
+        ensures cells { OnOk result (cells.new.items
+            ≡ cells.old.items ++ cells_with grid.now.width self.new.labels label) }
     {
         match edit.kept(root) {
             Some(component) => self.take_over(grid, root, component, label, cells),
@@ -108,7 +110,8 @@ impl Flood {
         requires flooded { IsFlooded grid.now label self.old }
         ensures spread { OnOk result (IsSpread grid.now label root self.old self.new) }
         ensures flooded { OnOk result (IsFlooded grid.now (label + 1) self.new) }
-        ensures cells { OnOk result (cells.new.items ≡ cells.old.items ++ filter (λ c. label_at grid.now.width self.new c == label) among.now) }
+        ensures cells { OnOk result (cells.new.items
+            ≡ cells.old.items ++ labelled_among grid.now.width self.new label among.now) }
     {
         self.spread(grid, root, label);
         self.list(grid, among, label, cells)?;
@@ -143,7 +146,8 @@ impl Flood {
     ) -> Result<(), AllocError>
         requires inside { All (IsInside grid.now) among.now }
         requires labels { length self.now.labels ≡ grid.now.width * grid.now.height }
-        ensures { OnOk result (cells.new.items ≡ cells.old.items ++ filter (λ c. label_at grid.now.width self.now c == label) among.now) }
+        ensures { OnOk result (cells.new.items
+            ≡ cells.old.items ++ labelled_among grid.now.width self.now label among.now) }
     {
         for cell in among {
             if self.labels[place(grid, *cell)] == label {

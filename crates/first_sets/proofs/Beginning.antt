@@ -10,7 +10,7 @@ use Rattle.moves.specs.Neighbours.{AreNeighbours}
 use Rattle.grid_search.specs.Searches.{Searched, HasSearched}
 use Rattle.first_sets.specs.Steps.{Attains, set_in, IsPassed}
 use Rattle.first_sets.specs.Memory.{AreEmpty}
-use Rattle.first_sets.proofs.Standing.{filler, same_or_apart, place_inside, no_step_to_source}
+use Rattle.first_sets.proofs.Standing.{filler, same_or_apart, place_below, no_step_to_source}
 use Rattle.first_sets.proofs.Passing.{has_same, set_in_same, set_in_other}
 
 -- the move to that cell is among the first `n` neighbours, and attains the cell's cost
@@ -100,7 +100,7 @@ module _ (map : Map) (source : Cell) (search : Searched) (found : List (Move × 
                 has_same _ _ move _ (set_in_other map sets pair.1 cell new within inside away) (begun_apart cell inside away move)
           ];
           beyond = λ place move past h.
-              let low = place_inside map pair.1 within in
+              let low = place_below map pair.1 within in
               let n : place ≢ place_of map.width pair.1 = omega arith in
               begun.beyond place move past (subst (λ s. Has s move) (get_or-set_other sets (place_of map.width pair.1) place new 0 n) h);
         }

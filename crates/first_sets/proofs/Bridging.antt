@@ -19,7 +19,7 @@ use Rattle.grid_search.specs.Searches.{Searched, cost_at, key_or_none, keys_of, 
 use Rattle.first_sets.specs.Places.{IsBeside, StaysWithin, IsBroughtTo, CanJoin}
 use Rattle.first_sets.specs.Steps.{IsPassedOn}
 use Rattle.first_sets.proofs.Besides.{same_beside}
-use Rattle.first_sets.proofs.Standing.{none_or_some, some_of, place_inside, settled_cost, settled_inside}
+use Rattle.first_sets.proofs.Standing.{none_or_some, some_of, place_below, settled_cost, settled_inside}
 use Rattle.root_cost.specs.declared.TheConstants.{NO_KEY}
 use Rattle.moves.specs.declared.TheConstants.{MAX_PASSABLE, MAX_CELLS}
 
@@ -55,7 +55,7 @@ module _ (map : Map) (masks : List ℕ) (are : AreMoveMasks map masks) (cell : C
   pub stays_within : StaysWithin map.width (map.width * map.height) (get_or masks (place_of map.width cell) 0) (place_of map.width cell)
   stays_within by h =
       let to = legal_of by h in
-      (place_of map.width to.0, beside_target map.width by cell to.0 to.1.target, place_inside map to.0 to.1.enters.inside)
+      (place_of map.width to.0, beside_target map.width by cell to.0 to.1.target, place_below map to.0 to.1.enters.inside)
 
 -- ---- keys and costs
 
@@ -69,7 +69,7 @@ step_key-plus_step cost by = key_of-plus_step cost (is_diagonal by)
 module _ (map : Map) (source : Cell) (search : Searched) (has : HasSearched map source search) where
   key_in : (cell : Cell) → IsInside map cell → get_or (keys_of search) (place_of map.width cell) 0 ≡ key_or_none (cost_at search cell)
   key_in cell inside =
-      let low = place_inside map cell inside in
+      let low = place_below map cell inside in
       let cells = has.cells in
       let same : place_of search.width cell ≡ place_of map.width cell = ap (λ w. place_of w cell) has.width in
       get_or-map key_or_none search.costs (place_of map.width cell) None 0 (omega arith) ∙ ap (λ p. key_or_none (get_or search.costs p None)) (sym same)
@@ -169,7 +169,7 @@ module _ (map : Map) (source : Cell) (search : Searched) (has : HasSearched map 
     can_join_at few fits =
         let to = get_or search.settled i source in
         let size : map.width * map.height ≡ length keys = sym has.cells ∙ sym (length-map search.costs key_or_none) ∙ ap length (sym keys_are) in
-        let low = place_inside map to (settled_inside map source search has i low) in
+        let low = place_below map to (settled_inside map source search has i low) in
         record { inside = omega arith; size = omega arith; room = omega arith; near = near_at }
 
     pub made_at : (made : ℕ) → ((move : Move) → Has made move ↔ IsBroughtTo w keys sets (get_or masks place 0) place move)

@@ -20,8 +20,9 @@ use Rattle.moves.proofs.MovesInSets.{Has-all}
 use Rattle.grid_search.specs.Searches.{Searched, cost_at, HasSearched}
 use Rattle.first_sets.specs.Memory.{AreEmptyBut}
 use Rattle.first_sets.specs.Steps.{set_in, IsPassed}
-use Rattle.grid_search.proofs.Places.{place_back, cell_inside}
-use Rattle.first_sets.proofs.Standing.{none_or_some, same_or_apart, place_inside, settled_cost, settled_inside, settled_once, stands, some_of}
+use Rattle.moves.proofs.RowMajor.{place_of_cell_at}
+use Rattle.grid_search.proofs.Places.{cell_inside}
+use Rattle.first_sets.proofs.Standing.{none_or_some, same_or_apart, place_below, settled_cost, settled_inside, settled_once, stands, some_of}
 use Rattle.first_sets.proofs.Passing.{has_same, set_in_same, set_in_other}
 
 -- cells at different places below `n` are at most `n`
@@ -57,7 +58,7 @@ module _ (map : Map) (source : Cell) (search : Searched) (has : HasSearched map 
   -- there are at most as many settled cells as cells
   pub few_settled : length search.settled ≤ map.width * map.height
   few_settled = few_places map.width (map.width * map.height) search.settled source
-      (λ j l. place_inside map (get_or search.settled j source) (settled_inside map source search has j l))
+      (λ j l. place_below map (get_or search.settled j source) (settled_inside map source search has j l))
       (λ i j l m e. elim (same_or_apart map (get_or search.settled i source) (get_or search.settled j source)
       (settled_inside map source search has i (omega arith)) (settled_inside map source search has j m)) [
         | inl same ↦ settled_once map source search has i j l m same
@@ -133,7 +134,7 @@ module _ (map : Map) (source : Cell) (search : Searched) (has : HasSearched map 
                 | inl low ↦
                     let cell = cell_at map.width place in
                     let inside = cell_inside map place low in
-                    let at = place_back map.width place in
+                    let at = place_of_cell_at map.width place in
                     let there : Has (set_in map.width sets cell) move = subst (λ p. Has (get_or sets p 0) move) (sym at) old in
                     elim (none_or_some (cost_at search cell)) [
                       | inl none ↦ absurd (none_unreached cell move inside none there)
@@ -148,5 +149,5 @@ module _ (map : Map) (source : Cell) (search : Searched) (has : HasSearched map 
             All-from_get_or (λ place. place < length sets) (take (length search.settled) places) 0 (λ j l.
             let m : j < length search.settled = omega arith in
             let here = get_or-take (length search.settled) places j 0 m ∙ written j m in
-            let low = place_inside map (get_or search.settled j source) (settled_inside map source search has j m) in
+            let low = place_below map (get_or search.settled j source) (settled_inside map source search has j m) in
             omega arith)

@@ -11,7 +11,7 @@ use Rattle.moves.specs.FirstSets.{IsFirstMove}
 use Rattle.moves.proofs.FirstMoves.{first_moves_are_local}
 use Rattle.grid_search.specs.Searches.{Searched, cost_at, HasSearched}
 use Rattle.first_sets.specs.Steps.{Attains, set_in, IsPassedOn, IsPassed}
-use Rattle.first_sets.proofs.Standing.{some_of, same_or_apart, place_inside, least_at, comes_of, attains_of, no_step_to_source, settled_cost, settled_inside, stands_before, settled_once}
+use Rattle.first_sets.proofs.Standing.{some_of, same_or_apart, place_below, least_at, comes_of, attains_of, no_step_to_source, settled_cost, settled_inside, stands_before, settled_once}
 
 -- what is said of one set is said of an equal one
 pub has_same : (a b : ℕ) (move : Move) (F : Type 0) → a ≡ b → Has b move ↔ F → Has a move ↔ F
@@ -21,7 +21,7 @@ has_same a b move F e h = (λ k. h.0 (subst (λ s. Has s move) e k), λ f. subst
 pub set_in_same : (map : Map) (sets : List ℕ) (to : Cell) (new : ℕ) → map.width * map.height ≤ length sets → IsInside map to
     → set_in map.width (set sets (place_of map.width to) new) to ≡ new
 set_in_same map sets to new fits inside =
-    get_or-set_same sets (place_of map.width to) new 0 (let low = place_inside map to inside in omega arith)
+    get_or-set_same sets (place_of map.width to) new 0 (let low = place_below map to inside in omega arith)
 
 pub set_in_other : (map : Map) (sets : List ℕ) (to cell : Cell) (new : ℕ) → IsInside map to → IsInside map cell → to ≢ cell
     → set_in map.width (set sets (place_of map.width to) new) cell ≡ set_in map.width sets cell
@@ -119,7 +119,7 @@ module _ (map : Map) (source : Cell) (search : Searched) (has : HasSearched map 
                 has_same _ _ move _ (set_in_other map sets cell other new inside within away)
                 (passed.waiting other within (λ j low. apart j (omega arith)) move);
             beyond = λ place move past h.
-                let low = place_inside map cell inside in
+                let low = place_below map cell inside in
                 let n : place ≢ place_of map.width cell = omega arith in
                 passed.beyond place move past (subst (λ s. Has s move) (get_or-set_other sets (place_of map.width cell) place new 0 n) h);
           }

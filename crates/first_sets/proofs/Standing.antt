@@ -1,8 +1,7 @@
 -- What a search says of the steps that attain a cell's cost, and that the cell before stands before it in the order.
-use Rattle.std.proofs.Common.{◌≡◌, ◌≢◌, ◌⊎◌, ℕ, ◌*◌, ◌<◌, inl, inr, refl, sym, ap, subst, ◌∙◌, arith, [], length, get_or, Option, Some, None, IsSome}
+use Rattle.std.proofs.Common.{◌≡◌, ◌≢◌, ◌⊎◌, ℕ, ◌<◌, inl, inr, refl, sym, ap, subst, ◌∙◌, arith, [], length, get_or, Option, Some, None, IsSome}
 use Rattle.std.proofs.lemmas.Bool.{cases_eq}
 use Rattle.std.proofs.lemmas.List.{get_or_default}
-use Rattle.std.proofs.lemmas.Nat.{same_from_place, mul-add-lt}
 use Rattle.root_cost.specs.declared.Cost.{Cost}
 use Rattle.root_cost.specs.Costs.{IsAtMost, no_cost}
 use Rattle.root_cost.proofs.Order.{at_most_itself}
@@ -17,8 +16,10 @@ use Rattle.moves.specs.CostTables.{after_step}
 use Rattle.moves.specs.FirstSets.{ComesBy}
 use Rattle.moves.proofs.FirstMoves.{best_none}
 use Rattle.moves.proofs.LeastCosts.{same_least}
-use Rattle.moves.proofs.MoveLaws.{same_cell}
 use Rattle.grid_search.specs.Searches.{Searched, cost_at, HasCost, HasSearched}
+pub use Rattle.moves.proofs.Terrains.{place_below}
+pub use Rattle.grid_search.proofs.Preceding.{some_of}
+use Rattle.moves.proofs.Terrains.{same_from_places}
 use Rattle.grid_search.proofs.Preceding.{stands_before as earlier}
 use Rattle.first_sets.specs.Steps.{Attains, CostsStep}
 
@@ -27,10 +28,6 @@ abbrev pub filler : Move × Cell
 filler = (N, record { x = 0; y = 0 })
 
 -- ---- options
-
-pub some_of : (o : Option Cost) → IsSome o → (c : Cost) × (o ≡ Some c)
-some_of None h = cc
-some_of (Some c) h = (c, refl)
 
 pub is_some_of : (o : Option Cost) (c : Cost) → o ≡ Some c → IsSome o
 is_some_of o c e = rw e refl
@@ -44,14 +41,9 @@ none_or_some (Some c) = inr (c, refl)
 -- two cells inside are one, or stand at two places
 pub same_or_apart : (map : Map) (a b : Cell) → IsInside map a → IsInside map b → (a ≡ b) ⊎ (place_of map.width a ≢ place_of map.width b)
 same_or_apart map a b p q = elim (cases_eq (place_of map.width a) (place_of map.width b)) [
-  | inl e ↦
-      let same : (a.y ≡ b.y) × (a.x ≡ b.x) = same_from_place a.y a.x b.y b.x map.width p.column q.column e in
-      inl (same_cell a b same.1 same.0)
+  | inl e ↦ inl (same_from_places map a b p q e)
   | inr n ↦ inr n
 ]
-
-pub place_inside : (map : Map) (cell : Cell) → IsInside map cell → place_of map.width cell < map.width * map.height
-place_inside map cell h = mul-add-lt cell.y map.width cell.x map.height h.row h.column
 
 -- ---- least costs
 

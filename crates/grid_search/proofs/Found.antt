@@ -1,5 +1,5 @@
 -- What a search has found when no reached cell is left: a table of costs that are the least, in order.
-use Rattle.std.proofs.Common.{◌≡◌, ◌≢◌, ℕ, zero, suc, ◌+◌, ◌*◌, ◌<◌, ◌≤◌, ◌&&◌, Bool, true, false, cond, nat_lt, List, [], ◌∷◌, ◌++◌, Option, Some, None, IsSome, map, take, length, get_or, refl, sym, ap, ◌∙◌, subst, inl, inr, arith, All, AllPairs, Contains}
+use Rattle.std.proofs.Common.{◌≡◌, ◌≢◌, ℕ, zero, suc, ◌+◌, ◌*◌, ◌<◌, ◌≤◌, ◌&&◌, Bool, true, false, cond, nat_lt, List, [], ◌∷◌, ◌++◌, Option, Some, None, map, take, length, get_or, refl, sym, ap, ◌∙◌, subst, inl, inr, arith, All, AllPairs, Contains}
 use Rattle.std.proofs.lemmas.Bool.{cases_lt, cases_Bool, lt-ltb, ltb-true, and_parts, and_from}
 use Rattle.std.proofs.lemmas.List.{get_or-map, get_or-take, length-map, length-take-le, length_push}
 use Rattle.std.proofs.lemmas.List.Elements.{All-push, All-contains, Contains-get_or}
@@ -22,8 +22,9 @@ use Rattle.root_cost.proofs.Keys.{cost_if_of, cost_if_none}
 use Rattle.grid_search.proofs.Counting.{marked_once}
 use Rattle.grid_search.specs.Settling.{IsReached, IsProgress, IsNext, IsFinished}
 use Rattle.grid_search.proofs.Progress.{step_least, step_most}
-use Rattle.grid_search.proofs.Places.{cell_of_place, place_inside}
-use Rattle.grid_search.proofs.Preceding.{one_some}
+use Rattle.moves.proofs.RowMajor.{same_cell_from_place, place_inside}
+use Rattle.moves.proofs.TableLaws.{one_some}
+use Rattle.grid_search.proofs.Preceding.{some_of}
 use Rattle.root_cost.specs.declared.TheConstants.{NO_KEY, STRAIGHT_KEY, DIAGONAL_KEY, KEYED_DIAGONALS, GREATEST_KEY}
 use Rattle.moves.specs.declared.TheConstants.{MAX_PASSABLE}
 
@@ -71,7 +72,7 @@ module _ (m : Map) (source : Cell) (keys : List ℕ) (settled : List Cell) (pass
   -- settled cells are passable and differ in their places
   apart_settled : AllPairs (λ a b. place_of m.width a ≡ place_of m.width b → ⊥) settled
   apart_settled i j d h k e = p.once i j d h k
-      (cell_of_place m.width (get_or settled i d) (get_or settled j d) (p.reached i d (omega arith)).inside.column (p.reached j d k).inside.column e)
+      (same_cell_from_place m.width (get_or settled i d) (get_or settled j d) (p.reached i d (omega arith)).inside.column (p.reached j d k).inside.column e)
 
   passable_settled : All (λ cell. get_or m.passable (place_of m.width cell) false ≡ true) settled
   passable_settled k d h = (reached_passable (get_or settled k d) (p.reached k d h)).passable
@@ -86,7 +87,7 @@ module _ (m : Map) (source : Cell) (keys : List ℕ) (settled : List Cell) (pass
       let count : length (settled ++ u ∷ []) ≤ passable_count m = marked_once (place_of m.width) (settled ++ u ∷ []) m.passable
       (all_pairs_push (λ a b. place_of m.width a ≡ place_of m.width b → ⊥) settled u apart_settled
       (λ i d h e. next.open_yet (subst (Contains settled)
-      (cell_of_place m.width (get_or settled i d) u (p.reached i d h).inside.column next.reached.inside.column e) (Contains-get_or settled i d h))))
+      (same_cell_from_place m.width (get_or settled i d) u (p.reached i d h).inside.column next.reached.inside.column e) (Contains-get_or settled i d h))))
       (All-push (λ c. get_or m.passable (place_of m.width c) false ≡ true) settled u passable_settled (reached_passable u next.reached).passable) in
       omega arith
 
@@ -205,15 +206,11 @@ module _ (m : Map) (source : Cell) (keys : List ℕ) (settled : List Cell) (pass
           let (cost, t, k, steps) = cost_reached cell reached in
           record { column = reached.inside.column; row = reached.inside.row; cost = rw t refl }
 
-      some_if_has : (option : Option Cost) → IsSome option → (cost : Cost) × (option ≡ Some cost)
-      some_if_has None h = cc
-      some_if_has (Some cost) h = (cost, refl)
-
       reached_has : (cell : Cell) → HasCost found cell → IsReached m keys cell
       unfolding found
       reached_has cell has =
           let inside : IsInside m cell = record { column = has.column; row = has.row } in
-          let (cost, e) = some_if_has (cost_at found cell) has.cost in
+          let (cost, e) = some_of (cost_at found cell) has.cost in
           reached_if cell cost (table_inside m keys cell inside ∙ sym (cost_found cell inside) ∙ e)
 
       no_dearer : (a b : Cell) → IsReached m keys a → IsReached m keys b → key_at m.width keys a ≤ key_at m.width keys b → IsNoDearer found a b

@@ -12,7 +12,8 @@ use Rattle.grid_search.specs.Queues.{Queues, Opened, opened, empty_queues}
 use Rattle.grid_search.specs.Settling.{IsReached, IsFinished}
 use Rattle.grid_search.proofs.Keyed.{proper_none, proper_some}
 use Rattle.moves.proofs.OneValue.{one_value}
-use Rattle.grid_search.proofs.Places.{place_back, cell_inside}
+use Rattle.moves.proofs.RowMajor.{place_of_cell_at}
+use Rattle.grid_search.proofs.Places.{cell_inside}
 use Rattle.grid_search.proofs.Found.{settled_count}
 use Rattle.root_cost.specs.declared.TheConstants.{NO_KEY}
 use Rattle.moves.specs.declared.TheConstants.{MAX_PASSABLE}
@@ -49,7 +50,7 @@ module _ (m : Map) (source : Cell) (keys : List ℕ) (settled : List Cell) (limi
     (few : IsSearchable m) (f : IsFinished m source keys settled) where
   kept_proper : (place : ℕ) → place < m.width * m.height → key_or_none (cost_if_key (get_or keys place NO_KEY)) ≡ get_or keys place NO_KEY
   kept_proper place inside =
-      let here : key_at m.width keys (cell_at m.width place) ≡ get_or keys place NO_KEY = ap (λ p. get_or keys p NO_KEY) (place_back m.width place) in
+      let here : key_at m.width keys (cell_at m.width place) ≡ get_or keys place NO_KEY = ap (λ p. get_or keys p NO_KEY) (place_of_cell_at m.width place) in
       let most : key_at m.width keys (cell_at m.width place) ≤ NO_KEY = f.limit (cell_at m.width place) (cell_inside m place inside) in
       elim (cases_lt (get_or keys place NO_KEY) NO_KEY) [
         | inl found ↦
@@ -77,11 +78,11 @@ module _ (m : Map) (source : Cell) (keys : List ℕ) (settled : List Cell) (limi
         elim (cases_lt place (m.width * m.height)) [
           | inr past ↦ absurd (some (f.progress.beyond place past))
           | inl inside ↦
-              let here : key_at m.width keys (cell_at m.width place) ≡ get_or keys place NO_KEY = ap (λ p. get_or keys p NO_KEY) (place_back m.width place) in
+              let here : key_at m.width keys (cell_at m.width place) ≡ get_or keys place NO_KEY = ap (λ p. get_or keys p NO_KEY) (place_of_cell_at m.width place) in
               let most : key_at m.width keys (cell_at m.width place) ≤ NO_KEY = f.limit (cell_at m.width place) (cell_inside m place inside) in
               let reached : IsReached m keys (cell_at m.width place) = record { inside = cell_inside m place inside; found = omega arith } in
               let (k, h, at) = f.over (cell_at m.width place) reached in
-              subst (Any (λ cell. place_of m.width cell ≡ place)) e (k, cell_at m.width place, h, at, place_back m.width place)
+              subst (Any (λ cell. place_of m.width cell ≡ place)) e (k, cell_at m.width place, h, at, place_of_cell_at m.width place)
         ];
     proper = λ place.
         subst (λ list. key_or_none (cost_if_key (get_or list place NO_KEY)) ≡ get_or list place NO_KEY) (sym same)

@@ -1,22 +1,7 @@
 -- Places of cells in a list that goes row by row.
-use Rattle.std.proofs.Common.{◌≡◌, ℕ, zero, suc, ◌*◌, ◌<◌, arith}
-use Rattle.std.proofs.lemmas.Nat.{mul-add-lt, same_from_place, div_below, mod_below, div-add-mod'}
-use Rattle.moves.specs.declared.Cell.{Cell}
-use Rattle.moves.proofs.MoveLaws.{same_cell}
-use Rattle.moves.specs.Maps.{Map, IsInside, place_of, cell_at}
-
-pub place_inside : (width height : ℕ) (cell : Cell) → cell.x < width → cell.y < height → place_of width cell < width * height
-place_inside width height cell column row = mul-add-lt cell.y width cell.x height row column
-
--- one place, one cell
-pub cell_of_place : (width : ℕ) (a b : Cell) → a.x < width → b.x < width → place_of width a ≡ place_of width b → a ≡ b
-cell_of_place width a b h k e =
-    let same : (a.y ≡ b.y) × (a.x ≡ b.x) = same_from_place a.y a.x b.y b.x width h k e in
-    same_cell a b same.1 same.0
-
--- the cell at a place
-pub place_back : (width place : ℕ) → place_of width (cell_at width place) ≡ place
-place_back width place = div-add-mod' place width
+use Rattle.std.proofs.Common.{ℕ, zero, suc, ◌*◌, ◌<◌, arith}
+use Rattle.std.proofs.lemmas.Nat.{div_below, mod_below}
+use Rattle.moves.specs.Maps.{Map, IsInside, cell_at}
 
 some_factor : (a b n : ℕ) → n < a * b → 0 < a
 some_factor zero b n h = absurd (omega arith)

@@ -1,5 +1,5 @@
 -- In the order of a search a cell stands behind those from which a step attains its cost.
-use Rattle.std.proofs.Common.{◌≡◌, ℕ, ◌<◌, Bool, Some, length, get_or, refl, sym, ap, ◌∙◌, subst, inl, inr, arith}
+use Rattle.std.proofs.Common.{◌≡◌, ℕ, ◌<◌, Bool, Option, Some, None, IsSome, length, get_or, refl, sym, ap, ◌∙◌, subst, inl, inr, arith}
 use Rattle.std.proofs.lemmas.Bool.{cases_lt}
 use Rattle.std.proofs.lemmas.List.{get_or_default}
 use Rattle.root_cost.specs.declared.Cost.{Cost}
@@ -8,10 +8,13 @@ use Rattle.root_cost.proofs.Order.{at_most_itself}
 use Rattle.root_cost.proofs.Adding.{step_not_at_most}
 use Rattle.moves.specs.declared.Cell.{Cell}
 use Rattle.moves.specs.Maps.{Map, IsInside}
+use Rattle.moves.proofs.TableLaws.{one_some}
 use Rattle.grid_search.specs.Searches.{Searched, HasSearched, HasCost, cost_at, IsNoDearer}
 
-pub one_some : (x y : Cost) → Some x ≡ Some y → x ≡ y
-one_some x y e = cc
+-- an option that is not empty has a value
+pub some_of : (option : Option Cost) → IsSome option → (cost : Cost) × (option ≡ Some cost)
+some_of None h = cc
+some_of (Some cost) h = (cost, refl)
 
 -- where both cells have a cost, that of the first is at most that of the second
 no_dearer_costs : (search : Searched) (a b : Cell) (x y : Cost) → cost_at search a ≡ Some x → cost_at search b ≡ Some y → IsNoDearer search a b → IsAtMost x y

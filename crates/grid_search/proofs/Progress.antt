@@ -5,7 +5,7 @@ use Rattle.std.proofs.lemmas.List.Elements.{All-push, All-contains, Contains-pus
 use Rattle.std.proofs.lemmas.List.Quantifiers.{all_pairs_push}
 use Rattle.root_cost.specs.declared.Cost.{Cost}
 use Rattle.root_cost.specs.Costs.{key_of, plus_step}
-use Rattle.root_cost.proofs.Adding.{key_of-plus_step}
+use Rattle.root_cost.proofs.Adding.{key_of-plus_step, plus_step-counts}
 use Rattle.moves.specs.declared.Cell.{Cell}
 use Rattle.moves.specs.declared.Move.{Move}
 use Rattle.moves.specs.Maps.{Map, IsPassable}
@@ -28,10 +28,6 @@ step_least move = some_if (is_diagonal move)
 
 pub step_most : (move : Move) → move_key move ≤ DIAGONAL_KEY
 step_most move = most_if (is_diagonal move)
-
-step_counts : (cost : Cost) (d : Bool) → (plus_step cost d).straight + (plus_step cost d).diagonal ≡ cost.straight + cost.diagonal + 1
-step_counts cost true = omega arith
-step_counts cost false = omega arith
 
 module _ (map : Map) (source : Cell) (keys : List ℕ) (settled : List Cell) (passable : IsPassable map source)
     (p : IsProgress map source keys settled) (u : Cell) (next : IsNext map keys settled u)
@@ -121,7 +117,7 @@ module _ (map : Map) (source : Cell) (keys : List ℕ) (settled : List Cell) (pa
     | inr (move, legal, e) ↦
         let (cost, k, few) = p.costs u next.reached in
         let d = is_diagonal move in
-        (plus_step cost d, key_of-plus_step cost d ∙ ap (λ k. k + move_key move) k ∙ sym e, omega (arith, step_counts cost d, length_push settled u))
+        (plus_step cost d, key_of-plus_step cost d ∙ ap (λ k. k + move_key move) k ∙ sym e, omega (arith, plus_step-counts cost d, length_push settled u))
   ]
 
   shorter_after : (b : Cell) → Contains (settled ++ u ∷ []) b → (cost : Cost) × (key_of cost ≡ key_at map.width after b)

@@ -11,7 +11,7 @@ use Rattle.grid_search.specs.declared.queue.Waiting.{Waiting}
 use Rattle.grid_search.specs.Keys.{key_at}
 use Rattle.grid_search.specs.Settling.{IsReached, IsNext}
 use Rattle.grid_search.specs.Queues.{Pushes, IsFirst, IsLeft, push_to, rest_of, AreFound, IsQueue, AreQueues, Queues, Opened, IsUsedUp, HasSpace}
-use Rattle.grid_search.proofs.Places.{place_inside, cell_of_place}
+use Rattle.moves.proofs.RowMajor.{place_inside, same_cell_from_place}
 use Rattle.grid_search.proofs.Counting.{marked_once}
 use Rattle.root_cost.specs.declared.TheConstants.{NO_KEY}
 
@@ -122,7 +122,7 @@ pub pushed_count : (map : Map) (keys : List ℕ) (settled : List Cell) (level st
     → length queue.pushed ≤ passable_count map
 pushed_count map keys settled level step queue q = marked_once (λ (w : Waiting). place_of map.width w.cell) queue.pushed map.passable
     (λ i j d h k e. q.once i j d h k
-    (cell_of_place map.width (get_or queue.pushed i d).cell (get_or queue.pushed j d).cell (q.passable i d (omega arith)).inside.column
+    (same_cell_from_place map.width (get_or queue.pushed i d).cell (get_or queue.pushed j d).cell (q.passable i d (omega arith)).inside.column
     (q.passable j d k).inside.column e))
     (λ k d h. (q.passable k d h).passable)
 
@@ -163,10 +163,10 @@ module _ (map : Map) (keys : List ℕ) (settled : List Cell) (level step : ℕ) 
       (queue.pushed ++ more ∷ []) map.passable
       (all_pairs_push (λ a b. place_of map.width a.cell ≡ place_of map.width b.cell → ⊥) queue.pushed more
       (λ i j d h k e. q.once i j d h k
-      (cell_of_place map.width (get_or queue.pushed i d).cell (get_or queue.pushed j d).cell (q.passable i d (omega arith)).inside.column
+      (same_cell_from_place map.width (get_or queue.pushed i d).cell (get_or queue.pushed j d).cell (q.passable i d (omega arith)).inside.column
       (q.passable j d k).inside.column e))
       (λ i d h e. not_in queue q (get_or queue.pushed i d) (Contains-get_or queue.pushed i d h)
-      (cell_of_place map.width (get_or queue.pushed i d).cell to (q.passable i d h).inside.column passable.inside.column e)))
+      (same_cell_from_place map.width (get_or queue.pushed i d).cell to (q.passable i d h).inside.column passable.inside.column e)))
       (All-push (λ w. get_or map.passable (place_of map.width w.cell) false ≡ true) queue.pushed more
       (λ k d h. (q.passable k d h).passable) passable.passable) in
       omega arith
@@ -179,7 +179,7 @@ module _ (map : Map) (keys : List ℕ) (settled : List Cell) (level step : ℕ) 
 
     key_other : (b : Cell) → IsInside map b → (b ≡ to → ⊥) → key_at map.width (set keys (place_of map.width to) (level + step)) b ≡ key_at map.width keys b
     key_other b inside apart = get_or-set_other keys (place_of map.width to) (place_of map.width b) (level + step) NO_KEY
-        (λ e. apart (cell_of_place map.width b to inside.column passable.inside.column e))
+        (λ e. apart (same_cell_from_place map.width b to inside.column passable.inside.column e))
 
     key_lower : (b : Cell) → IsInside map b → key_at map.width (set keys (place_of map.width to) (level + step)) b ≤ key_at map.width keys b
     key_lower b inside = elim (same_or_apart b to) [

@@ -9,7 +9,7 @@ use Rattle.moves.specs.Moves.{number_of, IsTarget, IsLegal, HasLegal}
 use Rattle.moves.proofs.MoveLaws.{same_target, same_move}
 use Rattle.grid_search.specs.Keys.{move_key, key_at}
 use Rattle.grid_search.specs.Settling.{IsRelaxed, OnlyMove}
-use Rattle.grid_search.proofs.Places.{place_inside, cell_of_place}
+use Rattle.moves.proofs.RowMajor.{place_inside, same_cell_from_place}
 use Rattle.root_cost.specs.declared.TheConstants.{NO_KEY}
 
 module _ (map : Map) (from : Cell) (key : ℕ) where
@@ -83,7 +83,7 @@ module _ (map : Map) (from : Cell) (key : ℕ) where
               omega arith;
           from_there = λ b within. elim (cases_eq (place_of map.width b) place) [
             | inl same ↦
-                let cell : to ≡ b = cell_of_place map.width to b legal.enters.inside.column within.column (sym (same ∙ here)) in
+                let cell : to ≡ b = same_cell_from_place map.width to b legal.enters.inside.column within.column (sym (same ∙ here)) in
                 inr (
                   by,
                   subst (λ c. IsLegal map from by c) cell legal,

@@ -10,7 +10,8 @@ use Rattle.moves.proofs.TableLaws.{same_or_apart}
 use Rattle.grid_search.specs.Keys.{key_at}
 use Rattle.grid_search.specs.Scanning.{IsLeastOpen, AreNoneOpen}
 use Rattle.grid_search.specs.Settling.{IsProgress, IsRelaxed, IsNext, IsFinished, EveryMove}
-use Rattle.grid_search.proofs.Places.{place_inside, cell_of_place, place_back, cell_inside}
+use Rattle.moves.proofs.RowMajor.{place_inside, same_cell_from_place, place_of_cell_at}
+use Rattle.grid_search.proofs.Places.{cell_inside}
 use Rattle.grid_search.proofs.Progress.{turn}
 use Rattle.grid_search.proofs.Found.{room_left, key_few, reached_passable}
 use Rattle.grid_search.proofs.Turning.{progress_start, none_elsewhere, key_of_source}
@@ -151,7 +152,7 @@ module _ (map : Map) (source : Cell) (keys : List ℕ) (done : List Bool) (order
   module _ (passable : IsPassable map source) (place : ℕ) (least : IsLeastOpen keys done (map.width * map.height) place) where
     pub next_of_place : IsNext map keys (take count order) (cell_at map.width place)
     next_of_place =
-        let back : place_of map.width (cell_at map.width place) ≡ place = place_back map.width place in
+        let back : place_of map.width (cell_at map.width place) ≡ place = place_of_cell_at map.width place in
         let key : key_at map.width keys (cell_at map.width place) ≡ get_or keys place NO_KEY = ap (λ p. get_or keys p NO_KEY) back in
         let some : get_or keys place NO_KEY < NO_KEY = least.found in
         record {
@@ -172,7 +173,7 @@ module _ (map : Map) (source : Cell) (keys : List ℕ) (done : List Bool) (order
 
     pub few_next : IsSearchable map → get_or keys place NO_KEY ≤ GREATEST_KEY
     few_next few =
-        let back : place_of map.width (cell_at map.width place) ≡ place = place_back map.width place in
+        let back : place_of map.width (cell_at map.width place) ≡ place = place_of_cell_at map.width place in
         let key : key_at map.width keys (cell_at map.width place) ≡ get_or keys place NO_KEY = ap (λ p. get_or keys p NO_KEY) back in
         let low : key_at map.width keys (cell_at map.width place) ≤ GREATEST_KEY = key_few map source keys (take count order) passable s.progress
         (cell_at map.width place) few next_of_place.reached in
@@ -197,7 +198,7 @@ module _ (map : Map) (source : Cell) (keys : List ℕ) (done : List Bool) (order
           → IsRelaxed map cell key EveryMove keys after
           → IsScanning map source after (set done place true) (set order count cell) (count + 1)
       scanning_more after key cell is_cell is_key relaxed =
-          let back : place_of map.width cell ≡ place = ap (place_of map.width) is_cell ∙ place_back map.width place in
+          let back : place_of map.width cell ≡ place = ap (place_of map.width) is_cell ∙ place_of_cell_at map.width place in
           let at_cell : key ≡ key_at map.width keys cell = is_key ∙ ap (λ p. get_or keys p NO_KEY) (sym back) in
           let next : IsNext map keys (take count order) cell = subst (IsNext map keys (take count order)) (sym is_cell) next_of_place in
           let r : IsRelaxed map cell (key_at map.width keys cell) EveryMove keys after = subst
@@ -212,7 +213,7 @@ module _ (map : Map) (source : Cell) (keys : List ℕ) (done : List Bool) (order
             counted = let inside : count < length order = room_in_order in omega (arith, length-set order count cell);
             settled = λ b inside was. subst (λ list. Contains list b) longer (elim (cases_eq (place_of map.width b) place) [
               | inl same ↦ subst (Contains (take count order ++ cell ∷ []))
-                  (cell_of_place map.width cell b next.reached.inside.column inside.column (back ∙ sym same)) (Contains-push (take count order) cell)
+                  (same_cell_from_place map.width cell b next.reached.inside.column inside.column (back ∙ sym same)) (Contains-push (take count order) cell)
               | inr apart ↦ Contains-append_left (take count order) (cell ∷ []) b
                   (s.settled b inside (sym (get_or-set_other done place (place_of map.width b) true false apart) ∙ was))
             ]);

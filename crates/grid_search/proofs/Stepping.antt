@@ -12,7 +12,7 @@ use Rattle.root_cost.specs.Keys.{step_key}
 use Rattle.grid_search.specs.Keys.{move_key, key_at}
 use Rattle.grid_search.specs.Settling.{IsRelaxed, OnlyMove, EveryMove}
 use Rattle.grid_search.specs.Queues.{Pushes, push_to, AreQueues, Opened, AreOpened, AreReady, AreStepsTaken}
-use Rattle.grid_search.proofs.Places.{place_inside}
+use Rattle.moves.proofs.RowMajor.{place_inside}
 use Rattle.grid_search.proofs.Relaxing.{relaxed_then, relaxed_skip, relaxed_written}
 use Rattle.grid_search.proofs.Queueing.{swapped, pushed, room_for, space_kept}
 use Rattle.root_cost.specs.declared.TheConstants.{NO_KEY, STRAIGHT_KEY, DIAGONAL_KEY, GREATEST_KEY}

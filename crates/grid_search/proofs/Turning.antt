@@ -12,7 +12,7 @@ use Rattle.grid_search.specs.Keys.{key_at, HasNoKeys}
 use Rattle.grid_search.specs.Settling.{IsReached, IsProgress, IsRelaxed, IsNext, IsFinished, EveryMove}
 use Rattle.grid_search.specs.Queues.{Pushes, IsFirst, IsLeft, push_to, rest_of, empty_with, IsQueue, AreQueues}
 use Rattle.grid_search.specs.Queues.{Opened, started, IsFirstTaken, IsUsedUp, queues_of, HasSpace, AreOpened, AreReady, IsSettledLast, AreStepsTaken, taken_from}
-use Rattle.grid_search.proofs.Places.{place_inside, cell_of_place}
+use Rattle.moves.proofs.RowMajor.{place_inside, same_cell_from_place}
 use Rattle.grid_search.proofs.Progress.{turn}
 use Rattle.grid_search.proofs.Found.{room_left, key_few}
 use Rattle.grid_search.proofs.Queueing.{swapped, dropped, next_cell, taken_queues, pushed_count, space_kept}
@@ -54,7 +54,7 @@ module _ (map : Map) (source : Cell) (passable : IsPassable map source) (keys : 
 
   pub none_elsewhere : (b : Cell) → b.x < map.width → (b ≡ source → ⊥) → key_at map.width (set keys place 0) b ≡ NO_KEY
   none_elsewhere b column apart =
-      get_or-set_other keys place (place_of map.width b) 0 NO_KEY (λ e. apart (cell_of_place map.width b source column passable.inside.column (e ∙ here)))
+      get_or-set_other keys place (place_of map.width b) 0 NO_KEY (λ e. apart (same_cell_from_place map.width b source column passable.inside.column (e ∙ here)))
       ∙ unused (place_of map.width b)
 
   only_source : (b : Cell) → IsReached map (set keys place 0) b → b ≡ source

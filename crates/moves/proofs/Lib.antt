@@ -8,6 +8,7 @@ pub mod MoveLaws
 pub mod MovesInSets
 pub mod Finding
 pub mod Masks
+pub mod Marks
 pub mod Terrains
 pub mod CostsOfPaths
 pub mod LawsOfPaths

@@ -1,5 +1,5 @@
 -- Places of cells in a rectangle.
-use Rattle.std.proofs.Common.{◌≡◌, ℕ, ◌+◌, ◌-◌, ◌*◌, ◌<◌, List, get_or, arith}
+use Rattle.std.proofs.Common.{◌≡◌, ℕ, ◌-◌, ◌*◌, ◌<◌, List, get_or, arith}
 use Rattle.std.proofs.lemmas.Nat.{same_from_place, mul-add-lt}
 use Rattle.moves.specs.declared.Cell.{Cell}
 use Rattle.moves.specs.Rectangles.{Rectangle, IsWithin, place_in, AreEdges, IsBetween}

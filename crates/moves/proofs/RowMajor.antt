@@ -1,5 +1,5 @@
 -- Lists of the cells that pass a test, row by row.
-use Rattle.std.proofs.Common.{◌≡◌, ℕ, zero, suc, ◌+◌, ◌*◌, ◌/◌, ◌%◌, ◌<◌, ◌≤◌, Bool, true, false, List, [], ◌∷◌, length, get_or, map, sym, ap, ◌∙◌, subst, inl, inr, arith, zero-add}
+use Rattle.std.proofs.Common.{◌≡◌, ℕ, zero, suc, ◌+◌, ◌*◌, ◌/◌, ◌%◌, ◌<◌, ◌≤◌, ◌⊎◌, Bool, true, false, List, [], ◌∷◌, length, get_or, map, sym, ap, ◌∙◌, subst, inl, inr, arith, zero-add}
 use Rattle.std.specs.List.{All, AllPairs, Contains, filter, range_with_len}
 use Rattle.std.proofs.lemmas.Bool.{cases_lt, cases_eq, cases_Bool, cond-true, cond-false}
 use Rattle.std.proofs.lemmas.Nat.{same_from_place, div-add-mod', mod_below, mul-le, mul-add-lt}
@@ -59,6 +59,14 @@ place_inside w h c column row = mul-add-lt c.y w c.x h row column
 -- what a list with one element more contains
 pub contains_later : {X : Type 0} (y : X) (xs : List X) (x : X) → Contains xs x → Contains (y ∷ xs) x
 contains_later y xs x h = (suc h.0, omega arith, h.2)
+
+-- an element of a list is its first one or one of the rest
+contains_at : {X : Type 0} (y : X) (xs : List X) (x : X) (k : ℕ) → k < length (y ∷ xs) → get_or (y ∷ xs) k x ≡ x → (y ≡ x) ⊎ Contains xs x
+contains_at y xs x zero less at = inl at
+contains_at y xs x (suc k) less at = inr (k, omega arith, at)
+
+pub contains_cases : {X : Type 0} (y : X) (xs : List X) (x : X) → Contains (y ∷ xs) x → (y ≡ x) ⊎ Contains xs x
+contains_cases y xs x h = contains_at y xs x h.0 h.1 h.2
 
 -- an element that passes the test is in what the filter keeps
 pub contains_filtered : {X : Type 0} (p : X → Bool) (xs : List X) (x : X) (k : ℕ) → k < length xs → get_or xs k x ≡ x

@@ -24,7 +24,8 @@ same_or_apart a b = elim (cases_eq a.x b.x) [
   ]
 ]
 
-one_some : (x y : Cost) → Some x ≡ Some y → x ≡ y
+-- an option has one value
+pub one_some : (x y : Cost) → Some x ≡ Some y → x ≡ y
 one_some x y e = cc
 
 step_counts : (before cost : Cost) (d : Bool) → cost ≡ plus_step before d

@@ -74,6 +74,20 @@ impl Grid {
         Grid::of_cells(alloc, width, height, cells)
     }
 
+    /// An equal grid.
+    ///
+    /// # Errors
+    ///
+    /// `AllocError` where memory runs out.
+    pub fn copy(&self) -> Result<Grid, AllocError>
+        ensures { IfOk result (λ copy. copy ≡ self.now) }
+    {
+        Ok(Grid {
+            terrain: self.terrain.copy()?,
+            masks: self.masks.clone()?,
+        })
+    }
+
     /// The number of columns, from 1 to [`MAX_SIDE`](crate::MAX_SIDE).
     pub fn width(&self) -> u32
         ensures width { result ≡ self.now.width }

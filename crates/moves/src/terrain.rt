@@ -1,6 +1,7 @@
 //! The cells of a map and its rule of legal moves, without anything that is kept for speed.
 
-ghost use Rattle.std.specs.Prelude.{◌≡◌, ℕ, ◌+◌, ◌*◌, ◌<◌, ◌≤◌, ◌↔◌, Bool, false, List, IsTrue, IsBitSet, IfOk, IfSome, IfNone, length, replicate, count_by};
+ghost use Rattle.std.specs.Prelude.{◌≡◌, ℕ, ◌+◌, ◌*◌, ◌<◌, ◌≤◌, ◌↔◌, Bool, false, List, IsTrue, IsBitSet, IfOk, IfSome, IfNone, length, replicate, count_by, slice_set};
+ghost use Rattle.moves.specs.declared.TheConstants.{MAX_CELLS};
 ghost use Rattle.moves.specs.Maps.{Map, IsWithinLimits, IsInside, IsPassable, blocked_map, map_with, with_cell, passable_count, place_of};
 ghost use Rattle.moves.specs.MoveMasks.{HasFree, IsFreeMask, IsLegalAmong, IsMoveMask, WritesMasks};
 ghost use Rattle.moves.specs.Neighbours.{AreNeighbours, NoneIsNumbered};
@@ -8,7 +9,7 @@ ghost use Rattle.moves.specs.declared.Cell.{Cell};
 ghost use Rattle.moves.specs.declared.Move.{Move};
 ghost use Rattle.moves.specs.Moves.{number_of, is_diagonal, HasFreeCorners, IsTarget, IsLegal, HasLegal, LeadsOutside};
 
-use crate::{Cell, MAX_SIDE, Move, place};
+use crate::{Cell, MAX_CELLS, MAX_SIDE, Move, place};
 use arrayvec::ArrayVec;
 use std::alloc::{AllocError, Global};
 use std::marker::Model;
@@ -21,17 +22,20 @@ pub struct Terrain {
     width: u32,
     height: u32,
     passable: Vec<bool>,
+    /// How many cells are passable.
+    count: u32,
 }
 
 impl Model for Terrain {
-    ghost use Rattle.std.specs.Prelude.{◌≡◌, ◌*◌, vec_len};
+    ghost use Rattle.std.specs.Prelude.{◌≡◌, ◌*◌, vec_len, count_by};
     ghost use Rattle.moves.specs.Maps.{Map, IsWithinLimits};
 
     ghost Value = { Map };
 
     ghost view = { λ g. record { width = g.width; height = g.height; passable = g.passable.items } };
 
-    ghost invariant = { λ g. IsWithinLimits g.width g.height × (vec_len g.passable ≡ g.width * g.height) };
+    ghost invariant = { λ g. IsWithinLimits g.width g.height × (vec_len g.passable ≡ g.width * g.height)
+        × (g.count ≡ count_by (λ passable. passable) g.passable.items) };
 }
 
 impl Terrain {
@@ -45,6 +49,7 @@ impl Terrain {
             width,
             height,
             passable: vec![in alloc; false; cells]?,
+            count: 0,
         })
     }
 
@@ -54,11 +59,25 @@ impl Terrain {
         requires whole { length cells.items ≡ width * height }
         ensures { result ≡ map_with width height cells.items }
     {
+        let count = marked(&cells);
         Terrain {
             width,
             height,
             passable: cells,
+            count,
         }
+    }
+
+    /// An equal map.
+    pub fn copy(&self) -> Result<Terrain, AllocError>
+        ensures { IfOk result (λ copy. copy ≡ self.now) }
+    {
+        Ok(Terrain {
+            width: self.width,
+            height: self.height,
+            passable: self.passable.clone()?,
+            count: self.count,
+        })
     }
 
     /// The number of columns, from 1 to [`MAX_SIDE`](crate::MAX_SIDE).
@@ -99,14 +118,14 @@ impl Terrain {
         ensures { self.new ≡ with_cell self.old cell passable }
     {
         let place = self.place(cell);
-        self.passable[place] = passable;
+        self.count = change_mark(self.passable.as_mut_slice(), place, passable, self.count);
     }
 
     /// How many cells are passable.
     pub fn passable_count(&self) -> u32
         ensures { result ≡ passable_count self.now }
     {
-        self.passable.iter().filter(|passable| **passable).count() as u32
+        self.count
     }
 
     /// The cell that the move leads to; `None` exactly where that is not inside.
@@ -267,6 +286,28 @@ impl Terrain {
     {
         place(self.width, cell)
     }
+}
+
+/// How many of these are true.
+fn marked(marks: &[bool]) -> u32
+    requires { length marks.now ≤ MAX_CELLS }
+    ensures { result ≡ count_by (λ mark. mark) marks.now }
+{
+    marks.iter().filter(|mark| **mark).count() as u32
+}
+
+/// Writes one truth value of a list of which so many are true, and gives how many are true then.
+#[tactic(auto, using(crate::proofs::Marks::recounted, crate::proofs::Marks::counted))]
+fn change_mark(marks: &mut [bool], place: usize, mark: bool, count: u32) -> u32
+    requires limit { length marks.old ≤ MAX_CELLS }
+    requires inside { place < length marks.old }
+    requires count { count ≡ count_by (λ mark. mark) marks.old }
+    ensures marks { marks.new ≡ slice_set marks.old place mark }
+    ensures count { result ≡ count_by (λ mark. mark) marks.new }
+{
+    let others = count - u32::from(marks[place]);
+    marks[place] = mark;
+    others + u32::from(mark)
 }
 
 /// Whether the move with that number is legal from a passable cell, where the mask has the moves that lead to

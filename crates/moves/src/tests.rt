@@ -127,14 +127,17 @@ fn drawn_cells_are_passable(rt: HostRuntime) -> Result<(), AllocError> {
     let cells = [true, true, false, true, false, true];
     let drawn = Grid::of_rows(rt.alloc(), 3, 2, "..@/.T.")?;
     let listed = Grid::of_cells(rt.alloc(), 3, 2, cells.to_vec(rt.alloc())?)?;
+    let copied = drawn.copy()?;
     for (x, y) in [(0, 0), (1, 0), (2, 0), (0, 1), (1, 1), (2, 1)] {
         let cell = Cell { x, y };
         let place = place(3, cell);
         assert!(rt; place < cells.len());
         assert_eq!(rt; drawn.passable(cell), cells[place]);
         assert_eq!(rt; listed.passable(cell), cells[place]);
+        assert_eq!(rt; copied.passable(cell), cells[place]);
     }
     assert_eq!(rt; drawn.passable_count(), 4);
+    assert_eq!(rt; copied.passable_count(), 4);
     Ok(())
 }
 

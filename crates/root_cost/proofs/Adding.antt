@@ -57,6 +57,10 @@ at_most_step_iff x y d = (at_most_step x y d, at_most_step_cancel x y d)
 
 -- ---- a step costs something
 
+pub plus_step-counts : (x : Cost) (d : Bool) → (plus_step x d).straight + (plus_step x d).diagonal ≡ x.straight + x.diagonal + 1
+plus_step-counts x true = omega arith
+plus_step-counts x false = omega arith
+
 pub at_most_more : (x y : Cost) → x.straight ≤ y.straight → x.diagonal ≤ y.diagonal → IsAtMost x y
 unfolding IsAtMost
 at_most_more x y h k = inl (h, k)

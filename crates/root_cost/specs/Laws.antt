@@ -1,5 +1,5 @@
 -- The laws of the cost order, which the functions `order_is_lawful` and `keys_order` state.
-use Rattle.std.specs.Prelude.{◌≡◌, ℕ, ◌*◌, ◌<◌, ◌≤◌, ◌⊎◌, ◌↔◌}
+use Rattle.std.specs.Prelude.{◌≡◌, ℕ, ◌*◌, ◌<◌, ◌≤◌, ◌⊎◌, ◌↔◌, Bool, true}
 use Rattle.std.specs.Ordering.{MatchOrdering}
 use Rattle.root_cost.specs.declared.Cost.{Cost}
 use Rattle.root_cost.specs.Compared.{cost_cmp}
@@ -16,8 +16,18 @@ IsLess x y = IsAtMost x y × (IsAtMost y x → ⊥)
 abbrev pub diagonals : ℕ → Cost
 diagonals n = record { straight = 0; diagonal = n }
 
+-- a test of two costs that is total and antisymmetric, that nothing changes that is added on both sides, by which no cost
+-- is below ZERO, and by which p straight steps are at most q diagonal ones exactly where p² ≤ 2q²
+pub record TestsCosts (test : Cost → Cost → Bool) : Type 0 where
+  pub total : (x y : Cost) → (test x y ≡ true) ⊎ (test y x ≡ true)
+  pub antisymmetric : (x y : Cost) → test x y ≡ true → test y x ≡ true → x ≡ y
+  pub least : (x : Cost) → test ZERO x ≡ true
+  pub added : (x y z : Cost) → (test x y ≡ true) ↔ (test (sum_of x z) (sum_of y z) ≡ true)
+  pub by_squares : (p q : ℕ) → (test (whole p) (diagonals q) ≡ true) ↔ (p * p ≤ 2 * (q * q))
+
 -- `IsAtMost` is a total order in which costs are equal only as equal pairs, `cmp` answers by it, what is added on both
--- sides changes nothing, no cost is below ZERO, and p straight steps are at most q diagonal ones where p² ≤ 2q². No other relation has all this.
+-- sides changes nothing, no cost is below ZERO, and p straight steps are at most q diagonal ones where p² ≤ 2q². Each
+-- test of costs that has all this answers as `IsAtMost` does.
 pub record OrderIsLawful : Type 0 where
   pub total : (x y : Cost) → IsAtMost x y ⊎ IsAtMost y x
   pub transitive : (x y z : Cost) → IsAtMost x y → IsAtMost y z → IsAtMost x z
@@ -26,6 +36,7 @@ pub record OrderIsLawful : Type 0 where
   pub least : (x : Cost) → IsAtMost ZERO x
   pub added : (x y z : Cost) → IsAtMost x y ↔ IsAtMost (sum_of x z) (sum_of y z)
   pub by_squares : (p q : ℕ) → IsAtMost (whole p) (diagonals q) ↔ (p * p ≤ 2 * (q * q))
+  pub only : (test : Cost → Cost → Bool) → TestsCosts test → (x y : Cost) → (test x y ≡ true) ↔ IsAtMost x y
 
 -- below KEYED_DIAGONALS diagonal steps keys order as costs do, and no two costs have one key
 pub record KeysOrderCosts : Type 0 where

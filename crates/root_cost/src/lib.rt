@@ -5,7 +5,7 @@
 //! cost 1, diagonal steps √2.)
 #![tactic(auto)]
 
-ghost use Rattle.std.specs.Prelude.{◌≡◌, ◌*◌, ◌^◌, ◌<◌, ◌≤◌, ◌↔◌, IsTrue, IsFalse, IsNone, refl, Some};
+ghost use Rattle.std.specs.Prelude.{◌≡◌, ◌-◌, ◌*◌, ◌^◌, ◌<◌, ◌≤◌, ◌↔◌, IsTrue, IsFalse, IsNone, refl, Some};
 ghost use Rattle.std.specs.Cmp.{partial_order_from_agreeing_total};
 ghost use Rattle.root_cost.specs.Costs.{IsAtMost, IsMicro, IsNear, plus_step, pair_of, whole};
 ghost use Rattle.root_cost.specs.Keys.{key_of, step_key, cost_if_key, GivesBack};
@@ -204,7 +204,8 @@ impl PartialOrd for Cost {
 
 /// The law of the cost order, for all numbers: it is total and transitive, two costs are at most each other only as
 /// equal pairs, `cmp` answers by it, and no cost is below [`Cost::ZERO`]; what is added on both sides changes nothing,
-/// and `p` straight moves are at most `q` diagonal ones exactly where `p² ≤ 2q²`.
+/// and `p` straight moves are at most `q` diagonal ones exactly where `p² ≤ 2q²`. Each test of two costs with these
+/// properties answers as this order does.
 pub fn order_is_lawful()
     ensures { OrderIsLawful }
 {}
@@ -212,6 +213,15 @@ pub fn order_is_lawful()
 /// The law of keys: below 33,461 diagonal moves they order as the costs do, and no two costs have one key.
 pub fn keys_order()
     ensures { KeysOrderCosts }
+{}
+
+/// The law of the numbers: a cost has a length with up to 65,535 steps of each kind, the steps have these keys, and what
+/// stands in place of a key is above each.
+pub fn numbers_are_these()
+    ensures steps { MAX_STEPS ≡ 65535 }
+    ensures keys { (STRAIGHT_KEY ≡ 33461) × (DIAGONAL_KEY ≡ 47321) × (KEYED_DIAGONALS ≡ 33461) }
+    ensures greatest { GREATEST_KEY ≡ DIAGONAL_KEY * (KEYED_DIAGONALS - 1) }
+    ensures none { NO_KEY ≡ 4294967295 }
 {}
 
 /// The key of one step, diagonal or straight.

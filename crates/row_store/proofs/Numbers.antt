@@ -1,10 +1,9 @@
 -- The places of cells in their bounds.
-use Rattle.std.proofs.Common.{◌≡◌, ◌≢◌, ℕ, ◌+◌, ◌*◌, ◌<◌, ◌≤◌, ◌⊎◌, List, length, get_or, slice_index, set, replicate, All, refl, sym, ap, ◌∙◌, subst, inl, inr, arith}
+use Rattle.std.proofs.Common.{◌≡◌, ◌≢◌, ℕ, ◌+◌, ◌*◌, ◌<◌, ◌⊎◌, List, length, get_or, slice_index, set, replicate, All, sym, ap, ◌∙◌, inl, inr, arith}
 use Rattle.std.specs.List.{AllPairs}
 use Rattle.std.proofs.lemmas.Bool.{cases_lt, cases_eq}
 use Rattle.std.proofs.lemmas.List.{get_or-set_same, get_or-set_other, length-set, get_or-replicate, length-replicate}
 use Rattle.moves.specs.declared.Cell.{Cell}
-use Rattle.moves.specs.declared.TheConstants.{MAX_PASSABLE}
 use Rattle.moves.specs.FirstSetLists.{cell_of}
 use Rattle.moves.specs.Rectangles.{Rectangle, IsWithin, place_in}
 use Rattle.moves.proofs.Rectangles.{same_place, place_below}

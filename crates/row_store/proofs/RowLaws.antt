@@ -1,6 +1,5 @@
 -- Rows depend on the passable cells alone.
-use Rattle.std.proofs.Common.{◌≡◌, ◌↔◌, ℕ, ◌<◌, List, [], length, get_or, refl, sym, ◌∙◌, subst, arith}
-use Rattle.std.specs.List.{Contains}
+use Rattle.std.proofs.Common.{◌≡◌, ◌↔◌, ℕ, ◌<◌, List, [], length, get_or, sym, ◌∙◌, subst, arith}
 use Rattle.std.specs.List.Sorted.{IsPermutation}
 use Rattle.std.proofs.lemmas.List.{same_lists, get_or_default}
 use Rattle.std.proofs.lemmas.List.Elements.{Contains-get_or}
@@ -11,7 +10,6 @@ use Rattle.run_pack.proofs.Fewest.{same_tight}
 use Rattle.moves.specs.declared.Cell.{Cell}
 use Rattle.moves.specs.declared.Move.{Move}
 use Rattle.moves.specs.Maps.{Map}
-use Rattle.moves.specs.Components.{IsComponent}
 use Rattle.moves.specs.ComponentLaws.{HasJust}
 use Rattle.moves.specs.FirstSets.{IsFirstMove}
 use Rattle.moves.specs.FirstSetLists.{cell_of, AreFirstSets}
@@ -19,7 +17,7 @@ use Rattle.moves.specs.SamePaths.{SamePassable}
 use Rattle.moves.proofs.MovesInSets.{sets_by_moves}
 use Rattle.moves.proofs.SamePaths.{same_first_move, same_passable_back}
 use Rattle.moves.proofs.ComponentLaws.{components_keep_first_sets}
-use Rattle.row_store.specs.Rows.{row_at, IsRowFrom, AreRows, RowsAreUnique, ComponentsKeepEachRow, ComponentsKeepRows}
+use Rattle.row_store.specs.Rows.{row_at, IsRowFrom, RowsAreUnique, ComponentsKeepEachRow, ComponentsKeepRows}
 
 -- maps that have just the same cells
 pub same_just : (a b : Map) (cells : List Cell) → HasJust a cells → HasJust b cells → SamePassable a b

@@ -1,5 +1,5 @@
 -- A component as it is stored: its cells in an order, and their rows.
-use Rattle.std.specs.Prelude.{◌≡◌, ◌≢◌, ℕ, ◌<◌, ◌≤◌, List, ◌∷◌, length, slice_index, All, AllPairs}
+use Rattle.std.specs.Prelude.{◌≡◌, ◌≢◌, ℕ, ◌<◌, ◌≤◌, List, ◌∷◌, length, All, AllPairs}
 use Rattle.run_pack.specs.declared.Run.{Run}
 use Rattle.run_pack.specs.Runs.{IsCoveringMove}
 use Rattle.moves.specs.declared.Cell.{Cell}
@@ -19,6 +19,10 @@ pub record Comp : Type 0 where
   pub kind : ℕ
   pub cells : List Cell
   pub rows : List (List Run)
+
+-- the component with these
+abbrev pub comp_with : ℕ → List Cell → List (List Run) → Comp
+comp_with kind cells rows = record { kind = kind; cells = cells; rows = rows }
 
 -- what each stored component is: cells of a map that are connected among themselves, each once, and their rows
 pub record IsComp (comp : Comp) : Type 0 where

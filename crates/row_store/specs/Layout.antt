@@ -1,5 +1,5 @@
 -- How rows lie in a list of words, and the places of cells in their bounds.
-use Rattle.std.specs.Prelude.{◌≡◌, ℕ, ◌+◌, ◌*◌, ◌<◌, ◌≤◌, ◌⊎◌, List, length, map, take, drop, slice_index, All, AllPairs, sum_by}
+use Rattle.std.specs.Prelude.{◌≡◌, ℕ, ◌+◌, ◌*◌, ◌<◌, ◌≤◌, ◌⊎◌, List, length, map, take, drop, slice_index, All, sum_by}
 use Rattle.run_pack.specs.declared.Run.{Run}
 use Rattle.run_pack.specs.declared.TheConstants.{MAX_PLACES}
 use Rattle.run_pack.specs.Runs.{run_of_word}

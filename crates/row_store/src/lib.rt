@@ -8,7 +8,7 @@ ghost use Rattle.std.specs.Prelude.{◌≡◌, ◌≢◌, ◌+◌, ◌-◌, ◌*
 ghost use Rattle.run_pack.specs.Runs.{no_run};
 ghost use Rattle.moves.specs.Rectangles.{IsWithin};
 ghost use Rattle.row_store.specs.Rows.{row_at};
-ghost use Rattle.row_store.specs.Comps.{IsComp, IsPlaceOf, IsMoveOfRow, BeginsBestPath};
+ghost use Rattle.row_store.specs.Comps.{IsComp, comp_with, IsPlaceOf, IsMoveOfRow, BeginsBestPath};
 ghost use Rattle.row_store.specs.Layout.{ArePlaces};
 
 pub mod laws;
@@ -39,14 +39,15 @@ pub struct CompData {
 }
 
 impl Model for CompData {
-    ghost use Rattle.row_store.specs.Comps.{Comp, IsComp};
+    ghost use Rattle.row_store.specs.Comps.{Comp, IsComp, comp_with};
     ghost use Rattle.row_store.specs.Layout.{ArePlaces};
 
     ghost Value = { Comp };
 
-    ghost view = { λ c. record { kind = c.kind; cells = c.cells.items; rows = c.rows } };
+    ghost view = { λ c. comp_with c.kind c.cells.items c.rows };
 
-    ghost invariant = { λ c. IsComp (record { kind = c.kind; cells = c.cells.items; rows = c.rows }) × ArePlaces c.cells.items c.bounds c.places.items };
+    ghost invariant = { λ c. IsComp (comp_with c.kind c.cells.items c.rows)
+        × ArePlaces c.cells.items c.bounds c.places.items };
 }
 
 impl CompData {
@@ -61,7 +62,7 @@ impl CompData {
         cells: Vec<Cell>,
         rows: Vec<Vec<Run>>,
     ) -> Result<CompData, AllocError>
-        requires { IsComp (record { kind = kind; cells = cells.items; rows = map (λ row. row.items) rows.items }) }
+        requires { IsComp (comp_with kind cells.items (map (λ row. row.items) rows.items)) }
         ensures kind { IfOk result (λ comp. comp.kind ≡ kind) }
         ensures cells { IfOk result (λ comp. comp.cells ≡ cells.items) }
         ensures rows { IfOk result (λ comp. comp.rows ≡ map (λ row. row.items) rows.items) }
@@ -84,7 +85,7 @@ impl CompData {
         cells: Vec<Cell>,
         pool: RowPool,
     ) -> Result<CompData, AllocError>
-        requires { IsComp (record { kind = kind; cells = cells.items; rows = pool }) }
+        requires { IsComp (comp_with kind cells.items pool) }
         ensures kind { IfOk result (λ comp. comp.kind ≡ kind) }
         ensures cells { IfOk result (λ comp. comp.cells ≡ cells.items) }
         ensures rows { IfOk result (λ comp. comp.rows ≡ pool) }

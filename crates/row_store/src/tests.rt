@@ -1,4 +1,4 @@
-// What stands in pools of rows, and in a component of one cell.
+//! What stands in pools of rows, and in a component of one cell.
 ghost use Rattle.std.specs.Prelude.{◌≡◌, ◌<◌, ◌+◌, ◌≤◌, [], ◌∷◌, ◌++◌, length, IfOk, OnOk};
 ghost use Rattle.row_store.specs.Pools.{PushesPacked};
 

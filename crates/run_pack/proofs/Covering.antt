@@ -1,8 +1,8 @@
 -- Each place of a row is covered by a run.
-use Rattle.std.proofs.Common.{◌≡◌, ℕ, zero, suc, ◌+◌, ◌<◌, ◌≤◌, List, length, arith, inl, inr, add-one, refl}
+use Rattle.std.proofs.Common.{◌≡◌, ℕ, zero, suc, ◌<◌, ◌≤◌, List, length, arith, inl, inr, refl}
 use Rattle.std.proofs.lemmas.Bool.{cases_lt}
 use Rattle.run_pack.specs.declared.Run.{Run}
-use Rattle.run_pack.specs.Runs.{start_at, move_at, end_at, Rises, IsRow, IsTight, IsLastUpTo, IsCoveringMove, Covers}
+use Rattle.run_pack.specs.Runs.{start_at, move_at, Rises, IsRow, IsLastUpTo, IsCoveringMove}
 use Rattle.run_pack.proofs.Found.{Covers-from_last}
 
 -- the last run that starts at a place or before it, where those from run `k` on start past it

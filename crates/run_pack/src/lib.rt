@@ -21,6 +21,11 @@ use std::sync::ledger::{Blank, Ledger};
 /// How many places a row may have at most, so that a run fits into a word: 15 bits for its start and 3 for its move.
 pub const MAX_PLACES: u32 = 32768;
 
+/// The most places of a row: so many starts are told apart by the 15 bits of a word.
+pub fn limit_is_this()
+    ensures { MAX_PLACES ≡ 2 ^ 15 }
+{}
+
 /// One run of a row: the place where it starts, and the move that it keeps.
 ///
 /// It reaches to before the start of the next run, or to the row's last place.
@@ -104,7 +109,8 @@ pub fn append_words(words: &mut Vec<u32>, sets: &[u8]) -> Result<(), AllocError>
 fn fill<S: Stored>(row: &mut Vec<S>, sets: &[u8]) -> Result<(), AllocError>
     requires { ArePackable sets.now }
     ensures kept { take (length row.old.items) row.new.items ≡ row.old.items }
-    ensures tight { OnOk result (IsTight (map S.run_of (drop (length row.old.items) row.new.items)) sets.now) }
+    ensures tight { OnOk result (
+        IsTight (map S.run_of (drop (length row.old.items) row.new.items)) sets.now) }
 {
     let mut stretch = Stretch {
         start: 0,

@@ -1,4 +1,4 @@
-// What rows come out of known sets, and what is found in them.
+//! What rows come out of known sets, and what is found in them.
 ghost use Rattle.std.specs.Prelude.{◌≡◌, ◌<◌, map, IfOk};
 ghost use Rattle.run_pack.specs.Runs.{Rises, IsTight, run_of_word};
 

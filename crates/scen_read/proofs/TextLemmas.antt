@@ -4,6 +4,7 @@ use Rattle.std.proofs.lemmas.List.{length-drop}
 use Rattle.text_lines.proofs.LineLemmas.{few_lines}
 use Rattle.text_lines.specs.Lines.{lines_of}
 use Rattle.text_lines.specs.Words.{is_blank}
+use Rattle.scen_read.specs.declared.TheConstants.{MAX_SCEN_BYTES}
 use Rattle.scen_read.specs.declared.fault.ScenFault.{ScenFault}
 use Rattle.scen_read.specs.declared.fault.ScenFault.TheVariants.{Version}
 use Rattle.scen_read.specs.declared.scenario.ScenLine.{ScenLine}
@@ -59,7 +60,7 @@ pub version_is : (text line : List ℕ) (lines : List (List ℕ)) (b : Bool) →
     → is_version_line (get_or (lines_of text) 0 []) ≡ b
 version_is text line lines b lines-are line-is e = rw (← lines-are, ← line-is) (sym e)
 
-pub none_read : (text : List ℕ) (lines rest : List (List ℕ)) (scenarios : List ScenLine) → length text ≤ 16777216 → lines ≡ lines_of text → rest ≡ drop 1 lines → scenarios ≡ []
+pub none_read : (text : List ℕ) (lines rest : List (List ℕ)) (scenarios : List ScenLine) → length text ≤ MAX_SCEN_BYTES → lines ≡ lines_of text → rest ≡ drop 1 lines → scenarios ≡ []
     → AreReadTo (drop 1 (lines_of text)) 2 scenarios rest
 none_read text lines rest scenarios few lines-are rest-is none =
     let rest-are : rest ≡ drop 1 (lines_of text) = rest-is ∙ ap (λ (ls : List (List ℕ)). drop 1 ls) lines-are in

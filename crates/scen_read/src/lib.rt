@@ -53,6 +53,11 @@ pub fn read_scen(alloc: Global, bytes: &[u8]) -> Result<Vec<ScenLine>, ScenError
     Ok(scenarios)
 }
 
+/// A law, stated in the contract: the greatest length of a scenario file is 16 MiB.
+pub fn limit_is_this()
+    ensures { MAX_SCEN_BYTES ≡ 16777216 }
+{}
+
 /// A law, stated in the contract: a text is accepted exactly where each of its lines is a scenario or blank, and then with
 /// these scenarios.
 pub fn accepts_exactly_scenario_texts()

@@ -1,4 +1,4 @@
-use Rattle.std.proofs.Common.{◌≡◌, ◌++◌, length, take, drop, sym, ◌∙◌, ap, ℕ, List}
+use Rattle.std.proofs.Common.{◌≡◌, ◌++◌, length, take, drop, sym, ℕ, List}
 use Rattle.std.proofs.lemmas.List.{take-append-drop}
 use Rattle.run_pack.proofs.Fewest.{IsPacked-from_tight}
 use Rattle.run_pack.proofs.append_words.Goals as goal

@@ -1,4 +1,3 @@
-use Rattle.std.proofs.Common.{length}
 use Rattle.run_pack.proofs.Packing.{IsFilledUpTo}
 use Rattle.run_pack.proofs.fill.Given as goal
 

@@ -1,4 +1,4 @@
-use Rattle.std.proofs.Common.{◌≡◌, List, map, drop, length}
+use Rattle.std.proofs.Common.{◌≡◌, List, map}
 use Rattle.std.proofs.lemmas.List.{map-id}
 use Rattle.run_pack.specs.declared.Run.{Run}
 use Rattle.run_pack.proofs.Fewest.{IsPacked-from_tight}

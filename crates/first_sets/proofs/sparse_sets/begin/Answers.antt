@@ -4,7 +4,7 @@ use Rattle.moves.specs.Moves.{is_diagonal}
 use Rattle.moves.specs.MoveSets.{Has}
 use Rattle.moves.specs.Maps.{place_of}
 use Rattle.first_sets.specs.Steps.{CostsStep, set_in}
-use Rattle.first_sets.proofs.Standing.{filler, place_inside, attains_by}
+use Rattle.first_sets.proofs.Standing.{filler, place_below, attains_by}
 use Rattle.first_sets.proofs.Beginning.{IsBegun, begun_more, begun_no_more, begun_all}
 use Rattle.first_sets.proofs.sparse_sets.begin.Goals as goal
 use Rattle.first_sets.proofs.sparse_sets.begin.Goals.{then-is_step, else-is_step}
@@ -13,7 +13,7 @@ pub bounds-sets-place : goal.bounds-sets-place
 bounds-sets-place c =
     let pair = get_or c.as_slice-by-items.result.now c.loop-by.by-index filler in
     let legal = c.loop-by.invariant.near.legal c.loop-by.by-index filler c.loop-by-test.true in
-    let low = place_inside c.args.grid.now pair.1 legal.enters.inside in
+    let low = place_below c.args.grid.now pair.1 legal.enters.inside in
     let at : c.place-place.result ≡ place_of c.args.grid.now.width pair.1 = c.place-place.ensures ∙ ap (λ w. place_of w pair.1) c.loop-by.invariant.wide in
     omega arith
 
@@ -21,7 +21,7 @@ pub bounds-sets-place-then-is_step : goal.bounds-sets-place-then-is_step
 bounds-sets-place-then-is_step c =
     let pair = get_or c.as_slice-by-items.result.now c.loop-by.by-index filler in
     let legal = c.loop-by.invariant.near.legal c.loop-by.by-index filler c.loop-by-test.true in
-    let low = place_inside c.args.grid.now pair.1 legal.enters.inside in
+    let low = place_below c.args.grid.now pair.1 legal.enters.inside in
     let at : c.place-place.result ≡ place_of c.args.grid.now.width pair.1 = c.place-place.ensures ∙ ap (λ w. place_of w pair.1) c.loop-by.invariant.wide in
     omega arith
 

@@ -1,4 +1,4 @@
-use Rattle.std.proofs.Common.{◌≡◌, ◌<◌, arith, rules}
+use Rattle.std.proofs.Common.{◌≡◌}
 use Rattle.run_pack.specs.Runs.{IsFound}
 use Rattle.moves.specs.Moves.{number_of}
 use Rattle.row_store.specs.Rows.{row_at}

@@ -1,4 +1,4 @@
-use Rattle.std.proofs.Common.{◌≡◌, ◌∷◌, ◌++◌, map}
+use Rattle.std.proofs.Common.{◌≡◌, ◌∷◌, map}
 use Rattle.std.specs.Vec.Iter.{into_iter_items}
 use Rattle.row_store.proofs.CompLaws.{room_next, row_next}
 use Rattle.row_store.proofs.CompData.make.Goals as goal

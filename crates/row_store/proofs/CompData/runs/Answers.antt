@@ -1,5 +1,3 @@
-use Rattle.std.proofs.Common.{◌≡◌, ◌≤◌, subst, sym}
-use Rattle.moves.specs.declared.TheConstants.{MAX_PASSABLE}
 use Rattle.row_store.proofs.CompLaws.{few_runs}
 use Rattle.row_store.proofs.CompData.runs.Goals as goal
 

@@ -1,4 +1,4 @@
-use Rattle.std.proofs.Common.{◌≡◌, ◌<◌, List, length, get_or, ◌∙◌, arith}
+use Rattle.std.proofs.Common.{◌<◌, List, length, ◌∙◌, arith}
 use Rattle.std.proofs.lemmas.List.{get_or_default}
 use Rattle.row_store.specs.declared.pool.Span.{Span}
 use Rattle.row_store.specs.Layout.{rows_in}
