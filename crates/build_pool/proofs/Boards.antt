@@ -1,5 +1,6 @@
 -- A map whose passable cells are those of a list.
-use Rattle.std.proofs.Common.{◌≡◌, ℕ, ◌+◌, ◌*◌, ◌<◌, ◌≤◌, ◌↔◌, Bool, true, false, cond, List, [], ◌∷◌, ◌++◌, length, get_or, set, take, replicate, All, count_by, max, sym, ap, ◌∙◌, subst, inl, inr, arith}
+use Prim.Native.Nat.{zero}
+use Rattle.std.proofs.Common.{◌≡◌, ℕ, ◌+◌, ◌*◌, ◌<◌, ◌≤◌, ◌↔◌, Bool, true, false, cond, List, [], ◌∷◌, ◌++◌, length, get_or, set, take, replicate, All, count_by, max, refl, suc, sym, ap, ◌∙◌, subst, inl, inr, arith}
 use Rattle.std.specs.List.{Contains}
 use Rattle.std.proofs.lemmas.Bool.{cases_eq, cases_lt, false≢true}
 use Rattle.std.proofs.lemmas.Nat.{mul-le}
@@ -103,3 +104,19 @@ module _ (cells : List Cell) (width height : ℕ) (marks : List Bool) (upto : �
 
   pub few_marked : length cells ≤ MAX_PASSABLE → IsSearchable (map_with width height marks)
   few_marked few = omega (arith, p.few)
+
+-- there is a map that has just these cells
+marks_upto : (cells : List Cell) (width height : ℕ) → All (IsInSides width height) cells → (upto : ℕ) → upto ≤ length cells → (marks : List Bool) × AreMarked cells width height marks upto
+marks_upto cells width height all zero few = (replicate (width * height) false, marked_none cells width height (replicate (width * height) false) refl)
+marks_upto cells width height all (suc upto) few =
+    let before = marks_upto cells width height all upto (omega arith) in
+    let cell = get_or cells upto (record { x = 0; y = 0 }) in
+    let less : upto < length cells = omega arith in
+    let next : upto + 1 ≡ suc upto = omega arith in
+    let marked = marked_more cells width height before.0 upto before.1 all less cell (get_or_default cells upto (record { x = 0; y = 0 }) cell less) in
+    (set before.0 (place_of width cell) true, subst (AreMarked cells width height (set before.0 (place_of width cell) true)) next marked)
+
+pub some_map : (cells : List Cell) → LieOnMap cells → (map : Map) × HasJust map cells
+some_map cells p =
+    let marks = marks_upto cells p.width p.height p.inside (length cells) (omega arith) in
+    (map_with p.width p.height marks.0, just_marked cells p.width p.height marks.0 (length cells) marks.1 p.inside refl)

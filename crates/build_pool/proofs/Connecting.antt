@@ -32,7 +32,8 @@ use Rattle.moves.proofs.StraightPaths.{straight_is_legal}
 use Rattle.row_store.specs.Rows.{row_at, IsRowFrom}
 use Rattle.row_store.specs.Comps.{IsComp}
 use Rattle.row_store.proofs.RowLaws.{HasJust-permuted}
-use Rattle.build_pool.specs.Places.{LieOnMap, AreComponent}
+use Rattle.build_pool.specs.Places.{IsInSides, LieOnMap, AreComponent, AreSources}
+use Rattle.build_pool.proofs.Boards.{some_map}
 use Rattle.build_pool.specs.Pieces.{AreRowsBetween}
 
 abbrev corner_cell : Cell
@@ -170,5 +171,59 @@ module _ (map : Map) (cells order : List Cell) (is : IsReady map cells order) wh
               let same_place : 0 + place ≡ place = omega arith in
               let row : IsRowFrom map order (cell_of order (0 + place)) (row_at rows place) = between.each place inside in
               rw same_place at row);
+        };
+      }
+
+-- cells in row-major order that lie on a map, and the same in another order
+pub record AreGiven (cells order : List Cell) : Type 0 where
+  pub same : IsPermutation order cells
+  pub some : 0 < length cells
+  pub few : length cells ≤ MAX_PASSABLE
+  pub in_order : AllPairs ComesBefore cells
+  pub connected : IsConnected cells
+  pub on_map : LieOnMap cells
+
+module _ (cells order : List Cell) (is : AreGiven cells order) where
+  pub ready : (map : Map) → HasJust map order → IsReady map cells order
+  ready map just = record {
+    same = is.same;
+    some = is.some;
+    few = is.few;
+    in_order = is.in_order;
+    connected = is.connected;
+    on_map = is.on_map;
+    just = HasJust-permuted map cells order is.same just;
+  }
+
+  pub given_size : length order ≡ length cells
+  given_size = sym (length_permutation order cells is.same)
+
+  order_on_map : LieOnMap order
+  order_on_map = record {
+    width = is.on_map.width;
+    height = is.on_map.height;
+    limits = is.on_map.limits;
+    inside = All-permutation (IsInSides is.on_map.width is.on_map.height) cells order (IsPermutation-sym order cells is.same) is.on_map.inside;
+  }
+
+  pub sources_in_order : AreSources order
+  sources_in_order =
+      let map = some_map order order_on_map in
+      let size = given_size in
+      let some = is.some in
+      let few = is.few in
+      let placed = on_map_all order order_on_map in
+      record {
+        board = map.0;
+        just = map.1;
+        component = λ other just. component_in_order other cells order (ready other just);
+        some = omega arith;
+        few = omega arith;
+        on_map = order_on_map;
+        numbered = record {
+          once = apart_permuted order cells is.same (λ i j d less within equal. before_differs (get_or cells i d) (get_or cells j d) (is.in_order i j d less within) equal);
+          columns = λ k d within. let at = placed k d within in omega (arith, at.column);
+          rows = λ k d within. let at = placed k d within in omega (arith, at.row);
+          few = omega arith;
         };
       }

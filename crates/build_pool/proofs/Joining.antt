@@ -11,7 +11,11 @@ use Rattle.moves.specs.declared.Cell.{Cell}
 use Rattle.moves.specs.Maps.{Map}
 use Rattle.moves.specs.FirstSetLists.{cell_of}
 use Rattle.row_store.specs.Rows.{row_at, IsRowFrom}
-use Rattle.build_pool.specs.Pieces.{cut, AreRowsBetween, ArePieceRows}
+use Rattle.build_pool.specs.Pieces.{cut, AreRowsBetween}
+
+-- the rows of one piece of so many, over one map
+abbrev pub AreRowsOfPiece : Map → List Cell → ℕ → ℕ → List (List Run) → Type 0
+AreRowsOfPiece map cells pieces piece rows = AreRowsBetween map cells (cut (length cells) pieces piece) (cut (length cells) pieces (piece + 1)) rows
 
 -- no rows yet
 pub between_none : (map : Map) (cells : List Cell) (from : ℕ) → AreRowsBetween map cells from from []
@@ -73,7 +77,7 @@ joined_none map cells pieces all = record {
 }
 
 module _ (map : Map) (cells : List Cell) (pieces : ℕ) (all : List (Result (List (List Run)) AllocError)) (size : length all ≡ pieces)
-    (each : (i : ℕ) (d : Result (List (List Run)) AllocError) → i < length all → IfOk (get_or all i d) (ArePieceRows map cells pieces i))
+    (each : (i : ℕ) (d : Result (List (List Run)) AllocError) → i < length all → IfOk (get_or all i d) (AreRowsOfPiece map cells pieces i))
     (rest : List (Result (List (List Run)) AllocError)) (rows : List (List Run)) (answer : Result (List (List Run)) AllocError) (p : AreJoined map cells pieces all (answer ∷ rest) rows) where
   taken_less : p.taken < length all
   taken_less =
@@ -89,8 +93,8 @@ module _ (map : Map) (cells : List Cell) (pieces : ℕ) (all : List (Result (Lis
     own_rows : AreRowsBetween map cells (cut (length cells) pieces p.taken) (cut (length cells) pieces (p.taken + 1)) own
     own_rows =
         let here : answer ≡ get_or all p.taken answer = ap (λ xs. get_or xs 0 answer) parts in
-        let ok : IfOk answer (ArePieceRows map cells pieces p.taken) = subst (λ a. IfOk a (ArePieceRows map cells pieces p.taken)) (sym here) (each p.taken answer taken_less) in
-        let own_ok : IfOk {E = AllocError} (Ok own) (ArePieceRows map cells pieces p.taken) = subst (λ a. IfOk a (ArePieceRows map cells pieces p.taken)) is ok in
+        let ok : IfOk answer (AreRowsOfPiece map cells pieces p.taken) = subst (λ a. IfOk a (AreRowsOfPiece map cells pieces p.taken)) (sym here) (each p.taken answer taken_less) in
+        let own_ok : IfOk {E = AllocError} (Ok own) (AreRowsOfPiece map cells pieces p.taken) = subst (λ a. IfOk a (AreRowsOfPiece map cells pieces p.taken)) is ok in
         own_ok
 
     pub room_joined : length rows + length own ≤ length cells

@@ -1,13 +1,14 @@
 -- The rows of a component in pieces, each of which is built on its own.
-use Rattle.std.specs.Prelude.{◌≡◌, ℕ, ◌+◌, ◌*◌, ◌/◌, ◌<◌, ◌≤◌, List, length}
+use Rattle.std.specs.Prelude.{◌≡◌, ℕ, ◌+◌, ◌*◌, ◌/◌, ◌<◌, ◌≤◌, ◌⊎◌, List, [], length}
 use Rattle.run_pack.specs.declared.Run.{Run}
 use Rattle.moves.specs.declared.Cell.{Cell}
 use Rattle.moves.specs.declared.TheConstants.{MAX_PASSABLE}
-use Rattle.moves.specs.Maps.{Map, IsSearchable}
-use Rattle.moves.specs.FirstSetLists.{cell_of}
+use Rattle.moves.specs.Maps.{Map}
+use Rattle.moves.specs.ComponentLaws.{HasJust}
+use Rattle.moves.specs.FirstSetLists.{cell_of, AreFirstSets}
 use Rattle.row_store.specs.Rows.{row_at, IsRowFrom}
 use Rattle.build_pool.specs.declared.TheConstants.{MAX_WORKERS}
-use Rattle.build_pool.specs.Places.{AreComponent}
+use Rattle.build_pool.specs.Places.{AreWithNear}
 
 -- the place before which a piece of so many begins, among so many places: the piece's share of them, rounded down
 abbrev pub cut : ℕ → ℕ → ℕ → ℕ
@@ -18,14 +19,39 @@ pub record AreRowsBetween (map : Map) (cells : List Cell) (from upto : ℕ) (row
   pub whole : from + length rows ≡ upto
   pub each : (k : ℕ) → k < length rows → IsRowFrom map cells (cell_of cells (from + k)) (row_at rows k)
 
--- what it takes to build a piece: the cells are a component of a map that may be searched, and the piece is one of so many
-pub record CanBuild (map : Map) (cells : List Cell) (all number : ℕ) : Type 0 where
-  pub component : AreComponent map cells
-  pub searchable : IsSearchable map
+-- the rows of the cells from one place to before another, over each map that has just these cells
+abbrev pub AreRowsOver : List Cell → ℕ → ℕ → List (List Run) → Type 0
+AreRowsOver cells from upto rows = (map : Map) → HasJust map cells → AreRowsBetween map cells from upto rows
+
+-- what it takes to build a piece: the cells with their neighbours, and the piece is one of so many
+pub record CanBuild (cells : List Cell) (near : List (List ℕ)) (all number : ℕ) : Type 0 where
+  pub table : AreWithNear cells near
   pub few : length cells ≤ MAX_PASSABLE
   pub pieces : all ≤ MAX_WORKERS
   pub piece : number < all
 
 -- the rows of one piece of so many
-abbrev pub ArePieceRows : Map → List Cell → ℕ → ℕ → List (List Run) → Type 0
-ArePieceRows map cells pieces piece rows = AreRowsBetween map cells (cut (length cells) pieces piece) (cut (length cells) pieces (piece + 1)) rows
+abbrev pub ArePieceRows : List Cell → ℕ → ℕ → List (List Run) → Type 0
+ArePieceRows cells pieces piece rows = AreRowsOver cells (cut (length cells) pieces piece) (cut (length cells) pieces (piece + 1)) rows
+
+-- the first sets from the cell at a place, over each map that has just these cells
+pub record AreFirstOver (cells : List Cell) (place : ℕ) (sets : List ℕ) : Type 0 where
+  pub over : (map : Map) → HasJust map cells → AreFirstSets map (cell_of cells place) cells sets
+
+-- the row from the cell at a place, over each map that has just these cells
+pub record IsRowOver (cells : List Cell) (place : ℕ) (row : List Run) : Type 0 where
+  pub over : (map : Map) → HasJust map cells → IsRowFrom map cells (cell_of cells place) row
+
+-- each row is blank, or that of its place
+pub record ArePartly (cells : List Cell) (from : ℕ) (rows : List (List Run)) : Type 0 where
+  pub each : (k : ℕ) → k < length rows → (row_at rows k ≡ []) ⊎ IsRowOver cells (from + k) (row_at rows k)
+
+-- so many rows, each that of its place
+pub record AreWhole (cells : List Cell) (from count : ℕ) (rows : List (List Run)) : Type 0 where
+  pub size : length rows ≡ count
+  pub each : (k : ℕ) → k < count → IsRowOver cells (from + k) (row_at rows k)
+
+-- each row is blank, or that of its place; those before a place are built
+pub record AreDone (cells : List Cell) (from upto : ℕ) (rows : List (List Run)) : Type 0 where
+  pub part : ArePartly cells from rows
+  pub done : (k : ℕ) → k < upto → IsRowOver cells (from + k) (row_at rows k)

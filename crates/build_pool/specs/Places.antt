@@ -1,8 +1,11 @@
 -- Where the cells of a component lie.
-use Rattle.std.specs.Prelude.{ℕ, ◌<◌, ◌≤◌, ◌↔◌, List, All, Contains, IsPermutation}
+use Rattle.std.specs.Prelude.{ℕ, ◌<◌, ◌≤◌, ◌↔◌, List, length, All, Contains, IsPermutation}
 use Rattle.moves.specs.declared.Cell.{Cell}
 use Rattle.moves.specs.Maps.{Map, IsWithinLimits}
+use Rattle.moves.specs.declared.TheConstants.{MAX_PASSABLE}
 use Rattle.moves.specs.Components.{IsComponent}
+use Rattle.moves.specs.ComponentLaws.{HasJust}
+use Rattle.lane_rows.specs.Tables.{AreNear, IsMutual, IsNumbered}
 
 -- the cell lies inside a map of these sides
 pub record IsInSides (width height : ℕ) (cell : Cell) : Type 0 where
@@ -21,3 +24,19 @@ pub record AreComponent (map : Map) (cells : List Cell) : Type 0 where
   pub component : List Cell
   pub is : IsComponent map component
   pub order : IsPermutation cells component
+
+-- cells in some order, of which there is a map that has just them, and that are a component of each such map
+pub record AreSources (cells : List Cell) : Type 0 where
+  pub board : Map
+  pub just : HasJust board cells
+  pub component : (map : Map) → HasJust map cells → AreComponent map cells
+  pub some : 0 < length cells
+  pub few : length cells ≤ MAX_PASSABLE
+  pub on_map : LieOnMap cells
+  pub numbered : IsNumbered cells
+
+-- and the table of their neighbours
+pub record AreWithNear (cells : List Cell) (near : List (List ℕ)) : Type 0 where
+  pub sources : AreSources cells
+  pub edges : AreNear cells near
+  pub pairs : IsMutual near

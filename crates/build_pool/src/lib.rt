@@ -15,15 +15,18 @@ ghost use Rattle.build_pool.specs.Pieces.{CanBuild, ArePieceRows};
 
 mod board;
 mod piece;
+mod plain;
+mod rows;
 #[cfg(test)]
 mod tests;
 
-use board::board_of;
 use cell_order::{OrderKind, order_of};
 use first_sets::FirstSets;
 use grid_search::Search;
+use lane_rows::Near;
 use moves::{Cell, Grid, MAX_PASSABLE};
-use piece::{build_piece, write_sets};
+use piece::{Share, build_piece};
+use plain::write_sets;
 use row_store::{CompData, RowPool};
 use run_pack::{Run, pack};
 use std::alloc::{AllocError, Global};
@@ -32,6 +35,9 @@ use std::thread::Threads;
 
 /// The most workers that build side by side.
 pub const MAX_WORKERS: u32 = 64;
+
+/// How often at most the places of a tile are gone over back and forth. Tiles of maps that were met take a few.
+const SWEEPS: u32 = 64;
 
 /// What each piece of a build passes before its first row. A test's gate may hold it there.
 pub trait Gate: Sync {
@@ -75,16 +81,65 @@ pub fn build_rows<R: Threads + Sync, G: Gate>(
     ensures cells { IfOk result (λ comp. comp.cells ≡ ordered kind cells.now) }
     ensures rows { IfOk result (λ comp. AreRows (ordered kind cells.now) comp.rows) }
 {
+    let effort = Effort {
+        workers,
+        sweeps: Some(SWEEPS),
+    };
+    build_with(rt, alloc, kind, cells, effort, gate)
+}
+
+/// How many workers build, and how often each goes over a tile's places back and forth before it gives up the tile. With
+/// `None` it builds no tile at all, and each row by a plain search.
+#[derive(Clone, Copy)]
+struct Effort {
+    workers: u32,
+    sweeps: Option<u32>,
+}
+
+impl Effort {
+    /// What one piece is built with.
+    fn share(self, piece: u32) -> Share
+        ensures workers { result.workers ≡ self.workers }
+        ensures piece { result.piece ≡ piece }
+    {
+        Share {
+            workers: self.workers,
+            piece,
+            sweeps: self.sweeps,
+        }
+    }
+}
+
+/// `build_rows` with so much effort. The rows are the same for any.
+fn build_with<R: Threads + Sync, G: Gate>(
+    rt: &R,
+    alloc: Global,
+    kind: OrderKind,
+    cells: &[Cell],
+    effort: Effort,
+    gate: &G,
+) -> Result<CompData, AllocError>
+    requires some { 0 < length cells.now }
+    requires few { length cells.now ≤ MAX_PASSABLE }
+    requires rows { AllPairs ComesBefore cells.now }
+    requires connected { IsConnected cells.now }
+    requires on_map { LieOnMap cells.now }
+    requires worker { 0 < effort.workers }
+    requires workers { effort.workers ≤ MAX_WORKERS }
+    ensures kind { IfOk result (λ comp. comp.kind ≡ kind_of kind) }
+    ensures cells { IfOk result (λ comp. comp.cells ≡ ordered kind cells.now) }
+    ensures rows { IfOk result (λ comp. AreRows (ordered kind cells.now) comp.rows) }
+{
     let order = order_of(alloc, kind, cells)?;
-    let board = board_of(alloc, cells)?;
+    let near = Near::of(alloc, &order)?;
     let pieces = thread::map_indices(
         rt,
         alloc,
-        workers as usize,
+        effort.workers as usize,
         &|piece: usize| -> Result<RowPool, AllocError>
-            requires { CanBuild board order.items workers piece }
-            ensures { IfOk result (ArePieceRows board order.items workers piece) }
-        { build_piece(alloc, &board, &order, workers, piece as u32, gate) },
+            requires { CanBuild order.items near effort.workers piece }
+            ensures { IfOk result (ArePieceRows order.items effort.workers piece) }
+        { build_piece(alloc, &order, &near, effort.share(piece as u32), gate) },
     )?;
     let mut pool = RowPool::new(alloc);
     for piece in pieces {

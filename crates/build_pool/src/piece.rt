@@ -1,50 +1,49 @@
-//! The rows of some of a component's cells, one after the other.
+//! The rows of some of a component's cells.
+//!
+//! Sixteen near sources at a time are solved in the lanes of a vector, and the row of each goes to its place. What is
+//! found so is exact wherever it is found. Where a tile isn't solved its rows stay blank, and so the last step goes over
+//! the rows and builds what is blank by a plain search. It is the same row: rows depend on the cells alone.
 
-ghost use Rattle.std.specs.Prelude.{◌≡◌, ◌+◌, ◌*◌, ◌/◌, ◌<◌, ◌≤◌, length, IfOk};
-ghost use Rattle.moves.specs.Maps.{IsSearchable};
-ghost use Rattle.moves.specs.FirstSetLists.{cell_of, AreFirstSets};
-ghost use Rattle.build_pool.specs.Places.{AreComponent};
-ghost use Rattle.build_pool.specs.Pieces.{cut, CanBuild, ArePieceRows};
+ghost use Rattle.std.specs.Prelude.{◌≡◌, ℕ, ◌+◌, ◌*◌, ◌/◌, ◌<◌, ◌≤◌, length, slice_index, IfOk, OnOk};
+ghost use Rattle.lane_rows.specs.Tiles.{IsSolved};
+ghost use Rattle.build_pool.specs.Places.{AreSources, AreWithNear};
+ghost use Rattle.build_pool.specs.Pieces.{cut, CanBuild, ArePartly, ArePieceRows};
 
+use crate::plain::put_rest;
+use crate::rows::PieceRows;
 use crate::{Gate, MAX_WORKERS};
-use first_sets::FirstSets;
-use grid_search::Search;
-use moves::{Cell, Grid, MAX_PASSABLE};
+use lane_rows::{Near, Tiles};
+use moves::{Cell, MAX_PASSABLE};
 use row_store::RowPool;
 use std::alloc::{AllocError, Global};
+
+/// One piece of so many, and how often the places of a tile are gone over back and forth before it is given up, where tiles
+/// are built at all.
+#[derive(Clone, Copy)]
+pub(crate) struct Share {
+    pub workers: u32,
+    pub piece: u32,
+    pub sweeps: Option<u32>,
+}
 
 /// The rows of one piece of the cells, after it has passed the gate. All that a row needs to be built is taken once.
 pub(crate) fn build_piece<G: Gate>(
     alloc: Global,
-    board: &Grid,
     cells: &[Cell],
-    workers: u32,
-    piece: u32,
+    near: &Near,
+    share: Share,
     gate: &G,
 ) -> Result<RowPool, AllocError>
-    requires { CanBuild board.now cells.now workers piece }
-    ensures { IfOk result (ArePieceRows board.now cells.now workers piece) }
+    requires { CanBuild cells.now near.now share.workers share.piece }
+    ensures { IfOk result (ArePieceRows cells.now share.workers share.piece) }
 {
-    gate.enter(piece);
-    let room = (board.width() * board.height()) as usize;
-    let mut search = Search::new(alloc, room)?;
-    let mut sets = FirstSets::new(alloc, room)?;
-    let mut bytes = vec![in alloc; 0u8; cells.len()]?;
-    let mut pool = RowPool::new(alloc);
-    let from = cut_of(cells.len(), workers, piece);
-    let upto = cut_of(cells.len(), workers, piece + 1);
-    for place in from..upto {
-        write_sets(
-            board,
-            cells,
-            place,
-            &mut search,
-            &mut sets,
-            bytes.as_mut_slice(),
-        );
-        pool.push_sets(&bytes)?;
-    }
-    Ok(pool)
+    gate.enter(share.piece);
+    let from = cut_of(cells.len(), share.workers, share.piece);
+    let upto = cut_of(cells.len(), share.workers, share.piece + 1);
+    let mut rows = PieceRows::blank(alloc, from, upto)?;
+    put_tiles(alloc, cells, near, share.sweeps, &mut rows)?;
+    put_rest(alloc, cells, &mut rows)?;
+    Ok(rows.pool)
 }
 
 /// Where a piece begins.
@@ -59,29 +58,129 @@ fn cut_of(places: usize, workers: u32, piece: u32) -> usize
     piece as usize * places / workers as usize
 }
 
-/// Searches from the source at a place, and writes its first sets to the cells in their order.
-pub(crate) fn write_sets(
-    grid: &Grid,
+/// What a worker builds tiles with, taken once.
+#[derive(Drop)]
+struct Workbench {
+    tiles: Tiles,
+    /// The places that no tile has taken yet.
+    wanted: Vec<bool>,
+    sets: Vec<u8>,
+    sweeps: u32,
+}
+
+/// Builds rows by tiles of sixteen sources that are near one another. Those of a tile that isn't solved stay blank, and
+/// with no sweeps all do.
+fn put_tiles(
+    alloc: Global,
     cells: &[Cell],
-    place: usize,
-    search: &mut Search,
-    sets: &mut FirstSets,
-    bytes: &mut [u8],
-)
-    requires component { AreComponent grid.now cells.now }
-    requires searchable { IsSearchable grid.now }
-    requires place { place < length cells.now }
-    requires search { grid.now.width * grid.now.height ≤ search.old.room }
-    requires sets { grid.now.width * grid.now.height ≤ sets.old.room }
-    requires bytes { length bytes.old ≡ length cells.now }
-    ensures search { search.new.room ≡ search.old.room }
-    ensures sets { sets.new.room ≡ sets.old.room }
-    ensures bytes { AreFirstSets grid.now (cell_of cells.now place) cells.now bytes.new }
+    near: &Near,
+    sweeps: Option<u32>,
+    rows: &mut PieceRows,
+) -> Result<(), AllocError>
+    requires sources { AreWithNear cells.now near.now }
+    requires inside { rows.old.from + length rows.old.pool ≤ length cells.now }
+    requires part { ArePartly cells.now rows.old.from rows.old.pool }
+    ensures from { OnOk result (rows.new.from ≡ rows.old.from) }
+    ensures whole { OnOk result (length rows.new.pool ≡ length rows.old.pool) }
+    ensures part { OnOk result (ArePartly cells.now rows.old.from rows.new.pool) }
 {
-    let source = cells[place];
-    search.from_source(grid, source);
-    sets.fill(grid, search, source);
-    for (place, cell) in cells.iter().enumerate() {
-        bytes[place] = sets.set_of(*cell).mask();
+    let Some(sweeps) = sweeps else {
+        return Ok(());
+    };
+    let from = rows.from;
+    let upto = from + rows.pool.len();
+    let mut bench = Workbench {
+        tiles: Tiles::new(alloc, near.len())?,
+        wanted: wanted_between(alloc, near.len(), from, upto)?,
+        sets: vec![in alloc; 0u8; near.len()]?,
+        sweeps,
+    };
+    for first in from..upto {
+        put_tile(near, cells, first as u16, &mut bench, rows)?;
     }
+    Ok(())
+}
+
+/// Builds the rows of a tile from the place on, where that is still wanted.
+fn put_tile(
+    near: &Near,
+    cells: &[Cell],
+    first: u16,
+    bench: &mut Workbench,
+    rows: &mut PieceRows,
+) -> Result<(), AllocError>
+    requires sources { AreWithNear cells.now near.now }
+    requires first { first < length near.now }
+    requires count { bench.old.tiles.count ≡ length near.now }
+    requires marks { length bench.old.wanted.items ≡ length near.now }
+    requires sets { length bench.old.sets.items ≡ length cells.now }
+    requires part { ArePartly cells.now rows.old.from rows.old.pool }
+    ensures count { OnOk result (bench.new.tiles.count ≡ length near.now) }
+    ensures marks { OnOk result (length bench.new.wanted.items ≡ length near.now) }
+    ensures sets { OnOk result (length bench.new.sets.items ≡ length cells.now) }
+    ensures from { OnOk result (rows.new.from ≡ rows.old.from) }
+    ensures whole { OnOk result (length rows.new.pool ≡ length rows.old.pool) }
+    ensures part { OnOk result (ArePartly cells.now rows.old.from rows.new.pool) }
+{
+    if !bench.wanted[usize::from(first)] {
+        return Ok(());
+    }
+    let count = bench.tiles.choose(near, first, bench.wanted.as_mut_slice());
+    if !bench.tiles.run(near, bench.sweeps) {
+        return Ok(());
+    }
+    put_lanes(
+        &bench.tiles,
+        count,
+        near,
+        cells,
+        bench.sets.as_mut_slice(),
+        rows,
+    )?;
+    Ok(())
+}
+
+/// The marks of the places from one to before another.
+fn wanted_between(
+    alloc: Global,
+    places: usize,
+    from: usize,
+    upto: usize,
+) -> Result<Vec<bool>, AllocError>
+    requires { upto ≤ places }
+    ensures { IfOk result (λ wanted. length wanted.items ≡ places) }
+{
+    let mut wanted = vec![in alloc; false; places]?;
+    for place in from..upto {
+        wanted[place] = true;
+    }
+    Ok(wanted)
+}
+
+/// Puts the rows of a solved tile, lane by lane.
+fn put_lanes(
+    tiles: &Tiles,
+    count: usize,
+    near: &Near,
+    cells: &[Cell],
+    sets: &mut [u8],
+    rows: &mut PieceRows,
+) -> Result<(), AllocError>
+    requires lanes { count ≤ 16 }
+    requires sources { AreWithNear cells.now near.now }
+    requires solved { IsSolved near.now tiles.now }
+    requires inside { (lane : ℕ) → lane < 16 → slice_index tiles.now.sources lane < tiles.now.count }
+    requires sets { length sets.old ≡ length cells.now }
+    requires part { ArePartly cells.now rows.old.from rows.old.pool }
+    ensures from { OnOk result (rows.new.from ≡ rows.old.from) }
+    ensures whole { OnOk result (length rows.new.pool ≡ length rows.old.pool) }
+    ensures part { OnOk result (ArePartly cells.now rows.old.from rows.new.pool) }
+{
+    // The neighbours are here for the contract alone.
+    let _ = near;
+    for lane in 0..count {
+        tiles.sets_of(lane, sets);
+        rows.put(cells, usize::from(tiles.source(lane)), sets)?;
+    }
+    Ok(())
 }

@@ -5,9 +5,11 @@ ghost use Rattle.moves.specs.Maps.{ComesBefore};
 ghost use Rattle.moves.specs.StraightPaths.{IsConnected};
 ghost use Rattle.build_pool.specs.Places.{LieOnMap};
 
-use crate::{FreeGate, Gate, build_rows};
+use crate::{Effort, FreeGate, Gate, build_rows, build_with};
 use cell_order::OrderKind;
 use components::label;
+use first_sets::FirstSets;
+use grid_search::Search;
 use moves::{Cell, Grid, MAX_PASSABLE, Move};
 use row_store::CompData;
 use run_pack::steps::Steps;
@@ -190,6 +192,154 @@ fn any_number_of_workers(rt: HostRuntime) -> Result<(), Fail> {
                 "{workers} workers"
             );
             assert_eq!(rt; comp.runs(), alone.runs());
+        }
+    }
+    Ok(())
+}
+
+/// Makes about so many in a hundred of the cells passable, from a number.
+fn fill(rt: &impl Abort, grid: &mut Grid, width: u16, height: u16, passable: u64, seed: u64) {
+    let mut state = seed;
+    for y in 0..height {
+        for x in 0..width {
+            let cell = Cell { x, y };
+            state = state
+                .wrapping_mul(6364136223846793005)
+                .wrapping_add(1442695040888963407);
+            assert!(rt; grid.inside(cell));
+            grid.set(cell, (state >> 33) % 100 < passable);
+        }
+    }
+}
+
+/// Both have the same rows, run by run.
+fn rows_agree(rt: &impl Abort, found: &CompData, wanted: &CompData) {
+    assert_eq!(rt; found.cells().len(), wanted.cells().len());
+    for from in 0..wanted.cells().len() as u32 {
+        let length = wanted.row_len(from);
+        assert_eq!(rt; found.row_len(from), length);
+        for place in 0..length {
+            assert_eq!(rt; found.row_run(from, place), wanted.row_run(from, place));
+        }
+    }
+}
+
+/// The rows of a map's first component by tiles are those by plain searches alone.
+fn tiles_as_searches<R: Threads + Sync + Abort>(
+    rt: &R,
+    alloc: Global,
+    grid: &Grid,
+    kind: OrderKind,
+    workers: u32,
+) -> Result<(), AllocError>
+    requires worker { 0 < workers }
+    requires workers { workers ≤ 64 }
+{
+    let cells = first_component(rt, alloc, grid)?;
+    let found = build_rows(rt, alloc, kind, &cells, workers, &FreeGate)?;
+    let plain = Effort {
+        workers: 1,
+        sweeps: None,
+    };
+    let wanted = build_with(rt, alloc, kind, &cells, plain, &FreeGate)?;
+    rows_agree(rt, &found, &wanted);
+    Ok(())
+}
+
+#[test]
+fn tiles_of_made_maps(rt: HostRuntime) -> Result<(), Fail> {
+    let alloc = rt.alloc();
+    // The sides, how many cells in a hundred are passable, and from how many numbers maps are made.
+    let table = [
+        (12, 12, 75, 60),
+        (12, 5, 85, 50),
+        (9, 12, 60, 60),
+        (40, 40, 85, 1),
+        (60, 20, 100, 1),
+    ];
+    for (width, height, passable, seeds) in table {
+        for seed in 0..seeds {
+            for kind in [OrderKind::Rows, OrderKind::Dfs] {
+                let mut grid = Grid::blocked(alloc, u32::from(width), u32::from(height))?;
+                fill(&rt, &mut grid, width, height, passable, seed);
+                tiles_as_searches(&rt, alloc, &grid, kind, seed as u32 % 5 + 1)?;
+            }
+        }
+    }
+    Ok(())
+}
+
+/// The fewest runs of a row that fits these sets, by a plain search over all rows: the least number of pieces, in each of
+/// which all sets have a move in common.
+fn fewest_runs(alloc: Global, sets: &[u8]) -> Result<u32, AllocError>
+    requires { length sets.now ≤ MAX_PASSABLE }
+{
+    let mut fewest = vec![in alloc; u32::MAX; sets.len() + 1]?;
+    fewest[0] = 0;
+    for from in 0..sets.len() {
+        let mut common = u8::MAX;
+        for upto in from..sets.len() {
+            common &= sets[upto];
+            if common != 0 {
+                fewest[upto + 1] = fewest[upto + 1].min(fewest[from].saturating_add(1));
+            }
+        }
+    }
+    Ok(fewest[sets.len()])
+}
+
+/// The first sets from a cell of the map to these cells.
+fn first_sets_from(
+    rt: &impl Abort,
+    alloc: Global,
+    grid: &Grid,
+    source: Cell,
+    cells: &[Cell],
+) -> Result<Vec<u8>, AllocError> {
+    let room = (grid.width() * grid.height()) as usize;
+    let mut search = Search::new(alloc, room)?;
+    let mut sets = FirstSets::new(alloc, room)?;
+    assert!(rt; grid.passable_count() <= MAX_PASSABLE);
+    assert!(rt; grid.passable(source));
+    search.from_source(grid, source);
+    sets.fill(grid, &search, source);
+    let mut masks = Vec::with_capacity(alloc, cells.len())?;
+    for cell in cells {
+        assert!(rt; grid.inside(*cell));
+        masks.push(sets.set_of(*cell).mask())?;
+    }
+    Ok(masks)
+}
+
+/// The rows of a map's first component have the fewest runs.
+fn runs_are_fewest<R: Threads + Sync + Abort>(
+    rt: &R,
+    alloc: Global,
+    grid: &Grid,
+    kind: OrderKind,
+) -> Result<(), AllocError> {
+    let cells = first_component(rt, alloc, grid)?;
+    let comp = build_rows(rt, alloc, kind, &cells, 1, &FreeGate)?;
+    let mut total: u64 = 0;
+    for source in comp.cells() {
+        let sets = first_sets_from(rt, alloc, grid, *source, comp.cells())?;
+        assert!(rt; sets.len() <= 36);
+        total = total.wrapping_add(u64::from(fewest_runs(alloc, &sets)?));
+    }
+    assert_eq!(rt; comp.runs(), total);
+    Ok(())
+}
+
+#[test]
+fn fewest_runs_on_made_maps(rt: HostRuntime) -> Result<(), Fail> {
+    let alloc = rt.alloc();
+    for (width, height, passable) in [(6, 6, 70), (6, 5, 85), (4, 6, 60)] {
+        for seed in 0..100 {
+            for kind in [OrderKind::Rows, OrderKind::Dfs] {
+                let mut grid = Grid::blocked(alloc, u32::from(width), u32::from(height))?;
+                fill(&rt, &mut grid, width, height, passable, seed);
+                runs_are_fewest(&rt, alloc, &grid, kind)?;
+            }
         }
     }
     Ok(())

@@ -1,12 +1,12 @@
 -- What a former version has of the components of a map, found one component after the other.
-use Rattle.std.proofs.Common.{◌≡◌, ℕ, ◌+◌, ◌-◌, ◌*◌, ◌<◌, ◌≤◌, Bool, true, false, not, cond, List, [], ◌∷◌, ◌++◌, length, get_or, take, map, Option, None, Some, IfSome, All, refl, sym, ap, subst, ◌∙◌, inl, inr, arith}
+use Rattle.std.proofs.Common.{◌≡◌, ℕ, ◌+◌, ◌-◌, ◌*◌, ◌<◌, ◌≤◌, ◌⊎◌, Bool, true, false, not, cond, List, [], ◌∷◌, ◌++◌, length, get_or, take, map, Option, None, Some, IfSome, All, refl, sym, ap, subst, ◌∙◌, inl, inr, arith}
 use Rattle.std.specs.List.{sum_by, filter}
-use Rattle.std.specs.Option.{option_map}
-use Rattle.std.proofs.lemmas.Bool.{cases_lt, cond-true, cond-false}
+use Rattle.std.specs.Option.{option_map, is_some}
+use Rattle.std.proofs.lemmas.Bool.{cases_lt, cond-true, cond-false, false≢true}
 use Rattle.std.proofs.lemmas.List.{take_more, take_all, length_push, get_or_push, get_or_append_left, map-append}
 use Rattle.std.proofs.lemmas.List.Elements.{filter-append, All-push}
 use Rattle.std.proofs.lemmas.List.Filters.{sum_by-filter_both}
-use Rattle.std.proofs.lemmas.List.Sums.{sum_by-append, sum_by-cons}
+use Rattle.std.proofs.lemmas.List.Sums.{sum_by-append, sum_by-cons, sum_by_more}
 use Rattle.moves.specs.declared.Cell.{Cell}
 use Rattle.moves.specs.Maps.{Map, IsWithinLimits, passable_count}
 use Rattle.moves.specs.Components.{IsComponentList}
@@ -14,8 +14,9 @@ use Rattle.cell_order.specs.declared.OrderKind.{OrderKind}
 use Rattle.row_store.specs.Comps.{Comp}
 use Rattle.versions.specs.Databases.{component_at, IsKeptAs}
 use Rattle.versions.specs.Counts.{is_among, cells_kept, cells_built, AreCounts}
-use Rattle.version_build.specs.Plans.{IsShared, ArePrepared}
+use Rattle.version_build.specs.Plans.{IsShared, ArePrepared, cells_missing}
 use Rattle.version_build.proofs.Counted.{sum_is, length_within}
+use Rattle.version_build.proofs.Missing.{missing_in, missing_more}
 
 -- kept and built make all
 kept_and_built : (before xs : List (List Cell)) → cells_kept before xs + cells_built before xs ≡ sum_by length xs
@@ -35,9 +36,10 @@ pub record IsSharing (order : OrderKind) (before after : List (List Cell)) (comp
   pub long : length comps ≡ upto
   pub each : (label : ℕ) → label < upto → IfSome (get_or comps label None) (IsKeptAs order (component_at after label))
   pub counted : kept ≡ cells_kept before (take upto after)
+  pub missing : kept + cells_missing (take upto after) comps ≡ sum_by length (take upto after)
 
 pub sharing_none : (order : OrderKind) (before after : List (List Cell)) → IsSharing order before after [] 0 0
-sharing_none order before after = record { long = refl; each = λ label less. absurd (omega arith); counted = refl }
+sharing_none order before after = record { long = refl; each = λ label less. absurd (omega arith); counted = refl; missing = refl }
 
 module _ (order : OrderKind) (before after : List (List Cell)) (comps : List (Option Comp)) (kept upto : ℕ) (p : IsSharing order before after comps kept upto) (less : upto < length after) where
   each_more : (comp : Option Comp) → IfSome comp (IsKeptAs order (component_at after upto)) → (label : ℕ) → label < upto + 1
@@ -57,12 +59,19 @@ module _ (order : OrderKind) (before after : List (List Cell)) (comps : List (Op
   counted_more = ap (cells_kept before) (take_more after upto [] less) ∙ (kept_push before (take upto after) (component_at after upto)
       ∙ ap (λ n. n + cond (is_among before (component_at after upto)) (length (component_at after upto)) 0) (sym p.counted))
 
+  missing_next : (comp : Option Comp) → cells_missing (take (upto + 1) after) (comps ++ comp ∷ []) ≡ cells_missing (take upto after) comps + missing_in (component_at after upto) comp
+  missing_next comp = missing_more after comps comp upto p.long less
+
+  sum_next : sum_by length (take (upto + 1) after) ≡ sum_by length (take upto after) + length (component_at after upto)
+  sum_next = sum_by_more length after upto [] less
+
   -- one that is there
   pub sharing_some : (comp : Comp) → IsShared order before (component_at after upto) (Some comp) → IsSharing order before after (comps ++ Some comp ∷ []) (kept + length (component_at after upto)) (upto + 1)
   sharing_some comp is = record {
     long = length_push comps (Some comp) ∙ ap (λ n. n + 1) p.long;
     each = each_more (Some comp) is.1;
     counted = sym (counted_more ∙ ap (λ n. kept + n) (cond-true (is_among before (component_at after upto)) (length (component_at after upto)) 0 is.0));
+    missing = omega (arith, missing_next (Some comp), sum_next, p.missing);
   }
 
   -- one that is not
@@ -71,7 +80,29 @@ module _ (order : OrderKind) (before after : List (List Cell)) (comps : List (Op
     long = length_push comps None ∙ ap (λ n. n + 1) p.long;
     each = each_more None tt;
     counted = sym (counted_more ∙ omega (arith, cond-false (is_among before (component_at after upto)) (length (component_at after upto)) 0 is));
+    missing = omega (arith, missing_next None, sum_next, p.missing);
   }
+
+-- one component more, which is there or not
+pub sharing_next : {A : Type 0} (value : A → Comp) (order : OrderKind) (before after : List (List Cell)) (items now : List (Option A)) (comp : Option A) (kept counted upto : ℕ) (cells : List Cell) (some : Bool)
+    → IsSharing order before after (map (option_map value) items) kept upto → upto < length after → cells ≡ component_at after upto → IsShared order before cells (option_map value comp)
+    → now ≡ items ++ comp ∷ [] → some ≡ is_some comp → ((some ≡ true) × (counted ≡ kept + length cells)) ⊎ ((some ≡ false) × (counted ≡ kept))
+    → IsSharing order before after (map (option_map value) now) counted (upto + 1)
+sharing_next value order before after items now (Some comp) kept counted upto cells some p less here shared push is branch =
+    elim branch [
+      | inl there ↦
+          let mapped : map (option_map value) now ≡ map (option_map value) items ++ Some (value comp) ∷ [] = ap (map (option_map value)) push ∙ map-append (option_map value) items (Some comp ∷ []) in
+          let count : counted ≡ kept + length (component_at after upto) = there.1 ∙ ap (λ cs. kept + length cs) here in
+          rw (mapped, count) (sharing_some order before after (map (option_map value) items) kept upto p less (value comp) (subst (λ cs. IsShared order before cs (Some (value comp))) here shared))
+      | inr absent ↦ absurd (false≢true (sym absent.0 ∙ is))
+    ]
+sharing_next value order before after items now None kept counted upto cells some p less here shared push is branch =
+    elim branch [
+      | inl there ↦ absurd (false≢true (sym is ∙ there.0))
+      | inr absent ↦
+          let mapped : map (option_map value) now ≡ map (option_map value) items ++ None ∷ [] = ap (map (option_map value)) push ∙ map-append (option_map value) items (None ∷ []) in
+          rw (mapped, absent.1) (sharing_not order before after (map (option_map value) items) kept upto p less (subst (λ cs. IsShared order before cs None) here shared))
+    ]
 
 module _ (order : OrderKind) (before after : List (List Cell)) (comps : List (Option Comp)) (kept upto : ℕ) (p : IsSharing order before after comps kept upto)
     (m : Map) (limits : IsWithinLimits m.width m.height) (whole : length m.passable ≡ m.width * m.height) (listed : IsComponentList m after) where
@@ -88,6 +119,10 @@ module _ (order : OrderKind) (before after : List (List Cell)) (comps : List (Op
 
     pub shared_sum : kept + cells_built before after ≡ passable_count m
     shared_sum = omega (arith, all_counted, kept_and_built before after, sum_is m limits whole after listed)
+
+    -- what is not kept is missing
+    pub shared_missing : cells_missing after comps + kept ≡ passable_count m
+    shared_missing = omega (arith, ap (λ cs. cells_missing cs comps) (take_all upto after (omega arith)), ap (sum_by length) (take_all upto after (omega arith)), p.missing, sum_is m limits whole after listed)
 
     pub shared_counts : (former : Map) → IsComponentList former before → (built : ℕ) → built ≡ passable_count m - kept → AreCounts former m built kept
     shared_counts former known built is = record {

@@ -1,5 +1,5 @@
 -- What is to be built of a version, and what is taken over from a former one.
-use Rattle.std.specs.Prelude.{◌≡◌, ◌≢◌, ℕ, ◌+◌, ◌<◌, ◌≤◌, true, false, List, length, slice_index_or, Option, None, Some, IfSome, AllPairs}
+use Rattle.std.specs.Prelude.{◌≡◌, ◌≢◌, ℕ, ◌+◌, ◌<◌, ◌≤◌, true, false, List, ◌∷◌, length, slice_index_or, Option, None, Some, IfSome, AllPairs}
 use Rattle.moves.specs.declared.Cell.{Cell}
 use Rattle.moves.specs.declared.TheConstants.{MAX_PASSABLE}
 use Rattle.moves.specs.Maps.{Map, ComesBefore, IsSearchable, passable_count}
@@ -46,11 +46,18 @@ pub record AreComplete (order : OrderKind) (components : List (List Cell)) (comp
   pub long : length comps ≡ length components
   pub each : (label : ℕ) → label < length comps → IsKeptAs order (component_at components label) (comp_at comps label)
 
+-- how many cells the components have whose database is yet to be built
+abbrev pub cells_missing : List (List Cell) → List (Option Comp) → ℕ
+cells_missing (cells ∷ components) (None ∷ comps) = length cells + cells_missing components comps
+cells_missing (cells ∷ components) (Some comp ∷ comps) = cells_missing components comps
+cells_missing _ _ = 0
+
 -- what a plan knows
 pub record IsPlan (map : Map) (order : OrderKind) (components : List (List Cell)) (comps : List (Option Comp)) (built kept : ℕ) : Type 0 where
   pub searchable : IsSearchable map
   pub listed : IsComponentList map components
   pub prepared : ArePrepared order components comps
+  pub missing : built ≡ cells_missing components comps
   pub sum : built + kept ≡ passable_count map
 
 -- the cells have all that it takes to build their rows

@@ -4,12 +4,16 @@
 //! shared with it. The rows of all others are built. (Botea 2011; Strasser, Harabor and Botea 2014)
 #![tactic(auto)]
 
+mod builder;
 mod building;
+mod edited;
+mod parts;
 mod planning;
 mod plans;
 #[cfg(test)]
 mod tests;
 
+pub use builder::Builder;
 pub use building::build;
 pub use planning::plan;
 pub use plans::{BuildReport, Plan};

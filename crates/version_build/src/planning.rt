@@ -7,11 +7,12 @@ ghost use Rattle.moves.specs.Maps.{IsSearchable, IsWithinLimits, passable_count}
 ghost use Rattle.moves.specs.Components.{IsComponentList};
 ghost use Rattle.versions.specs.Databases.{IsVersion};
 ghost use Rattle.versions.specs.Counts.{AreCounts};
-ghost use Rattle.version_build.specs.Plans.{IsAllBuilt, Follows, IsShared, ArePrepared};
+ghost use Rattle.version_build.specs.Plans.{IsAllBuilt, Follows, IsShared, ArePrepared, cells_missing};
 
+use crate::edited::labels_of;
 use crate::plans::{BuildReport, Plan, Prepared};
 use cell_order::OrderKind;
-use components::{Labels, label};
+use components::Labels;
 use moves::{Cell, Grid};
 use row_store::CompData;
 use std::alloc::{AllocError, Global};
@@ -42,7 +43,7 @@ pub fn plan(
         Follows v.now grid kind plan.built plan.kept)) }
     ensures sum { IfOk result (λ plan. plan.built + plan.kept ≡ passable_count grid) }
 {
-    let labels = label(alloc, &grid)?;
+    let labels = labels_of(alloc, former, &grid)?;
     let prepared = prepare(alloc, former, kind, &grid, &labels)?;
     Ok(Plan {
         prefix,
@@ -64,6 +65,8 @@ fn prepare(
     ensures order { IfOk result (λ p. p.kind ≡ kind) }
     ensures prepared { IfOk result (λ p.
         ArePrepared p.kind labels.now (map (option_map arc_value) p.comps.items)) }
+    ensures missing { IfOk result (λ p. p.report.built ≡
+        cells_missing labels.now (map (option_map arc_value) p.comps.items)) }
     ensures first { IfOk result (λ p.
         IfNone former.entry (IsAllBuilt grid.now p.report.built p.report.kept)) }
     ensures follows { IfOk result (λ p. IfSome former.entry (λ v.
@@ -89,9 +92,12 @@ fn share_none(
     grid: &Grid,
     labels: &Labels,
 ) -> Result<Prepared, AllocError>
+    requires { IsComponentList grid.now labels.now }
     ensures order { IfOk result (λ p. p.kind ≡ kind) }
     ensures prepared { IfOk result (λ p.
         ArePrepared p.kind labels.now (map (option_map arc_value) p.comps.items)) }
+    ensures missing { IfOk result (λ p. p.report.built ≡
+        cells_missing labels.now (map (option_map arc_value) p.comps.items)) }
     ensures built { IfOk result (λ p. p.report.built ≡ passable_count grid.now) }
     ensures kept { IfOk result (λ p. p.report.kept ≡ 0) }
 {
@@ -99,6 +105,8 @@ fn share_none(
     for _ in 0..labels.count() {
         comps.push(None)?;
     }
+    // That the map lies inside the limits is known from its width.
+    let _ = grid.width();
     let report = BuildReport {
         built: grid.passable_count(),
         kept: 0,
@@ -121,6 +129,8 @@ fn share(
     ensures order { IfOk result (λ p. p.kind ≡ former.now.order) }
     ensures prepared { IfOk result (λ p.
         ArePrepared p.kind labels.now (map (option_map arc_value) p.comps.items)) }
+    ensures missing { IfOk result (λ p. p.report.built ≡
+        cells_missing labels.now (map (option_map arc_value) p.comps.items)) }
     ensures counts { IfOk result (λ p.
         AreCounts former.now.map grid.now p.report.built p.report.kept) }
     ensures sum { IfOk result (λ p. p.report.built + p.report.kept ≡ passable_count grid.now) }

@@ -2,7 +2,7 @@
 
 ghost use Rattle.std.specs.Prelude.{◌≡◌, ◌<◌, ◌≤◌};
 
-use crate::{BuildReport, build, plan};
+use crate::{BuildReport, Builder, build, plan};
 use build_pool::FreeGate;
 use cell_order::OrderKind;
 use moves::{Cell, Grid, MAX_PASSABLE, Move};
@@ -125,6 +125,111 @@ fn paths_are_read(rt: HostRuntime) -> Result<(), Fail> {
         let (version, _) = version_of(&rt, alloc, None, grid, kind, 1)?;
         let found = next_of::<Brand>(&version, at, to, Blank::new(1));
         assert_eq!(rt; found, Some(next), "{rows}");
+    }
+    Ok(())
+}
+
+/// The version of a map, built one row at a time after a former version, and what was built and kept.
+fn row_by_row(
+    rt: &impl Abort,
+    alloc: Global,
+    former: Option<&Version>,
+    grid: Grid,
+    kind: OrderKind,
+) -> Result<(Version, BuildReport), AllocError> {
+    assert!(rt; grid.passable_count() <= MAX_PASSABLE);
+    let plan = plan(alloc, former, grid, 1, kind)?;
+    let rows = plan.rows();
+    let mut builder = Builder::begin(alloc, plan)?;
+    for built in 0..rows {
+        assert_eq!(rt; builder.left(), rows - built);
+        builder.row()?;
+    }
+    assert_eq!(rt; builder.left(), 0);
+    let (version, report) = builder.finish()?;
+    assert_eq!(rt; report.built, rows);
+    Ok((version, report))
+}
+
+/// Whether both versions answer the same from each cell of a map of such sides to each other one.
+fn agree(rt: &impl Abort, a: &Version, b: &Version, width: u16, height: u16) {
+    assert_eq!(rt; a.totals(), b.totals());
+    for y in 0..height {
+        for x in 0..width {
+            for row in 0..height {
+                for column in 0..width {
+                    let (at, goal) = (Cell { x, y }, Cell { x: column, y: row });
+                    assert_eq!(rt; next_at(a, at, goal), next_at(b, at, goal));
+                }
+            }
+        }
+    }
+}
+
+/// Where a path goes on from one cell to another, whatever the look-up takes.
+fn next_at(version: &Version, at: Cell, goal: Cell) -> Option<Next> {
+    next_of::<Brand>(version, at, goal, Blank::new(1))
+}
+
+/// Makes about so many in a hundred of the cells passable, from a number.
+fn fill(rt: &impl Abort, grid: &mut Grid, width: u16, height: u16, passable: u64, seed: u64) {
+    let mut state = seed;
+    for y in 0..height {
+        for x in 0..width {
+            let cell = Cell { x, y };
+            state = state
+                .wrapping_mul(6364136223846793005)
+                .wrapping_add(1442695040888963407);
+            assert!(rt; grid.inside(cell));
+            grid.set(cell, (state >> 33) % 100 < passable);
+        }
+    }
+}
+
+#[test]
+fn rows_one_at_a_time(rt: HostRuntime) -> Result<(), Fail> {
+    let alloc = rt.alloc();
+    // The sides, the rows of the former map and of the map, and how many rows are built and kept.
+    let table = [
+        (5, 1, "..@..", "@.@..", 1, 2),
+        (3, 1, ".@.", ".@.", 0, 2),
+        (3, 1, "...", "@..", 2, 0),
+        (3, 1, "...", "...", 0, 3),
+        (3, 2, "..@/@@.", "..@/...", 5, 0),
+    ];
+    for (width, height, former, rows, built, kept) in table {
+        for kind in [OrderKind::Rows, OrderKind::Dfs] {
+            let grid = Grid::of_rows(alloc, width, height, former)?;
+            let edited = Grid::of_rows(alloc, width, height, rows)?;
+            let (version, _) = row_by_row(&rt, alloc, None, grid, kind)?;
+            let (_, report) = row_by_row(&rt, alloc, Some(&version), edited, kind)?;
+            assert_eq!(rt; report.built, built, "{former} {rows}");
+            assert_eq!(rt; report.kept, kept, "{former} {rows}");
+        }
+    }
+    Ok(())
+}
+
+#[test]
+fn built_one_way_or_the_other(rt: HostRuntime) -> Result<(), Fail> {
+    let alloc = rt.alloc();
+    for (width, height) in [(6, 1), (1, 5), (4, 3), (6, 6)] {
+        for seed in 0..16 {
+            for kind in [OrderKind::Rows, OrderKind::Dfs] {
+                let (columns, lines) = (u32::from(width), u32::from(height));
+                let mut grid = Grid::blocked(alloc, columns, lines)?;
+                fill(&rt, &mut grid, width, height, 70, seed);
+                let (former, _) = row_by_row(&rt, alloc, None, grid, kind)?;
+                let mut grid = Grid::blocked(alloc, columns, lines)?;
+                fill(&rt, &mut grid, width, height, 75, seed);
+                let mut same = Grid::blocked(alloc, columns, lines)?;
+                fill(&rt, &mut same, width, height, 75, seed);
+                let (slow, slow_report) = row_by_row(&rt, alloc, Some(&former), grid, kind)?;
+                let (fast, fast_report) = version_of(&rt, alloc, Some(&former), same, kind, 2)?;
+                assert_eq!(rt; slow_report, fast_report);
+                agree(&rt, &slow, &fast, width, height);
+            }
+        }
     }
     Ok(())
 }

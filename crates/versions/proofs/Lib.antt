@@ -3,3 +3,4 @@ pub mod Determined
 pub mod Databases
 pub mod BestWalks
 pub mod Homes
+pub mod Answering

@@ -10,7 +10,9 @@ use Rattle.row_store.specs.Rows.{row_at}
 use Rattle.row_store.specs.Comps.{Comp}
 use Rattle.versions.specs.declared.version.Next.{Next}
 use Rattle.versions.specs.declared.version.Next.TheVariants.{Arrived, Unreachable, Go}
-use Rattle.versions.specs.Databases.{Versioned, comp_at, IsDatabase}
+use Rattle.versions.specs.Databases.{Versioned, comp_at, IsDatabase, IsVersion}
+use Rattle.versions.specs.Queries.{AreEnds, IsRefusal}
+use Rattle.versions.specs.declared.query.QueryRefusal.{QueryRefusal}
 
 -- these moves are spelled from the start to the goal, by the rows of the component that has both
 pub record IsSpelled (comps : List Comp) (start goal : Cell) (moves : List Move) : Type 0 where
@@ -48,6 +50,30 @@ abbrev pub IsNext : Versioned → Cell → Cell → Next → Type 0
 IsNext version at goal Arrived = at ≡ goal
 IsNext version at goal Unreachable = Reaches version.map at goal → ⊥
 IsNext version at goal (Go move) = (rest : List Move) × IsWalk version.map version.comps at goal (move ∷ rest)
+
+-- an answer to a query for a path: why it is refused, that no path exists, or the moves of a path
+pub data Answer : Type 0 where
+  refused : QueryRefusal → Answer
+  unreachable : Answer
+  path : List Move → Answer
+
+-- The answer of a version to a query, by cases in their order: the start is outside, the start is blocked, the goal is
+-- outside, the goal is blocked, no path exists, or the walk. Each version answers each query in just one way.
+abbrev pub IsAnswer : Versioned → Cell → Cell → Answer → Type 0
+IsAnswer version start goal (refused why) = IsRefusal version.map start goal why
+IsAnswer version start goal unreachable = AreEnds version.map start goal × (Reaches version.map start goal → ⊥)
+IsAnswer version start goal (path moves) =
+    AreEnds version.map start goal × IsWalk version.map version.comps start goal moves
+
+-- one answer and no other is right
+pub record HasOneAnswer (version : Versioned) (start goal : Cell) : Type 0 where
+  pub answer : Answer
+  pub is : IsAnswer version start goal answer
+  pub only : (other : Answer) → IsAnswer version start goal other → other ≡ answer
+
+-- each query of a version has one answer
+abbrev pub QueriesHaveOneAnswer : Type 0
+QueriesHaveOneAnswer = (version : Versioned) → IsVersion version → (start goal : Cell) → HasOneAnswer version start goal
 
 -- no more probes than a look-up in some row of the component takes
 abbrev pub HasFewProbesIn : Comp → ℕ → Type 0

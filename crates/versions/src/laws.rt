@@ -1,6 +1,6 @@
 //! Laws of databases, for proofs. None of these functions does anything: each one's contract is a law.
 
-ghost use Rattle.versions.specs.Answers.{WalksAreBest};
+ghost use Rattle.versions.specs.Answers.{QueriesHaveOneAnswer, WalksAreBest};
 ghost use Rattle.versions.specs.Databases.{DatabasesAreDetermined};
 
 /// A map has one database in each order, however it is built.
@@ -11,4 +11,9 @@ pub fn databases_are_determined()
 /// Walks are best: where a path exists the database spells one walk, which is a best path of the whole map.
 pub fn walks_are_best()
     ensures { WalksAreBest }
+{}
+
+/// Each query of a version has one answer: why it is refused, that no path exists, or the walk.
+pub fn queries_have_one_answer()
+    ensures { QueriesHaveOneAnswer }
 {}

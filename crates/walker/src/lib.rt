@@ -10,6 +10,9 @@ ghost use Rattle.row_store.specs.Comps.{BeginsBestPath, IsMoveOfRow};
 ghost use Rattle.versions.specs.Queries.{AreEnds, IsRefusal};
 ghost use Rattle.walker.specs.Walks.{Advances, CostsAhead, HasFewAhead, IsBegun};
 
+#[cfg(test)]
+mod tests;
+
 use moves::{Cell, MAX_PASSABLE, MAX_SIDE, Move};
 use root_cost::Cost;
 use row_store::CompData;

@@ -1,0 +1,13 @@
+use Rattle.std.proofs.Common.{◌≡◌, length}
+use Rattle.build_pool.specs.Pieces.{ArePartly}
+use Rattle.build_pool.proofs.piece.put_tiles.Given as goal
+
+abbrev pub invariant-loop-first : goal.invariant-loop-first
+invariant-loop-first l = record {
+  count : l.bench.tiles.count ≡ length l.near;
+  marks : length l.bench.wanted.items ≡ length l.near;
+  sets : length l.bench.sets.items ≡ length l.cells;
+  from : l.rows.from ≡ l.fn.rows.from;
+  whole : length l.rows.pool ≡ length l.fn.rows.pool;
+  part : ArePartly l.cells l.fn.rows.from l.rows.pool;
+}

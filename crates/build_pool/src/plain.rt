@@ -1,0 +1,136 @@
+//! Rows by a plain search from one source after the other.
+
+ghost use Rattle.std.specs.Prelude.{◌≡◌, ◌+◌, ◌*◌, ◌<◌, ◌≤◌, length, OnOk};
+ghost use Rattle.moves.specs.Maps.{IsSearchable};
+ghost use Rattle.moves.specs.ComponentLaws.{HasJust};
+ghost use Rattle.moves.specs.FirstSetLists.{cell_of, AreFirstSets};
+ghost use Rattle.build_pool.specs.Places.{AreComponent, AreSources};
+ghost use Rattle.build_pool.specs.Pieces.{AreDone, ArePartly, AreWhole};
+
+use crate::board::board_of;
+use crate::rows::PieceRows;
+use first_sets::FirstSets;
+use grid_search::Search;
+use moves::{Cell, Grid, MAX_PASSABLE};
+use std::alloc::{AllocError, Global};
+
+/// What a plain search needs.
+#[derive(Drop)]
+struct Plain {
+    search: Search,
+    sets: FirstSets,
+}
+
+/// Builds the rows that are blank. Where there are none it takes no memory.
+pub(crate) fn put_rest(
+    alloc: Global,
+    cells: &[Cell],
+    rows: &mut PieceRows,
+) -> Result<(), AllocError>
+    requires sources { AreSources cells.now }
+    requires inside { rows.old.from + length rows.old.pool ≤ length cells.now }
+    requires part { ArePartly cells.now rows.old.from rows.old.pool }
+    ensures whole { OnOk result (AreWhole cells.now rows.old.from (length rows.old.pool) rows.new.pool) }
+{
+    if !rows.has_blank(cells) {
+        return Ok(());
+    }
+    let board = board_of(alloc, cells)?;
+    put_blank(alloc, &board, cells, rows)?;
+    Ok(())
+}
+
+/// Builds the rows that are blank over a grid of just these cells.
+fn put_blank(
+    alloc: Global,
+    board: &Grid,
+    cells: &[Cell],
+    rows: &mut PieceRows,
+) -> Result<(), AllocError>
+    requires just { HasJust board.now cells.now }
+    requires component { AreComponent board.now cells.now }
+    requires searchable { IsSearchable board.now }
+    requires few { length cells.now ≤ MAX_PASSABLE }
+    requires inside { rows.old.from + length rows.old.pool ≤ length cells.now }
+    requires part { ArePartly cells.now rows.old.from rows.old.pool }
+    ensures whole { OnOk result (AreWhole cells.now rows.old.from (length rows.old.pool) rows.new.pool) }
+{
+    let room = (board.width() * board.height()) as usize;
+    let mut plain = Plain {
+        search: Search::new(alloc, room)?,
+        sets: FirstSets::new(alloc, room)?,
+    };
+    let mut bytes = vec![in alloc; 0u8; cells.len()]?;
+    for index in 0..rows.pool.len() {
+        put_plain(board, cells, index, &mut plain, bytes.as_mut_slice(), rows)?;
+    }
+    Ok(())
+}
+
+/// Builds the row at a place of the piece where it is blank.
+fn put_plain(
+    board: &Grid,
+    cells: &[Cell],
+    index: usize,
+    plain: &mut Plain,
+    bytes: &mut [u8],
+    rows: &mut PieceRows,
+) -> Result<(), AllocError>
+    requires just { HasJust board.now cells.now }
+    requires component { AreComponent board.now cells.now }
+    requires searchable { IsSearchable board.now }
+    requires few { length cells.now ≤ MAX_PASSABLE }
+    requires index { index < length rows.old.pool }
+    requires inside { rows.old.from + length rows.old.pool ≤ length cells.now }
+    requires done { AreDone cells.now rows.old.from index rows.old.pool }
+    requires search { board.now.width * board.now.height ≤ plain.old.search.room }
+    requires sets { board.now.width * board.now.height ≤ plain.old.sets.room }
+    requires bytes { length bytes.old ≡ length cells.now }
+    ensures from { rows.new.from ≡ rows.old.from }
+    ensures whole { OnOk result (length rows.new.pool ≡ length rows.old.pool) }
+    ensures done { OnOk result (AreDone cells.now rows.old.from (index + 1) rows.new.pool) }
+    ensures search { plain.new.search.room ≡ plain.old.search.room }
+    ensures sets { plain.new.sets.room ≡ plain.old.sets.room }
+{
+    if !rows.is_blank(index) {
+        return Ok(());
+    }
+    let place = rows.from + index;
+    write_sets(
+        board,
+        cells,
+        place,
+        &mut plain.search,
+        &mut plain.sets,
+        bytes,
+    );
+    rows.pool.put_sets(index, bytes)?;
+    Ok(())
+}
+
+/// Searches from the source at a place, and writes its first sets to the cells in their order.
+pub(crate) fn write_sets(
+    grid: &Grid,
+    cells: &[Cell],
+    place: usize,
+    search: &mut Search,
+    sets: &mut FirstSets,
+    bytes: &mut [u8],
+)
+    requires component { AreComponent grid.now cells.now }
+    requires searchable { IsSearchable grid.now }
+    requires place { place < length cells.now }
+    requires search { grid.now.width * grid.now.height ≤ search.old.room }
+    requires sets { grid.now.width * grid.now.height ≤ sets.old.room }
+    requires bytes { length bytes.old ≡ length cells.now }
+    ensures search { search.new.room ≡ search.old.room }
+    ensures sets { sets.new.room ≡ sets.old.room }
+    ensures bytes { AreFirstSets grid.now (cell_of cells.now place) cells.now bytes.new }
+{
+    let source = cells[place];
+    search.from_source(grid, source);
+    sets.fill(grid, search, source);
+    for (place, cell) in cells.iter().enumerate() {
+        bytes[place] = sets.set_of(*cell).mask();
+    }
+}
