@@ -1,0 +1,2 @@
+pub mod EditedMaps
+pub mod EditVerdicts

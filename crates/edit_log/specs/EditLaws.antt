@@ -1,0 +1,29 @@
+-- Laws of edits.
+use Rattle.std.specs.Prelude.{◌≡◌, ℕ, List, ◌++◌, length}
+use Rattle.moves.specs.Maps.{Map}
+use Rattle.edit_log.specs.declared.edit.Edit.{Edit}
+use Rattle.edit_log.specs.declared.verdict.EditRefusal.{EditRefusal}
+use Rattle.edit_log.specs.Edits.{map_after}
+use Rattle.edit_log.specs.Verdicts.{IsRefusal, MayBeAccepted}
+
+-- the two maps have the same sides, and as many cells
+pub record HasSameSides (map other : Map) : Type 0 where
+  pub width : other.width ≡ map.width
+  pub height : other.height ≡ map.height
+  pub cells : length other.passable ≡ length map.passable
+
+-- edits keep the sides of a map, so what lies inside goes on to lie inside
+abbrev pub EditsKeepSides : Type 0
+EditsKeepSides = (map : Map) (edits : List Edit) → HasSameSides map (map_after map edits)
+
+-- the map after edits and more edits is the map after the latter, made at the map after the former
+abbrev pub EditsGoOn : Type 0
+EditsGoOn = (map : Map) (edits more : List Edit) → map_after map (edits ++ more) ≡ map_after (map_after map edits) more
+
+-- an edit has one verdict at a map: it is accepted or refused and not both, and there is one cause
+pub record HasOneVerdict (map : Map) (accepted : ℕ) (edit : Edit) : Type 0 where
+  pub refused : (cause : EditRefusal) → IsRefusal map accepted edit cause → MayBeAccepted map accepted edit → ⊥
+  pub once : (one other : EditRefusal) → IsRefusal map accepted edit one → IsRefusal map accepted edit other → one ≡ other
+
+abbrev pub EditsHaveOneVerdict : Type 0
+EditsHaveOneVerdict = (map : Map) (accepted : ℕ) (edit : Edit) → HasOneVerdict map accepted edit

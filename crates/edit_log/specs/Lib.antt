@@ -1,0 +1,4 @@
+pub mod Edits
+pub mod EditLists
+pub mod Verdicts
+pub mod EditLaws

@@ -1,0 +1,17 @@
+//! Edits of a map: what an edit is, when it is accepted, the log of those that are, and the map after them.
+#![tactic(auto)]
+
+pub mod edit;
+pub mod laws;
+pub mod list;
+pub mod verdict;
+
+pub use edit::{CellChange, Edit};
+pub use list::{EditList, apply};
+pub use verdict::{EditRefusal, check};
+
+/// The most edits that a log accepts.
+pub const MAX_EDITS: u32 = 1_048_576;
+
+#[cfg(test)]
+mod tests;

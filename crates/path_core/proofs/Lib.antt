@@ -1,0 +1,6 @@
+pub mod LegalHistories
+pub mod Growing
+pub mod Bounds
+pub mod BoardSteps
+pub mod BlankBoards
+pub mod Passing

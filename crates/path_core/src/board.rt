@@ -1,0 +1,278 @@
+//! The board of one thread.
+
+ghost use Rattle.std.specs.Prelude.{◌≡◌, ◌↔◌, ℕ, ◌<◌, ◌≤◌, length, IsFalse, IsOk, IfOk, IfErr, OnOk, OnErr, cond};
+ghost use Rattle.std.specs.Arc.{arc_value};
+ghost use Rattle.path_core.specs.declared.TheConstants.{MAX_ENTRIES};
+ghost use Rattle.path_core.specs.declared.entry.Entry.TheVariants.{Accept, Halt};
+ghost use Rattle.path_core.specs.Boards.{IsFirst, MayBePublished, new_board, with_entry, with_version};
+ghost use Rattle.path_core.specs.Histories.{accepted_count, published_count, published_prefix, IsHalting, IsLegal, IsVersionAt};
+ghost use Rattle.path_core.specs.Looks.{IsJob, IsLook};
+ghost use Rattle.path_core.specs.Refusals.{IsPublishError, IsRoomUsed, IsSubmitError, MayBeSubmitted};
+
+use crate::entry::Entry;
+use crate::error::{PublishError, SubmitError};
+use cell_order::OrderKind;
+use edit_log::{Edit, EditList, check};
+use moves::Grid;
+use std::alloc::{AllocError, Global};
+use std::marker::Model;
+use std::sync::Arc;
+use versions::{Totals, Version};
+
+/// What a pass sees at a glance.
+#[derive(Clone, Copy, Debug, PartialEq, Eq)]
+pub struct Look {
+    /// How many edits the published version comes after, at most 1,048,576.
+    pub prefix: u32,
+    /// How large the published version is.
+    pub totals: Totals,
+    /// How many edits were accepted, at most 1,048,576.
+    pub accepted: u32,
+    /// Whether the board halts.
+    pub halting: bool,
+    /// Whether whoever looks holds the published version; here it is at hand.
+    pub held: bool,
+}
+
+/// What is to be built: the edits that a version lacks.
+#[derive(Debug, Drop)]
+pub struct Job {
+    /// How many edits were accepted, at most 1,048,576.
+    pub prefix: u32,
+    /// Those past the known ones.
+    pub edits: EditList,
+}
+
+/// A map that is edited, and the versions of it that are published. Contracts see its first map, the order of its
+/// versions, its history, the published version, and the room that it took memory for.
+#[derive(Drop)]
+pub struct Board {
+    start: Grid,
+    running: Grid,
+    entries: Vec<Entry>,
+    edits: EditList,
+    published: u32,
+    halting: bool,
+    version: Arc<Version>,
+    room: u32,
+}
+
+impl Model for Board {
+    ghost use Rattle.std.specs.Prelude.{vec_capacity};
+    ghost use Rattle.std.specs.Arc.{arc_value};
+    ghost use Rattle.path_core.specs.Boards.{Boarded, board_of};
+    ghost use Rattle.path_core.specs.Kept.{IsKept};
+
+    ghost Value = { Boarded };
+
+    ghost view = { λ b. board_of b.start b.entries.items (arc_value b.version) b.room };
+
+    ghost invariant = { λ b. IsKept (board_of b.start b.entries.items (arc_value b.version) b.room) b.running b.edits
+        b.published b.halting (vec_capacity b.entries) };
+}
+
+impl Board {
+    /// A board of that map with no entries, whose published version is the first one. It has no room.
+    ///
+    /// # Errors
+    ///
+    /// `AllocError` where memory runs out. The grid and the version are dropped then.
+    pub fn start(alloc: Global, grid: Grid, version: Arc<Version>) -> Result<Board, AllocError>
+        requires first { IsFirst grid (arc_value version) }
+        ensures { IfOk result (λ board. board ≡ new_board grid (arc_value version) 0) }
+    {
+        Board::start_with(alloc, grid, version, 0)
+    }
+
+    /// A board with room for so many entries: it takes the memory for them now.
+    ///
+    /// # Errors
+    ///
+    /// `AllocError` where memory runs out. The grid and the version are dropped then.
+    pub fn start_with(
+        alloc: Global,
+        grid: Grid,
+        version: Arc<Version>,
+        room: u32,
+    ) -> Result<Board, AllocError>
+        requires first { IsFirst grid (arc_value version) }
+        requires room { room ≤ MAX_ENTRIES }
+        ensures { IfOk result (λ board. board ≡ new_board grid (arc_value version) room) }
+    {
+        // That the version is one is known from here.
+        version.grid();
+        let mut edits = EditList::new(alloc);
+        edits.reserve(room)?;
+        Ok(Board {
+            running: grid.copy()?,
+            start: grid,
+            entries: Vec::with_capacity(alloc, room as usize)?,
+            edits,
+            published: 0,
+            halting: false,
+            version,
+            room,
+        })
+    }
+
+    /// Enters an edit, and gives how many edits are accepted then.
+    ///
+    /// The cost does not grow with the number of accepted edits, apart from memory that is taken anew now and then.
+    ///
+    /// # Errors
+    ///
+    /// The first cause to refuse the edit at the board's map, and else want of memory where the room is used up. The board
+    /// is as before.
+    pub fn submit(&mut self, pass: u32, edit: Edit) -> Result<u32, SubmitError>
+        ensures may { OnOk result (MayBeSubmitted self.old edit) }
+        ensures entered { OnOk result (self.new ≡ with_entry self.old (Accept pass edit)) }
+        ensures count { IfOk result (λ count. count ≡ accepted_count self.new.history) }
+        ensures refused { IfErr result (IsSubmitError self.old edit) }
+        ensures as_before { OnErr result (self.new ≡ self.old) }
+    {
+        check(&self.running, self.edits.len(), edit)?;
+        self.edits.reserve_one()?;
+        self.entries.reserve(1)?;
+        edit.apply(&mut self.running);
+        self.edits.push_reserved(edit);
+        self.entries.push_reserved(Entry::Accept { pass, edit });
+        Ok(self.edits.len())
+    }
+
+    /// Publishes a version, and gives how many edits it comes after.
+    ///
+    /// # Errors
+    ///
+    /// `Overtaken` where the published version comes after as many edits or more, and else want of memory where the room
+    /// is used up. The board is as before, and the version is dropped.
+    pub fn publish(&mut self, pass: u32, version: Arc<Version>) -> Result<u32, PublishError>
+        requires may { MayBePublished self.old.start self.old.order self.old.history (arc_value version) }
+        ensures newer { OnOk result (published_prefix self.old.history < (arc_value version).prefix) }
+        ensures entered { OnOk result (self.new ≡ with_version self.old pass (arc_value version)) }
+        ensures prefix { IfOk result (λ prefix. prefix ≡ (arc_value version).prefix) }
+        ensures refused { IfErr result (IsPublishError self.old (arc_value version).prefix) }
+        ensures as_before { OnErr result (self.new ≡ self.old) }
+    {
+        let by = self.version.prefix();
+        let prefix = version.prefix();
+        if prefix <= by {
+            return Err(PublishError::Overtaken { by });
+        }
+        self.entries.reserve(1)?;
+        self.entries.push_reserved(Entry::Publish { pass, prefix });
+        self.published += 1;
+        self.version = version;
+        Ok(prefix)
+    }
+
+    /// Enters a halt, and gives whether it did: a board that halts already stays as it is. Edits and versions are taken as
+    /// before.
+    ///
+    /// # Errors
+    ///
+    /// `AllocError` where memory runs out, which it does only where the room is used up and the board does not halt
+    /// already. The board is as before.
+    pub fn halt(&mut self, pass: u32) -> Result<bool, AllocError>
+        ensures first { IfOk result (λ halted. IsFalse halted ↔ IsHalting self.old.history) }
+        ensures entered { IfOk result (λ halted.
+            self.new ≡ cond halted (with_entry self.old (Halt pass)) self.old) }
+        ensures refused { OnErr result (IsRoomUsed self.old) }
+        ensures halts { IsHalting self.old.history → IsOk result }
+        ensures as_before { OnErr result (self.new ≡ self.old) }
+    {
+        if self.halting {
+            return Ok(false);
+        }
+        self.entries.reserve(1)?;
+        self.entries.push_reserved(Entry::Halt { pass });
+        self.halting = true;
+        Ok(true)
+    }
+
+    /// What there is to see now.
+    pub fn look(&self) -> Look
+        ensures { IsLook self.now result }
+    {
+        Look {
+            prefix: self.version.prefix(),
+            totals: self.version.totals(),
+            accepted: self.edits.len(),
+            halting: self.halting,
+            held: true,
+        }
+    }
+
+    /// The published version.
+    pub fn version(&self) -> &Version
+        ensures value { result.now ≡ self.now.version }
+        ensures version { IsVersionAt self.now.start self.now.order self.now.history
+            (published_prefix self.now.history) self.now.version }
+    {
+        &self.version
+    }
+
+    /// The published version, to be held.
+    ///
+    /// # Errors
+    ///
+    /// `AllocError` where it is held too often to be counted.
+    pub fn copy_version(&self) -> Result<Arc<Version>, AllocError>
+        ensures { IfOk result (λ copy. arc_value copy ≡ self.now.version) }
+    {
+        self.version.clone()
+    }
+
+    /// The accepted edits past the known ones. Where all are known it takes no memory.
+    ///
+    /// # Errors
+    ///
+    /// `AllocError` where memory runs out.
+    pub fn job(&self, known: u32) -> Result<Job, AllocError>
+        requires { known ≤ accepted_count self.now.history }
+        ensures job { IfOk result (IsJob self.now known) }
+        ensures none { known ≡ accepted_count self.now.history → IsOk result }
+    {
+        Ok(Job {
+            prefix: self.edits.len(),
+            edits: self.edits.tail(known)?,
+        })
+    }
+
+    /// The history.
+    pub fn entries(&self) -> &[Entry]
+        ensures history { result.now ≡ self.now.history }
+        ensures legal { IsLegal self.now.start self.now.history }
+        ensures limit { length self.now.history ≤ MAX_ENTRIES }
+    {
+        &self.entries
+    }
+
+    /// How many edits were accepted, at most 1,048,576.
+    pub fn accepted(&self) -> u32
+        ensures { result ≡ accepted_count self.now.history }
+    {
+        self.edits.len()
+    }
+
+    /// How many versions were published, the first one not counted; at most 1,048,576.
+    pub fn published(&self) -> u32
+        ensures { result ≡ published_count self.now.history }
+    {
+        self.published
+    }
+
+    /// How many entries the board took memory for when it was made, at most [`MAX_ENTRIES`](crate::MAX_ENTRIES).
+    pub fn room(&self) -> u32
+        ensures room { result ≡ self.now.room }
+        ensures limit { result ≤ MAX_ENTRIES }
+    {
+        self.room
+    }
+
+    /// The order of the cells in each of its versions.
+    pub fn kind(&self) -> OrderKind
+        ensures { result ≡ self.now.order }
+    {
+        self.version.kind()
+    }
+}

@@ -1,0 +1,28 @@
+//! Laws of histories, for proofs. None of these functions does anything: each one's contract is a law.
+
+ghost use Rattle.path_core.specs.HistoryLaws.{AcceptedEditsStay, BeginningsAreLegal, LegalHistoriesAreBounded, LegalStepByStep, PublishedPrefixesRise};
+
+/// A history is legal step by step.
+pub fn legal_step_by_step()
+    ensures { LegalStepByStep }
+{}
+
+/// What a legal history begins with is legal.
+pub fn beginnings_are_legal()
+    ensures { BeginningsAreLegal }
+{}
+
+/// A legal history publishes only what was accepted, halts at most once, and has at most so many entries.
+pub fn legal_histories_are_bounded()
+    ensures { LegalHistoriesAreBounded }
+{}
+
+/// As a legal history grows, the published version is never replaced by an older one.
+pub fn published_prefixes_rise()
+    ensures { PublishedPrefixesRise }
+{}
+
+/// Accepted edits stay as a history grows, and with them their maps, versions and answers.
+pub fn accepted_edits_stay()
+    ensures { AcceptedEditsStay }
+{}

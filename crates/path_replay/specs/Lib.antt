@@ -1,0 +1,4 @@
+pub mod Events
+pub mod Texts
+pub mod Replays
+pub mod Inside
