@@ -1,0 +1,11 @@
+use Rattle.std.proofs.Common.{ap}
+use Rattle.path_board.specs.Foundations.{foundation_of}
+use Rattle.path_board.proofs.Listing.{added, on_one, publishable_whole}
+use Rattle.path_board.proofs.state.BoardState.publish.Goals as goal
+
+pub publish-answer-requires : goal.publish-answer-requires
+publish-answer-requires c = record { may = publishable_whole _ _ c.whole.ensures c.requires.may }
+
+pub returns-clause-entered : goal.returns-clause-entered
+returns-clause-entered c = on_one _ _ _ c.publish-answer.ensures.entered
+    (λ is. added _ _ _ c.whole.ensures c.whole-2.ensures (ap (λ b. b.history) is) (ap foundation_of is))

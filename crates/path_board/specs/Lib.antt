@@ -1,0 +1,9 @@
+pub mod Listed
+pub mod Foundations
+pub mod States
+pub mod Holding
+pub mod Passes
+pub mod Calls
+pub mod SharedBoards
+pub mod Dealing
+pub mod Pairs
