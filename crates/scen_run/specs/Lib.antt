@@ -1,0 +1,5 @@
+pub mod Results
+pub mod Inside
+pub mod Reports
+pub mod Made
+pub mod MadeQueries
