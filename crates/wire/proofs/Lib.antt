@@ -1,2 +1,5 @@
 pub mod Growing
+pub mod Making
 pub mod NamedFiles
+pub mod Selecting
+pub mod Sending

@@ -15,6 +15,17 @@ pub record SinkOver (W : Type 0) : Type 0 where
 abbrev pub new_sink_over : {W : Type 0} → W → SinkOver W
 new_sink_over writer = record { writer = writer; faults = 0 }
 
+-- a link over a reader and a writer: the reader, how many recvs failed, and the sink over the writer
+pub record LinkOver (I O : Type 0) : Type 0 where
+  pub input : I
+  pub faults : ℕ
+  pub output : SinkOver O
+
+-- a link on which nothing has failed yet
+abbrev pub new_link_over : {I O : Type 0} → I → O → LinkOver I O
+new_link_over input output =
+    record { input = input; faults = 0; output = new_sink_over output }
+
 -- files over what opens them: the opener, how many reads failed, and why the last read failed, if
 -- it did
 pub record FilesOver (O : Type 0) : Type 0 where

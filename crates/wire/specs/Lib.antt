@@ -1,5 +1,12 @@
 pub mod Causes
 pub mod Contents
 pub mod Devices
+pub mod DoorInMemory
 pub mod FilesInMemory
+pub mod HouseInMemory
+pub mod Houses
+pub mod Knocks
+pub mod LinkInMemory
+pub mod Rings
 pub mod SinkInMemory
+pub mod Talks

@@ -1,33 +1,64 @@
-//! The edge of the program: files and output as traits that count their faults, forms of them in
-//! memory for tests, and the real ones.
+//! The edge of the program: files, output, connections, doors and bells as traits that count their
+//! faults, forms of them in memory for tests, and the real ones.
 //!
 //! A call that answers [`Failed`] says that the outside refused. It may say so only where the
 //! count of faults of the object that was handed in rose during the call, so no caller can make a
 //! fault up, and each caller can hand on the reason in its own contract.
 #![tactic(auto)]
 
+mod bell;
+mod door;
 mod faults;
 mod files;
+mod host_bell;
 mod host_files;
+mod house;
+mod link;
+mod mem_door;
 mod mem_files;
+mod mem_house;
+mod mem_link;
 mod mem_sink;
 mod opener;
 mod reader_files;
 mod sink;
+mod std_link;
 mod std_sink;
+mod steady_link;
 mod steady_sink;
+mod stream_link;
+mod tcp_door;
+mod tcp_house;
+mod tcp_link;
+mod turn_ear;
+mod unread;
 mod writer_sink;
 
+pub use bell::{Bell, Ear, Ring, StillBell};
+pub use door::{Door, Knock};
 pub use faults::Failed;
 pub use files::{FileError, Files};
+pub use host_bell::{HostBell, HostEar};
 pub use host_files::{HostFiles, HostOpener};
+pub use house::{DoorsAsked, House, HouseError};
+pub use link::{Link, send_all};
+pub use mem_door::MemDoor;
 pub use mem_files::MemFiles;
+pub use mem_house::MemHouse;
+pub use mem_link::MemLink;
 pub use mem_sink::MemSink;
 pub use opener::{Opened, Opener};
 pub use reader_files::ReaderFiles;
 pub use sink::{Sink, put_all};
+pub use std_link::StdLink;
 pub use std_sink::StdSink;
+pub use steady_link::SteadyLink;
 pub use steady_sink::SteadySink;
+pub use stream_link::StreamLink;
+pub use tcp_door::{KNOCK_TIME, TcpDoor};
+pub use tcp_house::TcpHouse;
+pub use tcp_link::{IDLE_TIME, TcpLink};
+pub use turn_ear::TurnEar;
 pub use writer_sink::WriterSink;
 
 #[cfg(test)]

@@ -1,4 +1,8 @@
 //! What the calls answer through their traits: planned faults, room that runs out, the real forms.
+mod doors;
+mod links;
+mod outside;
+
 use crate::{
     FileError, Files, HostFiles, MemFiles, MemSink, Opened, Opener, ReaderFiles, Sink, StdSink,
     SteadySink, WriterSink, put_all,

@@ -61,7 +61,7 @@ impl<W: Write> Sink for WriterSink<W> {
 }
 
 /// One write, begun again where a signal interrupts it.
-fn write_some<W: Write>(writer: &mut W, piece: &[u8]) -> Result<usize, Failed>
+pub(crate) fn write_some<W: Write>(writer: &mut W, piece: &[u8]) -> Result<usize, Failed>
     ensures count { IfOk result (λ count. count ≤ length piece.now) }
     ensures some { IfOk result (λ count. 0 < length piece.now → 0 < count) }
     ensures written { IfOk result (λ count.

@@ -1,0 +1,38 @@
+-- What an ear hears, and what it keeps of it.
+use Rattle.std.specs.Prelude.{ℕ, ◌-◌, Bool, true, false, ◌||◌, ◌==◌, not, cond}
+use Rattle.wire.specs.Causes.{one_more}
+use Rattle.wire.specs.declared.bell.Ring.{Ring}
+use Rattle.wire.specs.declared.bell.Ring.TheVariants.{Rung, Shut}
+
+-- a count of rings after this answer
+abbrev pub rings_in : Ring → ℕ → ℕ
+rings_in Rung count = one_more count
+rings_in Shut count = count
+
+-- whether the answer is that the bell was shut
+abbrev pub says_shut : Ring → Bool
+says_shut Rung = false
+says_shut Shut = true
+
+-- an ear that counts: how many rings it still hears, how many it heard, and whether it heard that
+-- the bell was shut
+pub record EarInMemory : Type 0 where
+  pub left : ℕ
+  pub rung : ℕ
+  pub over : Bool
+
+-- an ear that heard nothing yet
+abbrev pub new_ear : ℕ → EarInMemory
+new_ear rings = record { left = rings; rung = 0; over = false }
+
+-- what the next wait answers: a ring for as long as some are left
+abbrev pub next_ring : EarInMemory → Ring
+next_ring ear = cond (ear.left == 0) Shut Rung
+
+-- the ear after this answer
+abbrev pub with_ring : EarInMemory → Ring → EarInMemory
+with_ring ear ring = record {
+  left = ear.left - 1;
+  rung = rings_in ring ear.rung;
+  over = ear.over || says_shut ring;
+}

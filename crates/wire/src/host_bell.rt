@@ -1,0 +1,91 @@
+//! A bell between threads.
+ghost use Rattle.std.specs.Prelude.{◌≡◌, false};
+
+use crate::{Bell, Ear, Ring};
+use std::sync::{Condvar, Mutex, Wait};
+
+/// A bell that wakes a thread. Rings while nobody waits are kept, many as one.
+#[derive(Drop)]
+pub struct HostBell {
+    heard: Mutex<Heard>,
+    changed: Condvar,
+}
+
+/// What was done to a bell since its ear waited last.
+#[derive(Drop)]
+struct Heard {
+    rung: bool,
+    shut: bool,
+}
+
+impl Heard {
+    fn is_nothing(&self) -> bool {
+        !self.rung && !self.shut
+    }
+}
+
+impl HostBell {
+    /// A bell that was not rung yet.
+    pub fn new() -> HostBell {
+        HostBell {
+            heard: Mutex::new(Heard {
+                rung: false,
+                shut: false,
+            }),
+            changed: Condvar::new(),
+        }
+    }
+
+    /// Its ear, for the one thread that waits.
+    pub fn ear(&self) -> HostEar<'_>
+        ensures rung { result.rung ≡ 0 }
+        ensures over { result.over ≡ false }
+    {
+        HostEar {
+            bell: self,
+            rung: 0,
+            over: false,
+        }
+    }
+}
+
+impl Bell for HostBell {
+    fn ring<R: Wait>(&self, rt: &R) {
+        self.heard.lock(rt).rung = true;
+        self.changed.notify_one();
+    }
+
+    fn shut<R: Wait>(&self, rt: &R) {
+        self.heard.lock(rt).shut = true;
+        self.changed.notify_one();
+    }
+}
+
+/// The ear of a [`HostBell`]. It hears what was rung before it hears that the bell was shut.
+#[derive(Drop)]
+pub struct HostEar<'a> {
+    bell: &'a HostBell,
+    rung: u64,
+    over: bool,
+}
+
+impl<'a> Ear for HostEar<'a> {
+    ghost rung = { λ ear. ear.rung };
+
+    ghost over = { λ ear. ear.over };
+
+    fn wait<R: Wait>(&mut self, rt: &R) -> Ring {
+        let heard = self.bell.heard.lock(rt);
+        let mut heard = self
+            .bell
+            .changed
+            .wait_while(rt, heard, |heard| heard.is_nothing());
+        if heard.rung {
+            heard.rung = false;
+            self.rung = self.rung.saturating_add(1);
+            return Ring::Rung;
+        }
+        self.over = true;
+        Ring::Shut
+    }
+}
