@@ -1,0 +1,4 @@
+pub mod Numbers
+pub mod Fronts
+pub mod Shapes
+pub mod SpelledMoves

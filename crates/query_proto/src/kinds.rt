@@ -1,0 +1,43 @@
+//! The first bytes of frames, which say what each is.
+
+// ---- requests
+
+/// A query for a path.
+pub const QUERY: u8 = 0x01;
+/// A change of the map.
+pub const CHANGE: u8 = 0x02;
+/// The building of a version.
+pub const BUILD: u8 = 0x03;
+/// The state of the board.
+pub const STATUS: u8 = 0x04;
+/// The end of a session.
+pub const BYE: u8 = 0x05;
+/// The end of the server.
+pub const STOP: u8 = 0x06;
+
+// ---- replies
+
+/// A path, with its moves.
+pub const PATH: u8 = 0x81;
+/// No path exists.
+pub const UNREACHABLE: u8 = 0x82;
+/// An end of the query is refused.
+pub const REFUSED: u8 = 0x83;
+/// A change was accepted.
+pub const ACCEPTED: u8 = 0x84;
+/// A change was refused.
+pub const EDIT_REFUSED: u8 = 0x85;
+/// A version was published.
+pub const PUBLISHED: u8 = 0x86;
+/// There was nothing to build.
+pub const NOTHING_NEW: u8 = 0x87;
+/// Another version was published first.
+pub const OVERTAKEN: u8 = 0x88;
+/// The state of the board.
+pub const BOARD: u8 = 0x89;
+/// It was done.
+pub const DONE: u8 = 0x8A;
+/// The frame spells no request.
+pub const MALFORMED: u8 = 0x8B;
+/// There was no memory for it.
+pub const NO_MEMORY: u8 = 0x8C;

@@ -1,0 +1,30 @@
+//! The frames by which a client and the server talk: requests and replies as bytes, each with one spelling.
+//!
+//! A request is sent behind its length in two bytes, a reply behind its length in four. In every number the highest byte
+//! comes first. Nothing here takes memory.
+#![tactic(auto)]
+
+mod kinds;
+pub mod malformed;
+mod reading;
+pub mod replies;
+pub mod requests;
+#[cfg(test)]
+mod tests;
+mod writing;
+
+pub use malformed::Malformed;
+pub use replies::{QueryWhy, Reply, decode_reply, reply_head};
+pub use requests::{Request, decode_request, encode_request};
+
+/// The most bytes that the frame of a request has.
+pub const MAX_REQUEST: usize = 64;
+
+/// The most moves that a path has: one fewer than a map may have passable cells.
+pub const MAX_MOVES: u32 = 32_767;
+
+/// The most bytes that the frame of a reply has: those of a path with the most moves.
+pub const MAX_REPLY: usize = 32_780;
+
+/// How much room the length and the head of a frame want at most.
+pub const HEAD_ROOM: usize = 64;

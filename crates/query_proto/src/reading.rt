@@ -1,0 +1,61 @@
+//! Numbers in the bytes of a frame.
+
+ghost use Rattle.std.specs.Prelude.{◌≡◌, ◌+◌, ◌<◌, ◌≤◌, ◌++◌, ◌∷◌, drop, length};
+ghost use Rattle.query_proto.specs.Frames.{IsFlagOf, cell_bytes};
+ghost use Rattle.byteorder.specs.Endian.{big_bytes};
+
+use byteorder::{BigEndian, ByteOrder};
+use moves::Cell;
+
+/// The byte at that place.
+pub fn byte_at(frame: &[u8], at: usize) -> u8
+    requires { at < length frame.now }
+    ensures { drop at frame.now ≡ result ∷ drop (at + 1) frame.now }
+{
+    frame[at]
+}
+
+/// The number in the two bytes at that place.
+pub fn short_at(frame: &[u8], at: usize) -> u16
+    requires { at + 2 ≤ length frame.now }
+    ensures { drop at frame.now ≡ big_bytes 2 result ++ drop (at + 2) frame.now }
+{
+    BigEndian::read_u16(&frame[at..])
+}
+
+/// The number in the four bytes at that place.
+pub fn number_at(frame: &[u8], at: usize) -> u32
+    requires { at + 4 ≤ length frame.now }
+    ensures { drop at frame.now ≡ big_bytes 4 result ++ drop (at + 4) frame.now }
+{
+    BigEndian::read_u32(&frame[at..])
+}
+
+/// The number in the eight bytes at that place.
+pub fn long_at(frame: &[u8], at: usize) -> u64
+    requires { at + 8 ≤ length frame.now }
+    ensures { drop at frame.now ≡ big_bytes 8 result ++ drop (at + 8) frame.now }
+{
+    BigEndian::read_u64(&frame[at..])
+}
+
+/// The cell in the four bytes at that place.
+pub fn cell_at(frame: &[u8], at: usize) -> Cell
+    requires { at + 4 ≤ length frame.now }
+    ensures { drop at frame.now ≡ cell_bytes result ++ drop (at + 4) frame.now }
+{
+    let x = short_at(frame, at);
+    let y = short_at(frame, at + 2);
+    Cell { x, y }
+}
+
+/// What a byte says that says whether.
+pub fn flag_of(byte: u8) -> Option<bool>
+    ensures { IsFlagOf byte result }
+{
+    match byte {
+        0 => Some(false),
+        1 => Some(true),
+        _ => None,
+    }
+}

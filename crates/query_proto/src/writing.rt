@@ -1,0 +1,71 @@
+//! Bytes and numbers, written one behind the other to the front of a piece.
+
+ghost use Rattle.std.specs.Prelude.{◌≡◌, ◌+◌, ◌<◌, ◌≤◌, [], ◌∷◌, length};
+ghost use Rattle.byteorder.specs.Endian.{big_bytes};
+ghost use Rattle.query_proto.specs.Frames.{GrowsFront, cell_bytes, flag_byte};
+
+use byteorder::{BigEndian, ByteOrder};
+use moves::Cell;
+
+/// Writes a byte at that place, and says which place is the next.
+pub fn put_byte(out: &mut [u8], at: usize, byte: u8) -> usize
+    requires { at < length out.old }
+    ensures grows { GrowsFront (byte ∷ []) at out.old out.new result }
+    ensures next { result ≡ at + 1 }
+    ensures len { length out.new ≡ length out.old }
+{
+    out[at] = byte;
+    at + 1
+}
+
+/// Writes a number in two bytes.
+pub fn put_short(out: &mut [u8], at: usize, number: u16) -> usize
+    requires { at + 2 ≤ length out.old }
+    ensures grows { GrowsFront (big_bytes 2 number) at out.old out.new result }
+    ensures next { result ≡ at + 2 }
+    ensures len { length out.new ≡ length out.old }
+{
+    BigEndian::write_u16(&mut out[at..], number);
+    at + 2
+}
+
+/// Writes a number in four bytes.
+pub fn put_number(out: &mut [u8], at: usize, number: u32) -> usize
+    requires { at + 4 ≤ length out.old }
+    ensures grows { GrowsFront (big_bytes 4 number) at out.old out.new result }
+    ensures next { result ≡ at + 4 }
+    ensures len { length out.new ≡ length out.old }
+{
+    BigEndian::write_u32(&mut out[at..], number);
+    at + 4
+}
+
+/// Writes a number in eight bytes.
+pub fn put_long(out: &mut [u8], at: usize, number: u64) -> usize
+    requires { at + 8 ≤ length out.old }
+    ensures grows { GrowsFront (big_bytes 8 number) at out.old out.new result }
+    ensures next { result ≡ at + 8 }
+    ensures len { length out.new ≡ length out.old }
+{
+    BigEndian::write_u64(&mut out[at..], number);
+    at + 8
+}
+
+/// Writes a cell in four bytes.
+pub fn put_cell(out: &mut [u8], at: usize, cell: Cell) -> usize
+    requires { at + 4 ≤ length out.old }
+    ensures grows { GrowsFront (cell_bytes cell) at out.old out.new result }
+    ensures next { result ≡ at + 4 }
+    ensures len { length out.new ≡ length out.old }
+{
+    let row = put_short(out, at, cell.x);
+    put_short(out, row, cell.y)
+}
+
+/// The byte that says whether.
+pub fn byte_of_flag(flag: bool) -> u8
+    ensures value { result ≡ flag_byte flag }
+    ensures limit { result ≤ 1 }
+{
+    u8::from(flag)
+}

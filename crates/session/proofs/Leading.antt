@@ -1,0 +1,212 @@
+-- Talks at a door, one after the other.
+use Rattle.std.proofs.Common.{◌≡◌, ℕ, true, false, IfErr, IfSome, List, [], ◌∷◌, ◌++◌, length, None, Option, Result, Some, option_map, inl, inr, refl, sym, subst, ap, ◌∙◌}
+use Rattle.std.specs.Io.KnownBytes.{append_known}
+use Rattle.std.proofs.lemmas.List.{append-nil, append_assoc}
+use Rattle.path_core.specs.declared.entry.Entry.{Entry}
+use Rattle.path_core.specs.declared.entry.Entry.TheVariants.{Accept, Halt}
+use Rattle.path_core.specs.Passes.{BeginsWith}
+use Rattle.path_core.proofs.Passing.{begins_itself, begins_then, others_begin, own_begins}
+use Rattle.query_proto.specs.declared.replies.Reply.TheVariants as reply
+use Rattle.query_proto.specs.declared.replies.Reply.{Reply}
+use Rattle.query_proto.specs.declared.requests.Request.{Request}
+use Rattle.query_proto.specs.declared.requests.Request.TheVariants as request
+use Rattle.edit_log.specs.declared.edit.Edit.{Edit}
+use Rattle.moves.specs.declared.Move.{Move}
+use Rattle.wire.specs.Knocks.{TellsToo}
+use Rattle.wire.specs.Talks.{EndedTalk, IsFresh, Talk, with_ended, with_sent, with_taken}
+use Rattle.session.specs.declared.sessions.Ended.{Ended}
+use Rattle.session.specs.declared.sessions.SessionFault.{SessionFault}
+use Rattle.session.specs.Conversations.{Conversed, Exchange, HasCause, Rests, ServesFrame, ServesRun, bytes_taken}
+use Rattle.session.specs.Doors.{HasServed, Lead, LeadsOn, SameWhereTold, as_begun}
+use Rattle.session.specs.Served.{Serves, ServesChange, ServesStatus, ServesStop}
+use Rattle.session.specs.Standing.{HoldsSince, Place, Standing}
+use Rattle.session.proofs.Ringing.{build_begins, held_then, rests_none, rests_then}
+
+-- ---- what is seen after a request begins with what was seen before it
+
+change_begins : (place : Place) (edit : Edit) (before : List Entry) (told : Reply) (after : List Entry) → ServesChange place edit before told after → BeginsWith after before
+change_begins place edit before (reply.Path version cost) after s = absurd s
+change_begins place edit before (reply.Unreachable version) after s = absurd s
+change_begins place edit before (reply.Refused version why) after s = absurd s
+change_begins place edit before (reply.Accepted number) after s = own_begins place.pass (Accept place.pass edit) before after s.0
+change_begins place edit before (reply.EditRefused why) after s = others_begin place.pass before after s.0
+change_begins place edit before (reply.Published prefix built kept) after s = absurd s
+change_begins place edit before (reply.NothingNew prefix) after s = absurd s
+change_begins place edit before (reply.Overtaken by) after s = absurd s
+change_begins place edit before (reply.Status version accepted cells comps runs) after s = absurd s
+change_begins place edit before reply.Done after s = absurd s
+change_begins place edit before (reply.Malformed kind length) after s = absurd s
+change_begins place edit before reply.NoMemory after s = others_begin place.pass before after s.0
+
+status_begins : (place : Place) (before : List Entry) (told : Reply) (after : List Entry) → ServesStatus place before told after → BeginsWith after before
+status_begins place before (reply.Path version cost) after s = absurd s
+status_begins place before (reply.Unreachable version) after s = absurd s
+status_begins place before (reply.Refused version why) after s = absurd s
+status_begins place before (reply.Accepted number) after s = absurd s
+status_begins place before (reply.EditRefused why) after s = absurd s
+status_begins place before (reply.Published prefix built kept) after s = absurd s
+status_begins place before (reply.NothingNew prefix) after s = absurd s
+status_begins place before (reply.Overtaken by) after s = absurd s
+status_begins place before (reply.Status version accepted cells comps runs) after s = others_begin place.pass before after s.others
+status_begins place before reply.Done after s = absurd s
+status_begins place before (reply.Malformed kind length) after s = absurd s
+status_begins place before reply.NoMemory after s = absurd s
+
+stop_begins : (place : Place) (before : List Entry) (told : Reply) (after : List Entry) → ServesStop place before told after → BeginsWith after before
+stop_begins place before (reply.Path version cost) after s = absurd s
+stop_begins place before (reply.Unreachable version) after s = absurd s
+stop_begins place before (reply.Refused version why) after s = absurd s
+stop_begins place before (reply.Accepted number) after s = absurd s
+stop_begins place before (reply.EditRefused why) after s = absurd s
+stop_begins place before (reply.Published prefix built kept) after s = absurd s
+stop_begins place before (reply.NothingNew prefix) after s = absurd s
+stop_begins place before (reply.Overtaken by) after s = absurd s
+stop_begins place before (reply.Status version accepted cells comps runs) after s = absurd s
+stop_begins place before reply.Done after s = elim s [
+  | inl first ↦ own_begins place.pass (Halt place.pass) before after (record { between = first.between; others = first.others; own = first.own })
+  | inr there ↦ others_begin place.pass before after there.0
+]
+stop_begins place before (reply.Malformed kind length) after s = absurd s
+stop_begins place before reply.NoMemory after s = others_begin place.pass before after s.0
+
+serves_begins : (place : Place) (asked : Request) (old : Standing) (told : Reply) (moves : List Move) (new : Standing) → Serves place asked old told moves new
+    → BeginsWith new.seen old.seen
+serves_begins place (request.Query start goal) old told moves new s = others_begin place.pass old.seen new.seen s.others
+serves_begins place (request.Change edit) old told moves new s = change_begins place edit old.seen told new.seen s.0
+serves_begins place request.Build old told moves new s = build_begins place old.seen told new s.0
+serves_begins place request.Status old told moves new s = status_begins place old.seen told new.seen s.0
+serves_begins place request.Bye old told moves new s = subst (λ (to : Standing). BeginsWith to.seen old.seen) (sym s.2) (begins_itself old.seen)
+serves_begins place request.Stop old told moves new s = stop_begins place old.seen told new.seen s.0
+
+-- the history goes on, and the version that is held is the one from before or was published since
+record Onward (old new : Standing) : Type 0 where
+  pub extends : BeginsWith new.seen old.seen
+  pub holds : HoldsSince old new
+
+onward_itself : (standing : Standing) → Onward standing standing
+onward_itself standing = record { extends = begins_itself standing.seen; holds = inl refl }
+
+onward_then : (old mid new : Standing) → Onward old mid → Onward mid new → Onward old new
+onward_then old mid new p q = record {
+  extends = begins_then old.seen mid.seen new.seen p.extends q.extends;
+  holds = held_then old.seen mid.seen new.seen old.held mid.held new.held p.extends q.extends p.holds q.holds;
+}
+
+rests_onward : (place : Place) (old new : Standing) → Rests place old new → Onward old new
+rests_onward place old new p = record { extends = others_begin place.pass old.seen new.seen p.others; holds = p.holds }
+
+frame_onward : (place : Place) (exchange : Exchange) (old new : Standing) → ServesFrame place exchange old new → Onward old new
+frame_onward place exchange old new frame = elim frame [
+  | inl s ↦ record { extends = serves_begins place s.asked old exchange.told exchange.moves new s.serves.served; holds = s.serves.holds }
+  | inr s ↦ subst (Onward old) (sym s.same) (onward_itself old)
+]
+
+run_onward : (place : Place) (old : Standing) (exchanges : List Exchange) (new : Standing) → ServesRun place old exchanges new → Onward old new
+run_onward place old [] new run = rests_onward place old new run
+run_onward place old (exchange ∷ rest) new (point, frame, run) =
+    onward_then old point new (frame_onward place exchange old point frame) (run_onward place point rest new run)
+
+-- ---- talks
+
+lead_front : (place : Place) (old mid : Standing) (talks : List EndedTalk) (new : Standing) → Rests place old mid → Lead place mid talks new → Lead place old talks new
+lead_front place old mid [] new first lead = rests_then place old mid new first lead
+lead_front place old mid (talk ∷ rest) new first (from, to, rests, served, lead) = (from, to, rests_then place old mid from first rests, served, lead)
+
+lead_then : (place : Place) (old : Standing) (talks : List EndedTalk) (mid : Standing) (more : List EndedTalk) (new : Standing) → Lead place old talks mid
+    → Lead place mid more new → Lead place old (talks ++ more) new
+lead_then place old [] mid more new lead then = lead_front place old mid more new lead then
+lead_then place old (talk ∷ rest) mid more new (from, to, rests, served, lead) then = (from, to, rests, served, lead_then place to rest mid more new lead then)
+
+-- nothing came, and others may have added entries
+pub served_none : (place : Place) (old new : Standing) (told : Option (List EndedTalk)) → Rests place old new → HasServed place old told new told
+served_none place old new None rests = let onward = rests_onward place old new rests in record { extends = onward.extends; holds = onward.holds; told = tt }
+served_none place old new (Some talks) rests = let onward = rests_onward place old new rests in record {
+  extends = onward.extends;
+  holds = onward.holds;
+  told = record { more = []; after_is = ap Some (sym (append-nil talks)); lead = rests };
+}
+
+leads_then : (place : Place) (old mid new : Standing) (before between after : Option (List EndedTalk))
+    → IfSome before (λ talks. LeadsOn place old talks mid between) → IfSome between (λ talks. LeadsOn place mid talks new after)
+    → IfSome before (λ talks. LeadsOn place old talks new after)
+leads_then place old mid new None between after p q = tt
+leads_then place old mid new (Some talks) between after p q =
+    let then : LeadsOn place mid (talks ++ p.more) new after = subst (λ told. IfSome told (λ all. LeadsOn place mid all new after)) p.after_is q in
+    record {
+      more = p.more ++ then.more;
+      after_is = then.after_is ∙ ap Some (append_assoc talks p.more then.more);
+      lead = lead_then place old p.more mid then.more new p.lead then.lead;
+    }
+
+pub served_then : (place : Place) (old mid new : Standing) (before between after : Option (List EndedTalk)) → HasServed place old before mid between
+    → HasServed place mid between new after → HasServed place old before new after
+served_then place old mid new before between after p q =
+    let onward = onward_then old mid new (record { extends = p.extends; holds = p.holds }) (record { extends = q.extends; holds = q.holds }) in
+    record { extends = onward.extends; holds = onward.holds; told = leads_then place old mid new before between after p.told q.told }
+
+-- ---- a talk from its first byte on
+
+sent_begun : (sent : Option (List ℕ)) (bytes : List ℕ) → IfSome sent (λ held. held ≡ []) → sent ≡ option_map (λ (_ : List ℕ). []) (append_known sent bytes)
+sent_begun None bytes none = refl
+sent_begun (Some held) bytes none = ap Some none
+
+begun : (talk : Talk) (told : Option Talk) (count : ℕ) (bytes : List ℕ) → IsFresh (Some talk) → told ≡ with_sent (with_taken (Some talk) count) bytes
+    → Some talk ≡ option_map as_begun told
+begun talk told count bytes (whole, none) is =
+    let sent = sent_begun talk.sent bytes none in
+    let same : Some talk ≡ Some (record { input = talk.input; left = talk.input; sent = option_map (λ (_ : List ℕ). []) (append_known talk.sent bytes) }) =
+    λ i. Some (record { input = talk.input; left = whole i; sent = sent i }) in
+    same ∙ ap (option_map as_begun) (sym is)
+
+talk_ended : (place : Place) (from : Standing) (talks : List EndedTalk) (talk : Talk) (told : Option Talk) (result : Result Ended SessionFault) (to : Standing)
+    (reads writes : ℕ) → IsFresh (Some talk) → Conversed place from (Some talk) result to told → IfErr result (HasCause 0 reads 0 writes)
+    → LeadsOn place from talks to (with_ended (Some talks) told reads writes)
+talk_ended place from talks talk None result to reads writes fresh c cause =
+    let clash : None ≡ with_sent (with_taken (Some talk) (length (bytes_taken c.exchanges ++ c.last))) c.sent = c.passes.after_is in
+    absurd (cc)
+talk_ended place from talks talk (Some now) result to reads writes fresh c cause = record {
+  more = record { talk = now; read_faults = reads; write_faults = writes } ∷ [];
+  after_is = refl;
+  lead = (
+    from,
+    to,
+    rests_none place from,
+    record {
+      result = result;
+      conversed = subst (λ first. Conversed place from first result to (Some now)) (begun talk (Some now) _ _ fresh c.passes.after_is) c;
+      cause = cause;
+    },
+    rests_none place to,
+  );
+}
+
+-- a connection was served from its first byte on, and handed back
+pub served_talk : (place : Place) (from to : Standing) (before : Option (List EndedTalk)) (fresh told : Option Talk) (result : Result Ended SessionFault)
+    (reads_before reads writes_before writes : ℕ) (after : Option (List EndedTalk)) → IsFresh fresh → TellsToo before fresh
+    → Conversed place from fresh result to told → IfErr result (HasCause reads_before reads writes_before writes) → reads_before ≡ 0 → writes_before ≡ 0
+    → after ≡ with_ended before told reads writes → HasServed place from before to after
+served_talk place from to None fresh told result reads_before reads writes_before writes after new tells c cause r w is =
+    let onward = run_onward place from c.exchanges to c.serves in record { extends = onward.extends; holds = onward.holds; told = tt }
+served_talk place from to (Some talks) None told result reads_before reads writes_before writes after new tells c cause r w is =
+    let clash : false ≡ true = tells in absurd (cc)
+served_talk place from to (Some talks) (Some talk) told result reads_before reads writes_before writes after new tells c cause r w is =
+    let onward = run_onward place from c.exchanges to c.serves in
+    record {
+      extends = onward.extends;
+      holds = onward.holds;
+      told = subst (LeadsOn place from talks to) (sym is)
+          (talk_ended place from talks talk told result to reads writes new c
+          (subst (λ n. IfErr result (HasCause 0 reads n writes)) w (subst (λ n. IfErr result (HasCause n reads writes_before writes)) r cause)));
+    }
+
+-- a count that is the same where talks are told stays so
+pub same_then : (place : Place) (old mid : Standing) (before between : Option (List EndedTalk)) (first second third : ℕ) → HasServed place old before mid between
+    → SameWhereTold before first second → SameWhereTold between second third → SameWhereTold before first third
+same_then place old mid None between first second third p one two = tt
+same_then place old mid (Some talks) between first second third p one two =
+    let then : third ≡ second = subst (λ told. SameWhereTold told second third) p.told.after_is two in
+    then ∙ one
+
+pub same_told : (told : Option (List EndedTalk)) (count : ℕ) → SameWhereTold told count count
+same_told None count = tt
+same_told (Some talks) count = refl

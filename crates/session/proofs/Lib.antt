@@ -1,0 +1,13 @@
+pub mod Holding
+pub mod Queried
+pub mod Builds
+pub mod Ringing
+pub mod Seating
+pub mod Talking
+pub mod Replying
+pub mod Cutting
+pub mod Turning
+pub mod Leading
+pub mod Hiring
+pub mod Crewing
+pub mod Parting

@@ -1,0 +1,298 @@
+-- A talk over a link, turn by turn.
+use Rattle.std.proofs.Common.{◌≡◌, ◌+◌, ◌<◌, ◌≤◌, ℕ, All, Bool, Err, IsFalse, List, [], ◌∷◌, ◌++◌, length, take, drop, None, Ok, Option, Result, Some, inl, nat_lt, refl, sym, subst, ap, ap₂, ◌∙◌, length-append, arith}
+use Rattle.std.specs.Io.KnownBytes.{append_known}
+use Rattle.std.proofs.Math.Seq.{take-add}
+use Rattle.std.proofs.lemmas.Grind.{flat_map-append}
+use Rattle.std.proofs.lemmas.List.{append-nil, append_assoc, drop-drop, take-append-drop, length-drop}
+use Rattle.std.proofs.lemmas.List.Elements.{All-push}
+use Rattle.path_core.proofs.Passing.{others_none}
+use Rattle.query_proto.specs.declared.TheConstants.{MAX_REQUEST}
+use Rattle.query_proto.specs.Frames.{sent_reply, sent_request}
+use Rattle.wire.specs.Talks.{Talk, with_sent, with_taken}
+use Rattle.wire.proofs.Sending.{sent_none}
+use Rattle.session.specs.declared.sessions.TheConstants.{MAX_REQUESTS}
+use Rattle.session.specs.declared.sessions.Ended.{Ended}
+use Rattle.session.specs.declared.sessions.Ended.TheVariants as ended
+use Rattle.session.specs.declared.sessions.SessionFault.{SessionFault}
+use Rattle.session.specs.declared.sessions.SessionFault.TheVariants as fault
+use Rattle.session.specs.Conversations.{Conversed, EndsSo, Exchange, GoesOn, NoFewer, Passes, Rests, ServesRun, bytes_sent, bytes_taken}
+use Rattle.session.specs.Standing.{Place, Standing}
+use Rattle.session.specs.Turns.{Exchanges, HoldsMore, Steps, StepsNot, StepsOver, Takes}
+
+-- ---- bytes
+
+known_twice : (known : Option (List ℕ)) (first second : List ℕ) → append_known (append_known known first) second ≡ append_known known (first ++ second)
+known_twice (Some bytes) first second = ap Some (append_assoc bytes first second)
+known_twice None first second = refl
+
+-- a text that was sent behind another
+pub sent_twice : (told : Option Talk) (first second : List ℕ) → with_sent (with_sent told first) second ≡ with_sent told (first ++ second)
+sent_twice (Some talk) first second = ap (λ (sent : Option (List ℕ)). Some (record talk { sent = sent })) (known_twice talk.sent first second)
+sent_twice None first second = refl
+
+-- nothing was taken
+pub takes_none : (told : Option Talk) → Takes told told []
+takes_none (Some talk) = record { front = refl; after_is = refl }
+takes_none None = record { front = tt; after_is = refl }
+
+-- bytes that were taken behind others
+pub takes_then : (before mid after : Option Talk) (first second : List ℕ) → Takes before mid first → Takes mid after second → Takes before after (first ++ second)
+takes_then None mid after first second p q =
+    let then = subst (λ told. Takes told after second) p.after_is q in
+    record { front = tt; after_is = then.after_is }
+takes_then (Some talk) mid after first second p q =
+    let then = subst (λ told. Takes told after second) p.after_is q in
+    record {
+      front = ap (λ n. take n talk.left) (length-append first second) ∙ take-add (length first) (length second) talk.left
+          ∙ ap₂ (λ (x y : List ℕ). x ++ y) p.front then.front;
+      after_is = then.after_is ∙ ap (λ (left : List ℕ). Some (record talk { left = left }))
+          (drop-drop (length second) (length first) talk.left ∙ ap (λ n. drop n talk.left) (sym (length-append first second)));
+    }
+
+-- nothing was held, and nothing taken
+pub holds_none : (told : Option Talk) (held : List ℕ) → HoldsMore told told held held
+holds_none told held = record { more = []; grown = sym (append-nil held); takes = takes_none told }
+
+-- more bytes, and again more
+pub holds_then : (before mid after : Option Talk) (held between now : List ℕ) → HoldsMore before mid held between → HoldsMore mid after between now
+    → HoldsMore before after held now
+holds_then before mid after held between now p q = record {
+  more = p.more ++ q.more;
+  grown = q.grown ∙ ap (λ (l : List ℕ). l ++ q.more) p.grown ∙ append_assoc held p.more q.more;
+  takes = takes_then before mid after p.more q.more p.takes q.takes;
+}
+
+passes_none : (told : Option Talk) → Passes told told [] []
+passes_none (Some talk) = record { front = refl; after_is = sent_none (Some talk) }
+passes_none None = record { front = tt; after_is = refl }
+
+passes_taken : (before mid after : Option Talk) (taken sent more : List ℕ) → Passes before mid taken sent → Takes mid after more → Passes before after (taken ++ more) sent
+passes_taken None mid after taken sent more p q =
+    let then = subst (λ told. Takes told after more) p.after_is q in
+    record { front = tt; after_is = then.after_is }
+passes_taken (Some talk) mid after taken sent more p q =
+    let then = subst (λ told. Takes told after more) p.after_is q in
+    record {
+      front = ap (λ n. take n talk.left) (length-append taken more) ∙ take-add (length taken) (length more) talk.left
+          ∙ ap₂ (λ (x y : List ℕ). x ++ y) p.front then.front;
+      after_is = then.after_is ∙ ap (λ (left : List ℕ). with_sent (Some (record talk { left = left })) sent)
+          (drop-drop (length more) (length taken) talk.left ∙ ap (λ n. drop n talk.left) (sym (length-append taken more)));
+    }
+
+passes_sent : (before mid after : Option Talk) (taken sent more : List ℕ) → Passes before mid taken sent → after ≡ with_sent mid more → Passes before after taken (sent ++ more)
+passes_sent before mid after taken sent more p e = record {
+  front = p.front;
+  after_is = e ∙ ap (λ told. with_sent told more) p.after_is ∙ sent_twice (with_taken before (length taken)) sent more;
+}
+
+-- the bytes of one exchange more
+taken_push : (exchanges : List Exchange) (exchange : Exchange) → bytes_taken (exchanges ++ exchange ∷ []) ≡ bytes_taken exchanges ++ sent_request exchange.frame
+taken_push exchanges exchange =
+    flat_map-append (λ (exchange : Exchange). sent_request exchange.frame) exchanges (exchange ∷ [])
+    ∙ ap (λ (l : List ℕ). bytes_taken exchanges ++ l) (append-nil (sent_request exchange.frame))
+
+sent_push : (exchanges : List Exchange) (exchange : Exchange) → bytes_sent (exchanges ++ exchange ∷ []) ≡ bytes_sent exchanges ++ sent_reply exchange.told exchange.moves
+sent_push exchanges exchange =
+    flat_map-append (λ (exchange : Exchange). sent_reply exchange.told exchange.moves) exchanges (exchange ∷ [])
+    ∙ ap (λ (l : List ℕ). bytes_sent exchanges ++ l) (append-nil (sent_reply exchange.told exchange.moves))
+
+-- what was held and what came in, cut into a frame and what is held then
+cut_behind : (front held more frame now : List ℕ) → held ++ more ≡ frame ++ now → (front ++ held) ++ more ≡ (front ++ frame) ++ now
+cut_behind front held more frame now cut =
+    append_assoc front held more ∙ ap (λ (l : List ℕ). front ++ l) cut ∙ sym (append_assoc front frame now)
+
+-- ---- turns
+
+no_fewer : (looks : Option ℕ) → NoFewer looks looks
+no_fewer (Some count) = (count, refl, omega arith)
+no_fewer None = refl
+
+rests_none : (place : Place) (standing : Standing) → Rests place standing standing
+rests_none place standing = record {
+  others = others_none place.pass standing.seen;
+  holds = inl refl;
+  looks = no_fewer standing.looks;
+}
+
+-- a session under way: so many frames were answered, none of them ended it, and these bytes are held
+pub record InTalk (place : Place) (old : Standing) (before : Option Talk) (count : ℕ) (point : Standing) (now : Option Talk) (held : List ℕ) : Type 0 where
+  pub exchanges : List Exchange
+  pub run : (rest : List Exchange) (end : Standing) → ServesRun place point rest end → ServesRun place old (exchanges ++ rest) end
+  pub fits : All (λ exchange. length exchange.frame ≤ MAX_REQUEST) exchanges
+  pub goes : All GoesOn exchanges
+  pub many : length exchanges ≡ count
+  pub passes : Passes before now (bytes_taken exchanges ++ held) (bytes_sent exchanges)
+  pub begun : length held ≤ 2
+  pub spent : count ≡ MAX_REQUESTS → held ≡ []
+
+pub talk_none : (place : Place) (old : Standing) (before : Option Talk) → InTalk place old before 0 old before []
+talk_none place old before = record {
+  exchanges = [];
+  run = λ rest end run. run;
+  fits = λ k d lt. absurd (omega arith);
+  goes = λ k d lt. absurd (omega arith);
+  many = refl;
+  passes = passes_none before;
+  begun = omega arith;
+  spent = λ _. refl;
+}
+
+module _ (place : Place) (old : Standing) (before : Option Talk) (count : ℕ) (point : Standing) (now : Option Talk) (held : List ℕ)
+    (t : InTalk place old before count point now held) where
+  -- the bytes, where a frame was taken and this was sent for it
+  passes_over : (exchange : Exchange) (new : Standing) (mid after : Option Talk) (next part : List ℕ) → Exchanges place exchange point new now mid held next
+      → after ≡ with_sent mid part → Passes before after (bytes_taken (t.exchanges ++ exchange ∷ []) ++ next) (bytes_sent t.exchanges ++ part)
+  passes_over exchange new mid after next part e sent =
+      let taken = passes_taken before now mid (bytes_taken t.exchanges ++ held) (bytes_sent t.exchanges) e.more t.passes e.takes in
+      let whole = passes_sent before mid after ((bytes_taken t.exchanges ++ held) ++ e.more) (bytes_sent t.exchanges) part taken sent in
+      let same = cut_behind (bytes_taken t.exchanges) held e.more (sent_request exchange.frame) next e.cut
+      ∙ ap (λ (l : List ℕ). l ++ next) (sym (taken_push t.exchanges exchange)) in
+      subst (λ l. Passes before after l (bytes_sent t.exchanges ++ part)) same whole
+
+  fits_over : (exchange : Exchange) → length exchange.frame ≤ MAX_REQUEST → All (λ exchange. length exchange.frame ≤ MAX_REQUEST) (t.exchanges ++ exchange ∷ [])
+  fits_over exchange fits = All-push (λ (exchange : Exchange). length exchange.frame ≤ MAX_REQUEST) t.exchanges exchange t.fits fits
+
+  many_over : (exchange : Exchange) → length (t.exchanges ++ exchange ∷ []) ≡ count + 1
+  many_over exchange = let many = t.many in let push = length-append t.exchanges (exchange ∷ []) in omega arith
+
+  -- a frame that doesn't end the session
+  pub talk_more : (ahead : Bool) (new : Standing) (after : Option Talk) (next : List ℕ) → (count + 1 ≡ MAX_REQUESTS → IsFalse ahead)
+      → StepsOver place ahead point now held None new after next → InTalk place old before (count + 1) new after next
+  talk_more ahead new after next last s = record {
+    exchanges = t.exchanges ++ s.exchange ∷ [];
+    run = λ rest end run. subst (λ l. ServesRun place old l end) (sym (append_assoc t.exchanges (s.exchange ∷ []) rest))
+        (t.run (s.exchange ∷ rest) end (new, s.exchanges.serves, run));
+    fits = fits_over s.exchange s.exchanges.fits;
+    goes = All-push GoesOn t.exchanges s.exchange t.goes s.ends;
+    many = many_over s.exchange;
+    passes = subst (λ l. Passes before after (bytes_taken (t.exchanges ++ s.exchange ∷ []) ++ next) l) (sym (sent_push t.exchanges s.exchange))
+        (passes_over s.exchange new s.mid after next (sent_reply s.exchange.told s.exchange.moves) s.exchanges s.sent);
+    begun = s.leaves.0;
+    spent = λ e. s.leaves.1 (last e);
+  }
+
+  -- the session ends where it stands
+  ends_here : (result : Result Ended SessionFault) (new : Standing) (after : Option Talk) (next : List ℕ) → count ≤ MAX_REQUESTS → StepsNot point now held new after next
+      → EndsSo t.exchanges next (bytes_sent t.exchanges) after result → Conversed place old before result new after
+  ends_here result new after next few s ends = record {
+    exchanges = t.exchanges;
+    last = next;
+    sent = bytes_sent t.exchanges;
+    serves = subst (λ l. ServesRun place old l new) (append-nil t.exchanges)
+        (t.run [] new (subst (λ end. Rests place point end) (sym s.same) (rests_none place point)));
+    fits = t.fits;
+    few = let many = t.many in omega arith;
+    passes = subst (λ l. Passes before after l (bytes_sent t.exchanges))
+        (append_assoc (bytes_taken t.exchanges) held s.more.more ∙ ap (λ (l : List ℕ). bytes_taken t.exchanges ++ l) (sym s.more.grown))
+        (passes_taken before now after (bytes_taken t.exchanges ++ held) (bytes_sent t.exchanges) s.more.more t.passes s.more.takes);
+    ends = ends;
+  }
+
+  -- it ends behind a frame
+  ends_behind : (result : Result Ended SessionFault) (exchange : Exchange) (new : Standing) (mid after : Option Talk) (next part : List ℕ) → count < MAX_REQUESTS
+      → Exchanges place exchange point new now mid held next → after ≡ with_sent mid part
+      → EndsSo (t.exchanges ++ exchange ∷ []) next (bytes_sent t.exchanges ++ part) after result → Conversed place old before result new after
+  ends_behind result exchange new mid after next part few e sent ends = record {
+    exchanges = t.exchanges ++ exchange ∷ [];
+    last = next;
+    sent = bytes_sent t.exchanges ++ part;
+    serves = t.run (exchange ∷ []) new (new, e.serves, rests_none place new);
+    fits = fits_over exchange e.fits;
+    few = let many = many_over exchange in omega arith;
+    passes = passes_over exchange new mid after next part e sent;
+    ends = ends;
+  }
+
+  -- the session goes on so far, and may take a further frame
+  go_on : count < MAX_REQUESTS → length t.exchanges < MAX_REQUESTS
+  go_on few = let many = t.many in omega arith
+
+  -- all frames were answered that may be
+  pub talk_spent : count ≡ MAX_REQUESTS → Conversed place old before (Ok ended.Spent) point now
+  talk_spent all =
+      ends_here (Ok ended.Spent) point now held (omega (arith, all)) (record { same = refl; more = record { more = []; grown = sym (append-nil held); takes = takes_none now } })
+      (t.goes, t.many ∙ all, record { none = t.spent all; all = refl })
+
+  -- it ends without a fault
+  pub talk_ends : (ahead : Bool) (end : Ended) (new : Standing) (after : Option Talk) (next : List ℕ) → count < MAX_REQUESTS
+      → Steps place ahead point now held (Ok (Some end)) new after next → Conversed place old before (Ok end) new after
+  talk_ends ahead ended.Bye new after next few s =
+      ends_behind (Ok ended.Bye) s.exchange new s.mid after next (sent_reply s.exchange.told s.exchange.moves) few s.exchanges s.sent (record {
+        front = t.exchanges;
+        end = s.exchange;
+        ends = record { is = refl; all = t.goes };
+        bye = s.ends;
+        even = record { none = s.leaves; all = sym (sent_push t.exchanges s.exchange) };
+      })
+  talk_ends ahead ended.Stop new after next few s =
+      ends_behind (Ok ended.Stop) s.exchange new s.mid after next (sent_reply s.exchange.told s.exchange.moves) few s.exchanges s.sent (record {
+        front = t.exchanges;
+        end = s.exchange;
+        ends = record { is = refl; all = t.goes };
+        stop = s.ends;
+        even = record { none = s.leaves; all = sym (sent_push t.exchanges s.exchange) };
+      })
+  talk_ends ahead ended.Quiet new after next few s =
+      ends_here (Ok ended.Quiet) new after next (omega arith) s.0
+      (record { all = t.goes; fewer = go_on few }, record { none = s.1; all = refl }, s.2)
+  talk_ends ahead ended.Spent new after next few s = absurd s
+
+  -- it ends by a fault
+  pub talk_fails : (ahead : Bool) (why : SessionFault) (new : Standing) (after : Option Talk) (next : List ℕ) → count < MAX_REQUESTS
+      → Steps place ahead point now held (Err why) new after next → Conversed place old before (Err why) new after
+  talk_fails ahead (fault.Torn have want) new after next few s =
+      ends_here (Err (fault.Torn have want)) new after next (omega arith) s.0 (record {
+        on = record { all = t.goes; fewer = go_on few };
+        have_is = s.1.0;
+        part = s.1.1;
+        none = s.1.2;
+        all = refl;
+      })
+  talk_fails ahead (fault.TooLong size) new after next few s =
+      ends_here (Err (fault.TooLong size)) new after next (omega arith) s.0 (record {
+        on = record { all = t.goes; fewer = go_on few };
+        above = s.1.0;
+        last_is = s.1.1;
+        all = refl;
+      })
+  talk_fails ahead fault.ReadFault new after next few s =
+      ends_here (Err fault.ReadFault) new after next (omega arith) s.0
+      (record { on = record { all = t.goes; fewer = go_on few }; begun = s.1; all = refl })
+  talk_fails ahead fault.WriteFault new after next few s =
+      let text = sent_reply s.exchange.told s.exchange.moves in
+      let count = s.unsent.0 in
+      ends_behind (Err fault.WriteFault) s.exchange new s.mid after next (take count text) few s.exchanges s.unsent.2 (record {
+        front = t.exchanges;
+        end = s.exchange;
+        ends = record { is = refl; all = t.goes };
+        ahead = s.begun;
+        part = take count text;
+        sent_is = refl;
+        unsent = record {
+          rest = drop count text;
+          is = sym (take-append-drop count text);
+          some = let less = s.unsent.1 in let left = length-drop count text in omega arith;
+        };
+      })
+
+  -- the same, as the code has them: the place of the desk is still the same
+  pub talk_more_at : (other : Place) (ahead : Bool) (found : Option Ended) (new : Standing) (after : Option Talk) (next : List ℕ) → other ≡ place → found ≡ None
+      → Steps other ahead point now held (Ok found) new after next → (count + 1 ≡ MAX_REQUESTS → IsFalse ahead) → InTalk place old before (count + 1) new after next
+  talk_more_at other ahead found new after next same is s last =
+      talk_more ahead new after next last
+      (subst (λ p. Steps p ahead point now held (Ok None) new after next) same (subst (λ o. Steps other ahead point now held (Ok o) new after next) is s))
+
+  pub talk_ends_at : (other : Place) (ahead : Bool) (found : Option Ended) (end : Ended) (new : Standing) (after : Option Talk) (next : List ℕ) → other ≡ place
+      → found ≡ Some end → Steps other ahead point now held (Ok found) new after next → count < MAX_REQUESTS → Conversed place old before (Ok end) new after
+  talk_ends_at other ahead found end new after next same is s few =
+      talk_ends ahead end new after next few
+      (subst (λ p. Steps p ahead point now held (Ok (Some end)) new after next) same (subst (λ o. Steps other ahead point now held (Ok o) new after next) is s))
+
+  pub talk_fails_at : (other : Place) (ahead : Bool) (why : SessionFault) (new : Standing) (after : Option Talk) (next : List ℕ) → other ≡ place
+      → Steps other ahead point now held (Err why) new after next → count < MAX_REQUESTS → Conversed place old before (Err why) new after
+  talk_fails_at other ahead why new after next same s few =
+      talk_fails ahead why new after next few (subst (λ p. Steps p ahead point now held (Err why) new after next) same s)
+
+-- no further frame may be taken
+pub no_more : (count : ℕ) → count ≡ MAX_REQUESTS → IsFalse (nat_lt count MAX_REQUESTS)
+no_more count e = ap (λ n. nat_lt n MAX_REQUESTS) e

@@ -1,0 +1,34 @@
+use Rattle.std.proofs.Common.{subst, sym}
+use Rattle.session.specs.Conversations.{Rests}
+use Rattle.session.specs.Doors.{HasServed}
+use Rattle.session.specs.Standing.{standing}
+use Rattle.session.proofs.Leading.{served_none, served_then}
+use Rattle.session.proofs.Ringing.{rests_none}
+use Rattle.session.proofs.doors.serve_knock.Goals as goal
+
+pub returns-in-Ok-Conn-clause-served : goal.returns-in-Ok-Conn-clause-served
+returns-in-Ok-Conn-clause-served g c =
+    let place = g.K.Desk.place c.args.desk.now in
+    let old = standing (g.K.Desk.seen c.args.desk.now) (g.K.Desk.version c.args.desk.now) (g.K.Desk.looks c.args.desk.now) in
+    let served = c.serve_conn.new.desk in
+    let mid = standing (g.K.Desk.seen served) (g.K.Desk.version served) (g.K.Desk.looks served) in
+    let desk = c.pause.new.desk in
+    let new = standing (g.K.Desk.seen desk) (g.K.Desk.version desk) (g.K.Desk.looks desk) in
+    let before = g.D.Door.talks c.args.door.now in
+    let after = g.D.Door.talks c.serve_conn.new.door in
+    served_then place old mid new before after after (subst (λ told. HasServed place old told mid after) c.knock.ensures.talks c.serve_conn.ensures.served)
+    (served_none place mid new after (subst (λ p. Rests p mid new) c.serve_conn.ensures.place c.pause.ensures.rests))
+
+pub returns-in-Ok-Closed-clause-served : goal.returns-in-Ok-Closed-clause-served
+returns-in-Ok-Closed-clause-served g c =
+    let place = g.K.Desk.place c.args.desk.now in
+    let old = standing (g.K.Desk.seen c.args.desk.now) (g.K.Desk.version c.args.desk.now) (g.K.Desk.looks c.args.desk.now) in
+    let before = g.D.Door.talks c.args.door.now in
+    subst (HasServed place old before old) (sym c.knock.ensures.talks) (served_none place old old before (rests_none place old))
+
+pub returns-in-Err-clause-served : goal.returns-in-Err-clause-served
+returns-in-Err-clause-served g c =
+    let place = g.K.Desk.place c.args.desk.now in
+    let old = standing (g.K.Desk.seen c.args.desk.now) (g.K.Desk.version c.args.desk.now) (g.K.Desk.looks c.args.desk.now) in
+    let before = g.D.Door.talks c.args.door.now in
+    subst (HasServed place old before old) (sym c.knock.ensures.talks) (served_none place old old before (rests_none place old))

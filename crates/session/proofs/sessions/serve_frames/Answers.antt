@@ -1,0 +1,78 @@
+use Rattle.std.proofs.Common.{◌+◌, nat_lt, refl, subst, sym, ◌∙◌, arith}
+use Rattle.session.specs.declared.sessions.TheConstants.{MAX_REQUESTS}
+use Rattle.session.specs.Standing.{standing}
+use Rattle.session.proofs.Talking.{InTalk, no_more, talk_ends_at, talk_fails_at, talk_more_at, talk_none, talk_spent}
+use Rattle.session.proofs.sessions.serve_frames.Goals as goal
+
+pub loop-count-init : goal.loop-count-init
+loop-count-init g c =
+    let place = g.K.Desk.place c.args.desk.now in
+    let old = standing (g.K.Desk.seen c.args.desk.now) (g.K.Desk.version c.args.desk.now) (g.K.Desk.looks c.args.desk.now) in
+    let before = g.L.Link.talk c.args.link.now in
+    record {
+      talk = subst (InTalk place old before 0 old before) (sym c.requires.none) (talk_none place old before);
+      place = refl;
+      reads = omega arith;
+      writes = omega arith;
+    }
+
+pub returns-in-Ok-Some-clause-talk : goal.returns-in-Ok-Some-clause-talk
+returns-in-Ok-Some-clause-talk g c =
+    let place = g.K.Desk.place c.args.desk.now in
+    let old = standing (g.K.Desk.seen c.args.desk.now) (g.K.Desk.version c.args.desk.now) (g.K.Desk.looks c.args.desk.now) in
+    let before = g.L.Link.talk c.args.link.now in
+    let desk = c.loop-count.desk in
+    let point = standing (g.K.Desk.seen desk) (g.K.Desk.version desk) (g.K.Desk.looks desk) in
+    let now = g.L.Link.talk c.loop-count.link in
+    let next = c.serve_next.new.desk in
+    let new = standing (g.K.Desk.seen next) (g.K.Desk.version next) (g.K.Desk.looks next) in
+    let after = g.L.Link.talk c.serve_next.new.link in
+    let inv = c.loop-count.invariant in
+    talk_ends_at place old before c.loop-count.count point now c.loop-count.held inv.talk (g.K.Desk.place desk) _ c.in-Ok-Some.field-0 c.in-Ok-Some.ended new after
+    c.serve_next.new.held inv.place c.in-Ok-Some.field-0-is c.in-Ok-Some.ensures.steps c.loop-count-test.true
+
+pub returns-in-Err-clause-talk : goal.returns-in-Err-clause-talk
+returns-in-Err-clause-talk g c =
+    let place = g.K.Desk.place c.args.desk.now in
+    let old = standing (g.K.Desk.seen c.args.desk.now) (g.K.Desk.version c.args.desk.now) (g.K.Desk.looks c.args.desk.now) in
+    let before = g.L.Link.talk c.args.link.now in
+    let desk = c.loop-count.desk in
+    let point = standing (g.K.Desk.seen desk) (g.K.Desk.version desk) (g.K.Desk.looks desk) in
+    let now = g.L.Link.talk c.loop-count.link in
+    let next = c.serve_next.new.desk in
+    let new = standing (g.K.Desk.seen next) (g.K.Desk.version next) (g.K.Desk.looks next) in
+    let after = g.L.Link.talk c.serve_next.new.link in
+    let inv = c.loop-count.invariant in
+    talk_fails_at place old before c.loop-count.count point now c.loop-count.held inv.talk (g.K.Desk.place desk) (nat_lt (c.loop-count.count + 1) MAX_REQUESTS) c.in-Err.fault new after
+    c.serve_next.new.held inv.place c.in-Err.ensures.steps c.loop-count-test.true
+
+pub loop-count-preserved : goal.loop-count-preserved
+loop-count-preserved g c =
+    let place = g.K.Desk.place c.args.desk.now in
+    let old = standing (g.K.Desk.seen c.args.desk.now) (g.K.Desk.version c.args.desk.now) (g.K.Desk.looks c.args.desk.now) in
+    let before = g.L.Link.talk c.args.link.now in
+    let desk = c.loop-count.desk in
+    let point = standing (g.K.Desk.seen desk) (g.K.Desk.version desk) (g.K.Desk.looks desk) in
+    let now = g.L.Link.talk c.loop-count.link in
+    let next = c.serve_next.new.desk in
+    let new = standing (g.K.Desk.seen next) (g.K.Desk.version next) (g.K.Desk.looks next) in
+    let after = g.L.Link.talk c.serve_next.new.link in
+    let inv = c.loop-count.invariant in
+    record {
+      talk = talk_more_at place old before c.loop-count.count point now c.loop-count.held inv.talk (g.K.Desk.place desk) _ c.in-Ok-None.field-0 new after
+          c.serve_next.new.held inv.place c.in-Ok-None.field-0-is c.in-Ok-None.ensures.steps (λ e. no_more (c.loop-count.count + 1) e);
+      place = c.in-Ok-None.ensures.place ∙ inv.place;
+      reads = omega (arith, inv.reads, c.in-Ok-None.ensures.reads);
+      writes = omega (arith, inv.writes, c.in-Ok-None.ensures.writes);
+    }
+
+pub returns-clause-talk : goal.returns-clause-talk
+returns-clause-talk g c =
+    let place = g.K.Desk.place c.args.desk.now in
+    let old = standing (g.K.Desk.seen c.args.desk.now) (g.K.Desk.version c.args.desk.now) (g.K.Desk.looks c.args.desk.now) in
+    let before = g.L.Link.talk c.args.link.now in
+    let desk = c.loop-count.desk in
+    let point = standing (g.K.Desk.seen desk) (g.K.Desk.version desk) (g.K.Desk.looks desk) in
+    let now = g.L.Link.talk c.loop-count.link in
+    talk_spent place old before c.loop-count.count point now c.loop-count.held c.loop-count.invariant.talk
+    (omega (arith, c.loop-count-test.false, c.loop-count.auto.count-end))

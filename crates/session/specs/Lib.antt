@@ -1,0 +1,12 @@
+pub mod Standing
+pub mod Desks
+pub mod Served
+pub mod Answering
+pub mod Building
+pub mod Builders
+pub mod Seats
+pub mod Conversations
+pub mod Turns
+pub mod Doors
+pub mod Crews
+pub mod ServedBoards

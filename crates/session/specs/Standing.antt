@@ -1,0 +1,58 @@
+-- How a pass stands at a board.
+use Rattle.std.specs.Prelude.{◌≡◌, ◌⊎◌, ℕ, ◌<◌, ◌≤◌, List, MatchOption, None, Option, Some}
+use Rattle.atomic_table.specs.Seated.{TableId}
+use Rattle.moves.specs.Maps.{Map}
+use Rattle.cell_order.specs.declared.OrderKind.{OrderKind}
+use Rattle.versions.specs.Databases.{Versioned}
+use Rattle.path_core.specs.declared.entry.Entry.{Entry}
+use Rattle.path_core.specs.Histories.{accepted_count, published_prefix, IsVersionAt}
+use Rattle.path_core.specs.Passes.{BeginsWith}
+
+-- which board it is that passes share, and how many passes it has, where the pass knows that
+pub record Shared : Type 0 where
+  pub board : TableId
+  pub passes : Option ℕ
+
+-- where a pass stands: its number, and of its board the first map, the order of the versions, the room, which is for how many
+-- entries it took memory, and which one it is, where passes share it
+pub record Place : Type 0 where
+  pub pass : ℕ
+  pub start : Map
+  pub order : OrderKind
+  pub room : ℕ
+  pub shared : Option Shared
+
+-- how it stands there: the history that it has seen, the prefix of the version that it holds, and how often it has looked,
+-- where that is told
+pub record Standing : Type 0 where
+  pub seen : List Entry
+  pub held : ℕ
+  pub looks : Option ℕ
+
+-- how a pass stands that has seen this, holds that version and has looked so often
+abbrev pub standing : List Entry → Versioned → Option ℕ → Standing
+standing seen version looks = record { seen = seen; held = version.prefix; looks = looks }
+
+-- told looks are more than before
+abbrev pub Raises : Option ℕ → Option ℕ → Type 0
+Raises before after = MatchOption before (after ≡ None) (λ count. (more : ℕ) × (after ≡ Some more) × (count < more))
+
+-- the prefix was the published one of a history between the two
+pub record WasPublished (before after : List Entry) (prefix : ℕ) : Type 0 where
+  pub at : List Entry
+  pub later : BeginsWith at before
+  pub earlier : BeginsWith after at
+  pub is : prefix ≡ published_prefix at
+
+-- the prefix is the one from before, or was the published one of a history between
+abbrev pub IsHeldSince : List Entry → ℕ → List Entry → ℕ → Type 0
+IsHeldSince before old after new = (new ≡ old) ⊎ WasPublished before after new
+
+-- the version that is held is the one from before, or was the published one of a history between
+abbrev pub HoldsSince : Standing → Standing → Type 0
+HoldsSince old new = IsHeldSince old.seen old.held new.seen new.held
+
+-- the version that is held is that of accepted edits
+pub record IsSound (place : Place) (seen : List Entry) (version : Versioned) : Type 0 where
+  pub is : IsVersionAt place.start place.order seen version.prefix version
+  pub within : version.prefix ≤ accepted_count seen

@@ -1,0 +1,182 @@
+//! One request, and what it gets.
+
+ghost use Rattle.std.specs.Prelude.{◌≡◌, ◌<◌, ◌≤◌, None};
+ghost use Rattle.build_pool.specs.declared.TheConstants.{MAX_WORKERS};
+ghost use Rattle.query_proto.specs.declared.requests.Request.TheVariants.{Query};
+ghost use Rattle.session.specs.Answering.{Answers, AnswersBy, Freshens};
+ghost use Rattle.session.specs.Served.{ServesChange, ServesStatus, ServesStop, why_of};
+ghost use Rattle.session.specs.Standing.{IsHeldSince, Raises, standing};
+
+use crate::building::answer_build;
+use crate::desk::Desk;
+use build_pool::Gate;
+use edit_log::Edit;
+use moves::Cell;
+use path_core::SubmitError;
+use query_proto::{QueryWhy, Reply, Request};
+use std::alloc::Global;
+use std::sync::Wait;
+use std::thread::Threads;
+use versions::{End, QueryRefusal, Version};
+use walker::measure;
+
+/// The two ends of a path.
+#[derive(Clone, Copy, Debug, PartialEq, Eq)]
+pub struct PathAt {
+    /// Where it begins.
+    pub start: Cell,
+    /// Where it ends.
+    pub goal: Cell,
+}
+
+/// What a request gets.
+#[derive(Clone, Copy, Debug, PartialEq, Eq)]
+pub struct Answered {
+    /// The reply.
+    pub reply: Reply,
+    /// The ends of the path whose moves stand behind the reply; the desk holds the version that has it.
+    pub path: Option<PathAt>,
+}
+
+impl Answered {
+    /// A reply that is no path.
+    pub(crate) fn of(reply: Reply) -> Answered
+        ensures reply { result.reply ≡ reply }
+        ensures path { result.path ≡ None }
+    {
+        Answered { reply, path: None }
+    }
+}
+
+/// Answers a request at a desk. It takes memory for a change, a build and a stop alone.
+pub fn answer<K: Desk, R: Threads + Wait + Sync, G: Gate>(
+    rt: &R,
+    alloc: Global,
+    desk: &mut K,
+    request: Request,
+    workers: u32,
+    gate: &G,
+) -> Answered
+    requires worker { 0 < workers }
+    requires workers { workers ≤ MAX_WORKERS }
+    ensures place { K.place desk.new ≡ K.place desk.old }
+    ensures answers { Answers (K.place desk.old) request (standing (K.seen desk.old) (K.version desk.old) (K.looks desk.old))
+        (K.version desk.new) result (standing (K.seen desk.new) (K.version desk.new) (K.looks desk.new)) }
+{
+    match request {
+        Request::Query { start, goal } => answer_query(rt, desk, start, goal),
+        Request::Change(edit) => Answered::of(answer_change(rt, desk, edit)),
+        Request::Build => Answered::of(answer_build(rt, alloc, desk, workers, gate)),
+        Request::Status => Answered::of(answer_status(rt, desk)),
+        Request::Bye => Answered::of(Reply::Done),
+        Request::Stop => Answered::of(answer_stop(rt, desk)),
+    }
+}
+
+/// Answers a query from the published version.
+fn answer_query<K: Desk, R: Wait>(rt: &R, desk: &mut K, start: Cell, goal: Cell) -> Answered
+    ensures place { K.place desk.new ≡ K.place desk.old }
+    ensures answers { Answers (K.place desk.old) (Query start goal) (standing (K.seen desk.old) (K.version desk.old) (K.looks desk.old))
+        (K.version desk.new) result (standing (K.seen desk.new) (K.version desk.new) (K.looks desk.new)) }
+{
+    if !holds_published(rt, desk) {
+        return Answered::of(Reply::NoMemory);
+    }
+    answer_from(desk.held(), start, goal)
+}
+
+/// Whether the published version is held, after a look where that is not known at no cost.
+fn holds_published<K: Desk, R: Wait>(rt: &R, desk: &mut K) -> bool
+    ensures place { K.place desk.new ≡ K.place desk.old }
+    ensures looks { Raises (K.looks desk.old) (K.looks desk.new) }
+    ensures freshens { Freshens (K.place desk.old) (K.seen desk.old) (K.version desk.old) result
+        (K.seen desk.new) (K.version desk.new) }
+{
+    if desk.recent(rt) {
+        return true;
+    }
+    desk.look(rt).held
+}
+
+/// The answer of a version.
+fn answer_from(version: &Version, start: Cell, goal: Cell) -> Answered
+    ensures { AnswersBy version.now start goal result }
+{
+    // That it is a version is known from here.
+    version.grid();
+    let prefix = version.prefix();
+    match measure(version, start, goal) {
+        Ok(Some(cost)) => Answered {
+            reply: Reply::Path {
+                version: prefix,
+                cost,
+            },
+            path: Some(PathAt { start, goal }),
+        },
+        Ok(None) => Answered::of(Reply::Unreachable { version: prefix }),
+        Err(why) => Answered::of(Reply::Refused {
+            version: prefix,
+            why: why_of(why),
+        }),
+    }
+}
+
+/// Why a query is refused, as a reply tells it.
+fn why_of(why: QueryRefusal) -> QueryWhy
+    ensures { result ≡ why_of why }
+{
+    match why {
+        QueryRefusal::Outside { which } => QueryWhy {
+            blocked: false,
+            goal: which == End::Goal,
+        },
+        QueryRefusal::Blocked { which } => QueryWhy {
+            blocked: true,
+            goal: which == End::Goal,
+        },
+    }
+}
+
+/// Answers a change.
+fn answer_change<K: Desk, R: Wait>(rt: &R, desk: &mut K, edit: Edit) -> Reply
+    ensures place { K.place desk.new ≡ K.place desk.old }
+    ensures looks { Raises (K.looks desk.old) (K.looks desk.new) }
+    ensures version { K.version desk.new ≡ K.version desk.old }
+    ensures served { ServesChange (K.place desk.old) edit (K.seen desk.old) result (K.seen desk.new) }
+{
+    match desk.submit(rt, edit) {
+        Ok(number) => Reply::Accepted { number },
+        Err(SubmitError::Refused(why)) => Reply::EditRefused(why),
+        Err(SubmitError::NoMemory) => Reply::NoMemory,
+    }
+}
+
+/// Tells the state of the board.
+fn answer_status<K: Desk, R: Wait>(rt: &R, desk: &mut K) -> Reply
+    ensures place { K.place desk.new ≡ K.place desk.old }
+    ensures looks { Raises (K.looks desk.old) (K.looks desk.new) }
+    ensures holds { IsHeldSince (K.seen desk.old) (K.version desk.old).prefix (K.seen desk.new) (K.version desk.new).prefix }
+    ensures served { ServesStatus (K.place desk.old) (K.seen desk.old) result (K.seen desk.new) }
+{
+    let look = desk.look(rt);
+    Reply::Status {
+        version: look.prefix,
+        accepted: look.accepted,
+        cells: look.totals.cells,
+        comps: look.totals.comps,
+        runs: look.totals.runs,
+    }
+}
+
+/// Halts the board.
+fn answer_stop<K: Desk, R: Wait>(rt: &R, desk: &mut K) -> Reply
+    ensures place { K.place desk.new ≡ K.place desk.old }
+    ensures looks { Raises (K.looks desk.old) (K.looks desk.new) }
+    ensures version { K.version desk.new ≡ K.version desk.old }
+    ensures served { ServesStop (K.place desk.old) (K.seen desk.old) result (K.seen desk.new) }
+{
+    match desk.halt(rt) {
+        Ok(_) => Reply::Done,
+        Err(_) => Reply::NoMemory,
+    }
+}

@@ -1,0 +1,151 @@
+//! A board that is served at its doors, with a builder beside them.
+
+ghost use Rattle.std.specs.Prelude.{◌≡◌, ◌<◌, ◌≤◌, ◌+◌, [], false, true, All, IfErr, IfOk, OnOk, length, vec_capacity};
+ghost use Rattle.build_pool.specs.declared.TheConstants.{MAX_WORKERS};
+ghost use Rattle.path_core.specs.Histories.{IsLegal};
+ghost use Rattle.path_core.specs.Passes.{pass_of};
+ghost use Rattle.path_board.specs.Foundations.{foundation_of};
+ghost use Rattle.path_board.specs.Passes.{IsPassOf};
+ghost use Rattle.path_board.specs.SharedBoards.{board_id};
+ghost use Rattle.session.specs.declared.boards.TheConstants.{MAX_DOORS};
+ghost use Rattle.session.specs.ServedBoards.{AreServed, FailedSo, IsBuiltBy, IsParted};
+
+use crate::builder::BuildTotals;
+use crate::crews::{Worker, any_failed, dismiss, hire, seated, serve_beside};
+use build_pool::Gate;
+use path_board::{Pass, ShareRefused, SharedBoard};
+use path_core::Board;
+use std::alloc::Global;
+use std::sync::Wait;
+use std::thread::Threads;
+use wire::{Bell, Door, Ear};
+
+/// The most doors at which a board is served.
+pub const MAX_DOORS: u32 = 64;
+
+/// A board that was served, and what served it.
+#[derive(Drop)]
+pub struct Served<D: Door> {
+    /// The board.
+    pub board: Board,
+    /// The doors in their order, each as its loop left it.
+    pub doors: Vec<D>,
+    /// How often the builder's builds were answered in each way.
+    pub builds: BuildTotals,
+    /// Whether a knock failed at some door.
+    pub failed: bool,
+}
+
+/// There was no memory for it. The doors come back.
+#[derive(Drop)]
+pub struct ServeRefused<D: Door> {
+    /// The doors, as they were.
+    pub doors: Vec<D>,
+}
+
+/// What comes back before the board is closed.
+#[derive(Drop)]
+struct Parted<D: Door> {
+    doors: Vec<D>,
+    passes: Vec<Pass>,
+    builds: BuildTotals,
+    failed: bool,
+}
+
+/// Serves a board at its doors, side by side, each by a pass of its own, and builds at each ring of the ear, by one pass more.
+/// It ends when the loops at all doors have ended: the bell is shut then, and the builder ends. All memory but that of edits,
+/// builds and halts is taken before the first knock.
+///
+/// # Errors
+///
+/// There was no memory. The doors come back, and the board is dropped.
+pub fn serve_board<D: Door, B: Bell, E: Ear, R: Threads + Wait + Sync, G: Gate>(
+    rt: &R,
+    alloc: Global,
+    board: Board,
+    doors: Vec<D>,
+    bell: &B,
+    ear: &mut E,
+    workers: u32,
+    gate: &G,
+) -> Result<Served<D>, ServeRefused<D>>
+    requires worker { 0 < workers }
+    requires workers { workers ≤ MAX_WORKERS }
+    requires some { 0 < length doors.items }
+    requires few { length doors.items ≤ MAX_DOORS }
+    requires open { All (λ door. D.closed door ≡ false) doors.items }
+    requires none { board.history ≡ [] }
+    requires waiting { E.over ear.old ≡ false }
+    ensures base { IfOk result (λ served. foundation_of served.board ≡ foundation_of board) }
+    ensures legal { IfOk result (λ served. IsLegal served.board.start served.board.history) }
+    ensures named { IfOk result (λ served. All (λ entry. pass_of entry < length doors.items + 1) served.board.history) }
+    ensures served { IfOk result (λ served. AreServed D.talks D.closed D.faults board
+        doors.items served.doors.items served.board.history) }
+    ensures built { IfOk result (λ served. IsBuiltBy board (length doors.items) served.builds
+        (E.rung ear.old) (E.rung ear.new) served.board.history) }
+    ensures failed { IfOk result (λ served. FailedSo D.closed D.faults served.failed
+        doors.items served.doors.items served.board.history) }
+    ensures over { OnOk result (E.over ear.new ≡ true) }
+    ensures refused { IfErr result (λ refused. refused.doors.items ≡ doors.items) }
+{
+    // That the first version comes after no edits is known from here.
+    board.version();
+    let Ok(room) = Vec::with_capacity(alloc, doors.len()) else {
+        return Err(ServeRefused { doors });
+    };
+    let count = doors.len() as u32;
+    let Ok((shared, passes)) = SharedBoard::share(alloc, board, count + 1) else {
+        return Err(ServeRefused { doors });
+    };
+    let parted = serve_shared(
+        rt, alloc, workers, gate, &shared, bell, ear, doors, passes, room,
+    );
+    let board = shared.close(parted.passes);
+    Ok(Served {
+        board,
+        doors: parted.doors,
+        builds: parted.builds,
+        failed: parted.failed,
+    })
+}
+
+/// Serves a shared board by all of its passes, of which the last is the builder's.
+fn serve_shared<'a, D: Door, B: Bell, E: Ear, R: Threads + Wait + Sync, G: Gate>(
+    rt: &R,
+    alloc: Global,
+    workers: u32,
+    gate: &G,
+    board: &'a SharedBoard,
+    bell: &'a B,
+    ear: &mut E,
+    doors: Vec<D>,
+    passes: Vec<Pass>,
+    room: Vec<Worker<'a, D, B>>,
+) -> Parted<D>
+    requires worker { 0 < workers }
+    requires workers { workers ≤ MAX_WORKERS }
+    requires open { All (λ door. D.closed door ≡ false) doors.items }
+    requires long { length passes.items ≡ length doors.items + 1 }
+    requires of_board { All (IsPassOf (board_id board.now)) passes.items }
+    requires none { room.items ≡ [] }
+    requires room { length doors.items ≤ vec_capacity room }
+    requires waiting { E.over ear.old ≡ false }
+    ensures parted { IsParted D.talks D.closed D.faults doors.items passes.items result.doors.items result.passes.items
+        result.builds result.failed (E.rung ear.old) (E.rung ear.new) }
+    ensures over { E.over ear.new ≡ true }
+{
+    let mut doors = doors;
+    let mut passes = passes;
+    let builder = seated(board, bell, passes.pop().unwrap());
+    let crew = hire(board, bell, &mut doors, &mut passes, room);
+    let (builder, crew, builds) = serve_beside(rt, alloc, workers, gate, bell, builder, ear, crew);
+    let failed = any_failed(&crew);
+    dismiss(crew, &mut doors, &mut passes);
+    passes.push_reserved(builder.pass);
+    Parted {
+        doors,
+        passes,
+        builds,
+        failed,
+    }
+}

@@ -1,0 +1,244 @@
+//! Workers at doors, side by side, with a builder beside them.
+
+ghost use Rattle.std.specs.Prelude.{◌≡◌, ◌<◌, ◌≤◌, ◌+◌, ℕ, [], All, Some, false, true, length, slice_index_or, vec_capacity};
+ghost use Rattle.build_pool.specs.declared.TheConstants.{MAX_WORKERS};
+ghost use Rattle.path_board.specs.Passes.{IsPassOf};
+ghost use Rattle.path_board.specs.SharedBoards.{board_id};
+ghost use Rattle.session.specs.Builders.{HasBuilt};
+ghost use Rattle.session.specs.Crews.{HasRun, HaveAllRun, any_of, backwards, has_failed};
+ghost use Rattle.session.specs.Seats.{place_of, standing_of};
+
+use crate::builder::{BuildTotals, build_loop};
+use crate::doors::{DoorEnded, door_loop};
+use crate::seated::Seated;
+use build_pool::Gate;
+use path_board::{Pass, SharedBoard};
+use std::alloc::Global;
+use std::sync::Wait;
+use std::thread::{Threads, for_each_mut, join};
+use wire::{Bell, Door, Ear};
+
+/// A worker: its seat, its door, and how its loop has ended, once it has.
+#[derive(Drop)]
+pub(crate) struct Worker<'a, D: Door, B: Bell> {
+    pub(crate) seat: Seated<'a, B>,
+    pub(crate) door: D,
+    pub(crate) ended: Option<DoorEnded>,
+}
+
+/// The seat of that pass.
+pub(crate) fn seated<'a, B: Bell>(board: &'a SharedBoard, bell: &'a B, pass: Pass) -> Seated<'a, B>
+    requires { IsPassOf (board_id board.now) pass }
+    ensures { result.pass ≡ pass }
+{
+    Seated { board, pass, bell }
+}
+
+/// The worker with that pass at that door.
+fn worker_at<'a, D: Door, B: Bell>(
+    board: &'a SharedBoard,
+    bell: &'a B,
+    pass: Pass,
+    door: D,
+) -> Worker<'a, D, B>
+    requires { IsPassOf (board_id board.now) pass }
+    ensures pass { result.seat.pass ≡ pass }
+    ensures door { result.door ≡ door }
+{
+    Worker {
+        seat: seated(board, bell, pass),
+        door,
+        ended: None,
+    }
+}
+
+/// Makes a worker for each door, that of the last door first. The doors and passes leave their lists, whose memory stays.
+pub(crate) fn hire<'a, D: Door, B: Bell>(
+    board: &'a SharedBoard,
+    bell: &'a B,
+    doors: &mut Vec<D>,
+    passes: &mut Vec<Pass>,
+    room: Vec<Worker<'a, D, B>>,
+) -> Vec<Worker<'a, D, B>>
+    requires long { length passes.old.items ≡ length doors.old.items }
+    requires of_board { All (IsPassOf (board_id board.now)) passes.old.items }
+    requires none { room.items ≡ [] }
+    requires room { length doors.old.items ≤ vec_capacity room }
+    ensures doors { backwards result.items (λ worker. worker.door) ≡ doors.old.items }
+    ensures passes { backwards result.items (λ worker. worker.seat.pass) ≡ passes.old.items }
+    ensures no_doors { doors.new.items ≡ [] }
+    ensures no_passes { passes.new.items ≡ [] }
+    ensures room_of_doors { vec_capacity doors.new ≡ vec_capacity doors.old }
+    ensures room_of_passes { vec_capacity passes.new ≡ vec_capacity passes.old }
+{
+    let mut crew = room;
+    while let Some(door) = doors.pop() {
+        let pass = passes.pop().unwrap();
+        crew.push_reserved(worker_at(board, bell, pass, door));
+    }
+    crew
+}
+
+/// Puts the doors and passes of the workers back into their lists, those of the last worker first.
+pub(crate) fn dismiss<D: Door, B: Bell>(
+    crew: Vec<Worker<'_, D, B>>,
+    doors: &mut Vec<D>,
+    passes: &mut Vec<Pass>,
+)
+    requires no_doors { doors.old.items ≡ [] }
+    requires no_passes { passes.old.items ≡ [] }
+    requires room_of_doors { length crew.items ≤ vec_capacity doors.old }
+    requires room_of_passes { length crew.items ≤ vec_capacity passes.old }
+    ensures doors { doors.new.items ≡ backwards crew.entry.items (λ worker. worker.door) }
+    ensures passes { passes.new.items ≡ backwards crew.entry.items (λ worker. worker.seat.pass) }
+    ensures room { vec_capacity passes.new ≡ vec_capacity passes.old }
+{
+    let mut crew = crew;
+    while let Some(worker) = crew.pop() {
+        doors.push_reserved(worker.door);
+        passes.push_reserved(worker.seat.pass);
+    }
+}
+
+/// Whether the loop of one of the workers ended by a knock that failed.
+pub(crate) fn any_failed<D: Door, B: Bell>(crew: &[Worker<'_, D, B>]) -> bool
+    ensures { result ≡ any_of crew.now (λ worker. has_failed worker.ended) }
+{
+    crew.iter().any(|worker| has_failed(worker.ended))
+}
+
+/// Whether a loop ended by a knock that failed.
+fn has_failed(ended: Option<DoorEnded>) -> bool
+    ensures { result ≡ has_failed ended }
+{
+    matches!(ended, Some(DoorEnded::Failed))
+}
+
+/// Serves the worker's door until its loop ends.
+fn work<D: Door, B: Bell, R: Threads + Wait + Sync, G: Gate>(
+    rt: &R,
+    alloc: Global,
+    workers: u32,
+    gate: &G,
+    worker: &mut Worker<'_, D, B>,
+)
+    requires worker { 0 < workers }
+    requires workers { workers ≤ MAX_WORKERS }
+    requires open { D.closed worker.old.door ≡ false }
+    ensures { HasRun D.talks D.closed D.faults worker.old.seat.pass worker.old.door
+        worker.new.seat.pass worker.new.door worker.new.ended }
+{
+    let ended = door_loop(rt, alloc, &mut worker.seat, &mut worker.door, workers, gate);
+    worker.ended = Some(ended);
+}
+
+/// Lets all workers serve their doors side by side, and shuts the bell when all of their loops have ended.
+fn serve_crew<D: Door, B: Bell, R: Threads + Wait + Sync, G: Gate>(
+    rt: &R,
+    alloc: Global,
+    workers: u32,
+    gate: &G,
+    bell: &B,
+    crew: &mut [Worker<'_, D, B>],
+)
+    requires worker { 0 < workers }
+    requires workers { workers ≤ MAX_WORKERS }
+    requires open { (i : ℕ) (d : _) → i < length crew.old → D.closed (slice_index_or crew.old i d).door ≡ false }
+    ensures long { length crew.new ≡ length crew.old }
+    ensures each { (i : ℕ) (d : _) → i < length crew.old → HasRun D.talks D.closed D.faults
+        (slice_index_or crew.old i d).seat.pass (slice_index_or crew.old i d).door
+        (slice_index_or crew.new i d).seat.pass (slice_index_or crew.new i d).door (slice_index_or crew.new i d).ended }
+{
+    let threads = crew.len().max(1);
+    for_each_mut(
+        rt,
+        crew,
+        threads,
+        &|_: usize, worker: &mut Worker<'_, D, B>|
+            requires { (0 < workers) × (workers ≤ MAX_WORKERS) × (D.closed worker.now.door ≡ false) }
+        { work(rt, alloc, workers, gate, worker) },
+    );
+    bell.shut(rt);
+}
+
+/// The same of a list of workers, which comes back.
+fn serve_list<'a, D: Door, B: Bell, R: Threads + Wait + Sync, G: Gate>(
+    rt: &R,
+    alloc: Global,
+    workers: u32,
+    gate: &G,
+    bell: &B,
+    crew: Vec<Worker<'a, D, B>>,
+) -> Vec<Worker<'a, D, B>>
+    requires worker { 0 < workers }
+    requires workers { workers ≤ MAX_WORKERS }
+    requires open { (i : ℕ) (d : _) → i < length crew.items → D.closed (slice_index_or crew.items i d).door ≡ false }
+    ensures ran { HaveAllRun D.talks D.closed D.faults crew.entry.items result.items }
+{
+    let mut crew = crew;
+    serve_crew(rt, alloc, workers, gate, bell, crew.as_mut_slice());
+    crew
+}
+
+/// Builds at the rings of the ear, until the bell is shut.
+fn build<'a, 'e, B: Bell, E: Ear, R: Threads + Wait + Sync, G: Gate>(
+    rt: &R,
+    alloc: Global,
+    workers: u32,
+    gate: &G,
+    builder: Seated<'a, B>,
+    ear: &'e mut E,
+) -> (Seated<'a, B>, &'e mut E, BuildTotals)
+    requires worker { 0 < workers }
+    requires workers { workers ≤ MAX_WORKERS }
+    requires waiting { E.over ear.now ≡ false }
+    ensures name { result.1.ghost_name ≡ ear.entry.ghost_name }
+    ensures over { E.over result.1.now ≡ true }
+    ensures same { place_of result.0.pass ≡ place_of builder.entry.pass }
+    ensures built { HasBuilt (place_of builder.entry.pass) (standing_of builder.entry.pass) result.2
+        (E.rung ear.entry.now) (standing_of result.0.pass) (E.rung result.1.now) }
+{
+    let mut builder = builder;
+    let totals = build_loop(rt, alloc, &mut builder, ear, workers, gate);
+    (builder, ear, totals)
+}
+
+/// Ends the loan of what was lent and came back.
+fn take_back<T>(_lent: &mut T)
+    ensures { _lent.new ≡ _lent.old }
+{}
+
+/// Lets the workers serve their doors and the builder build beside them, until all have ended.
+pub(crate) fn serve_beside<'a, D: Door, B: Bell, E: Ear, R: Threads + Wait + Sync, G: Gate>(
+    rt: &R,
+    alloc: Global,
+    workers: u32,
+    gate: &G,
+    bell: &B,
+    builder: Seated<'a, B>,
+    ear: &mut E,
+    crew: Vec<Worker<'a, D, B>>,
+) -> (Seated<'a, B>, Vec<Worker<'a, D, B>>, BuildTotals)
+    requires worker { 0 < workers }
+    requires workers { workers ≤ MAX_WORKERS }
+    requires waiting { E.over ear.old ≡ false }
+    requires open { (i : ℕ) (d : _) → i < length crew.items → D.closed (slice_index_or crew.items i d).door ≡ false }
+    ensures over { E.over ear.new ≡ true }
+    ensures same { place_of result.0.pass ≡ place_of builder.entry.pass }
+    ensures built { HasBuilt (place_of builder.entry.pass) (standing_of builder.entry.pass) result.2
+        (E.rung ear.old) (standing_of result.0.pass) (E.rung ear.new) }
+    ensures ran { HaveAllRun D.talks D.closed D.faults crew.entry.items result.1.items }
+{
+    // The builder is the first: where no thread can be made it comes last, when the bell is shut.
+    let ((builder, ear, totals), crew) = join(
+        rt,
+        ||
+            requires { (0 < workers) × (workers ≤ MAX_WORKERS) × (E.over ear.now ≡ false) }
+        { build(rt, alloc, workers, gate, builder, ear) },
+        ||
+            requires { (0 < workers) × (workers ≤ MAX_WORKERS) × ((i : ℕ) (d : _) → i < length crew.items → D.closed (slice_index_or crew.items i d).door ≡ false) }
+        { serve_list(rt, alloc, workers, gate, bell, crew) },
+    );
+    take_back(ear);
+    (builder, crew, totals)
+}

@@ -1,0 +1,132 @@
+//! A loop at a door: each connection that comes in is a session.
+
+ghost use Rattle.std.specs.Prelude.{◌≡◌, ◌<◌, ◌≤◌, ◌-◌, false, IfSome};
+ghost use Rattle.build_pool.specs.declared.TheConstants.{MAX_WORKERS};
+ghost use Rattle.path_core.specs.Histories.{IsHalting};
+ghost use Rattle.wire.specs.Knocks.{HasLent, TellsToo};
+ghost use Rattle.wire.specs.Talks.{IsFresh};
+ghost use Rattle.session.specs.declared.doors.DoorEnded.TheVariants.{Halting};
+ghost use Rattle.session.specs.Conversations.{Rests};
+ghost use Rattle.session.specs.Doors.{DoorEndsSo, GoesOnOrEnds, HasServed, SameWhereTold};
+ghost use Rattle.session.specs.Standing.{standing};
+
+use crate::desk::Desk;
+use crate::sessions::serve_link;
+use build_pool::Gate;
+use std::alloc::Global;
+use std::sync::Wait;
+use std::thread::Threads;
+use wire::{Door, Knock};
+
+/// How a loop at a door ended.
+#[derive(Clone, Copy, Debug, PartialEq, Eq)]
+pub enum DoorEnded {
+    /// The board halts.
+    Halting,
+    /// Nobody will come to the door any more.
+    Closed,
+    /// A knock at the door failed.
+    Failed,
+}
+
+/// Serves the connections that come to a door, one after the other, until the board halts, nobody will come any more, or a
+/// knock fails. Each connection is handed back to the door, however its session ended.
+pub fn door_loop<K: Desk, D: Door, R: Threads + Wait + Sync, G: Gate>(
+    rt: &R,
+    alloc: Global,
+    desk: &mut K,
+    door: &mut D,
+    workers: u32,
+    gate: &G,
+) -> DoorEnded
+    requires worker { 0 < workers }
+    requires workers { workers ≤ MAX_WORKERS }
+    requires open { D.closed door.old ≡ false }
+    ensures place { K.place desk.new ≡ K.place desk.old }
+    ensures served { HasServed (K.place desk.old) (standing (K.seen desk.old) (K.version desk.old) (K.looks desk.old))
+        (D.talks door.old) (standing (K.seen desk.new) (K.version desk.new) (K.looks desk.new)) (D.talks door.new) }
+    ensures ended { DoorEndsSo result (K.seen desk.new) (D.closed door.new) (D.faults door.old) (D.faults door.new) }
+    ensures lent { SameWhereTold (D.talks door.old) (D.lent door.old) (D.lent door.new) }
+    ensures port { D.port door.new ≡ D.port door.old }
+{
+    for _ in rt.forever() {
+        match serve_knock(rt, alloc, desk, door, workers, gate) {
+            Some(ended) => return ended,
+            None => {}
+        }
+    }
+    unreachable!()
+}
+
+/// Knocks once, and serves the connection that comes, if one comes. `None` where the loop goes on.
+fn serve_knock<K: Desk, D: Door, R: Threads + Wait + Sync, G: Gate>(
+    rt: &R,
+    alloc: Global,
+    desk: &mut K,
+    door: &mut D,
+    workers: u32,
+    gate: &G,
+) -> Option<DoorEnded>
+    requires worker { 0 < workers }
+    requires workers { workers ≤ MAX_WORKERS }
+    requires open { D.closed door.old ≡ false }
+    ensures place { K.place desk.new ≡ K.place desk.old }
+    ensures served { HasServed (K.place desk.old) (standing (K.seen desk.old) (K.version desk.old) (K.looks desk.old))
+        (D.talks door.old) (standing (K.seen desk.new) (K.version desk.new) (K.looks desk.new)) (D.talks door.new) }
+    ensures ended { GoesOnOrEnds result (K.seen desk.new) (D.closed door.new) (D.faults door.old) (D.faults door.new) }
+    ensures lent { SameWhereTold (D.talks door.old) (D.lent door.old) (D.lent door.new) }
+    ensures port { D.port door.new ≡ D.port door.old }
+{
+    match door.knock() {
+        Ok(Knock::Conn(conn)) => {
+            serve_conn(rt, alloc, desk, door, conn, workers, gate);
+            pause(rt, desk)
+        }
+        Ok(Knock::Quiet) => pause(rt, desk),
+        Ok(Knock::Closed) => Some(DoorEnded::Closed),
+        Err(_) => Some(DoorEnded::Failed),
+    }
+}
+
+/// Serves a connection, and hands it back. A fault of its session is told by the counts of the connection alone.
+fn serve_conn<K: Desk, D: Door, R: Threads + Wait + Sync, G: Gate>(
+    rt: &R,
+    alloc: Global,
+    desk: &mut K,
+    door: &mut D,
+    conn: D::Conn,
+    workers: u32,
+    gate: &G,
+)
+    requires worker { 0 < workers }
+    requires workers { workers ≤ MAX_WORKERS }
+    requires fresh { IsFresh (D.Conn.talk conn) }
+    requires told { TellsToo (D.talks door.old) (D.Conn.talk conn) }
+    requires no_read_fault { D.Conn.read_faults conn ≡ 0 }
+    requires no_write_fault { D.Conn.write_faults conn ≡ 0 }
+    requires lent { HasLent (D.talks door.old) (D.lent door.old) }
+    ensures place { K.place desk.new ≡ K.place desk.old }
+    ensures served { HasServed (K.place desk.old) (standing (K.seen desk.old) (K.version desk.old) (K.looks desk.old))
+        (D.talks door.old) (standing (K.seen desk.new) (K.version desk.new) (K.looks desk.new)) (D.talks door.new) }
+    ensures back { IfSome (D.talks door.old) (λ _. D.lent door.new ≡ D.lent door.old - 1) }
+    ensures closed { D.closed door.new ≡ D.closed door.old }
+    ensures faults { D.faults door.new ≡ D.faults door.old }
+    ensures port { D.port door.new ≡ D.port door.old }
+{
+    let mut conn = conn;
+    let _ended = serve_link(rt, alloc, desk, &mut conn, workers, gate);
+    door.done(conn);
+}
+
+/// Looks at the board, and ends the loop where it halts.
+fn pause<K: Desk, R: Wait>(rt: &R, desk: &mut K) -> Option<DoorEnded>
+    ensures place { K.place desk.new ≡ K.place desk.old }
+    ensures rests { Rests (K.place desk.old) (standing (K.seen desk.old) (K.version desk.old) (K.looks desk.old))
+        (standing (K.seen desk.new) (K.version desk.new) (K.looks desk.new)) }
+    ensures halts { IfSome result (λ ended. (ended ≡ Halting) × IsHalting (K.seen desk.new)) }
+{
+    if desk.look(rt).halting {
+        return Some(DoorEnded::Halting);
+    }
+    None
+}

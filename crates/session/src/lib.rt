@@ -1,0 +1,29 @@
+//! Sessions: a client's requests over a link, answered at a board.
+//!
+//! A session stands at a board through a desk: the board itself where one thread uses it, or a seat at a board that threads
+//! share. What a desk answers is said of the history that its pass has seen, to which others may add at any call.
+#![tactic(auto)]
+
+pub mod answers;
+pub mod boards;
+pub mod builder;
+mod building;
+mod crews;
+pub mod desk;
+pub mod doors;
+mod frames;
+pub mod lone;
+pub mod seated;
+mod sending;
+pub mod sessions;
+#[cfg(test)]
+mod tests;
+
+pub use answers::{Answered, PathAt, answer};
+pub use boards::{MAX_DOORS, ServeRefused, Served, serve_board};
+pub use builder::{BuildTotals, build_loop};
+pub use desk::Desk;
+pub use doors::{DoorEnded, door_loop};
+pub use lone::Lone;
+pub use seated::Seated;
+pub use sessions::{Ended, MAX_REQUESTS, SessionFault, serve_link};

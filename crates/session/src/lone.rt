@@ -1,0 +1,71 @@
+//! A board that one thread uses.
+
+ghost use Rattle.std.specs.Prelude.{◌≡◌, None};
+
+use crate::desk::Desk;
+use edit_log::Edit;
+use path_core::{Board, Job, Look, PublishError, SubmitError};
+use std::alloc::AllocError;
+use std::sync::{Arc, Wait};
+use versions::Version;
+
+/// A board of one's own, and the number of the pass that uses it. It holds the published version, and doesn't count its looks.
+#[derive(Drop)]
+pub struct Lone {
+    /// The board.
+    pub board: Board,
+    /// The pass.
+    pub pass: u32,
+}
+
+impl Desk for Lone {
+    ghost place = { λ lone. record {
+      pass = lone.pass;
+      start = lone.board.start;
+      order = lone.board.order;
+      room = lone.board.room;
+      shared = None;
+    } };
+
+    ghost seen = { λ lone. lone.board.history };
+
+    ghost version = { λ lone. lone.board.version };
+
+    ghost looks = { λ _. None };
+
+    fn look<R: Wait>(&mut self, _rt: &R) -> Look {
+        // That the history is legal, and the published version one, is known from here.
+        let _entries = self.board.entries();
+        let _version = self.board.version();
+        self.board.look()
+    }
+
+    fn recent<R: Wait>(&mut self, _rt: &R) -> bool {
+        let _version = self.board.version();
+        true
+    }
+
+    fn submit<R: Wait>(&mut self, _rt: &R, edit: Edit) -> Result<u32, SubmitError> {
+        self.board.submit(self.pass, edit)
+    }
+
+    fn job<R: Wait>(&mut self, _rt: &R, known: u32) -> Result<Job, AllocError> {
+        // That the history is legal is known from here.
+        let _entries = self.board.entries();
+        self.board.job(known)
+    }
+
+    fn publish<R: Wait>(&mut self, _rt: &R, next: Arc<Version>) -> Result<u32, PublishError> {
+        self.board.publish(self.pass, next)
+    }
+
+    fn halt<R: Wait>(&mut self, _rt: &R) -> Result<bool, AllocError> {
+        self.board.halt(self.pass)
+    }
+
+    fn held(&self) -> &Version {
+        // That the history is legal is known from here.
+        let _entries = self.board.entries();
+        self.board.version()
+    }
+}

@@ -1,0 +1,226 @@
+//! A session: a client's frames over a link, each answered before the next is waited for.
+
+ghost use Rattle.std.specs.Prelude.{◌≡◌, ◌<◌, ◌≤◌, ◌+◌, [], length, IfErr, OnErr};
+ghost use Rattle.build_pool.specs.declared.TheConstants.{MAX_WORKERS};
+ghost use Rattle.query_proto.specs.declared.TheConstants.{MAX_REQUEST};
+ghost use Rattle.wire.specs.Causes.{Rose};
+ghost use Rattle.session.specs.Conversations.{Conversed, HasCause};
+ghost use Rattle.session.specs.Standing.{standing};
+ghost use Rattle.session.specs.Turns.{AnswersSo, EndsBy, Steps, TellsBack};
+
+use crate::answers::{Answered, answer};
+use crate::desk::Desk;
+use crate::frames::Held;
+use crate::sending::send_reply;
+use build_pool::Gate;
+use query_proto::{Reply, Request, decode_request};
+use std::alloc::Global;
+use std::sync::Wait;
+use std::thread::Threads;
+use wire::{Failed, Link};
+
+/// The most frames that a session answers.
+pub const MAX_REQUESTS: u32 = 1_048_576;
+
+/// How a session ended without a fault.
+#[derive(Clone, Copy, Debug, PartialEq, Eq)]
+pub enum Ended {
+    /// A Bye was answered.
+    Bye,
+    /// A Stop was answered and done.
+    Stop,
+    /// The input ended between two frames.
+    Quiet,
+    /// The most frames were answered, and none of them ended the session.
+    Spent,
+}
+
+/// Why a session ended in a fault.
+#[derive(Clone, Copy, Debug, PartialEq, Eq)]
+pub enum SessionFault {
+    /// The input ended inside a frame. Both numbers count the two bytes of the frame's length.
+    Torn {
+        /// How many bytes of the frame came in.
+        have: u32,
+        /// How many it has; 2 where its length is torn.
+        want: u32,
+    },
+    /// A frame is longer than a request can be.
+    TooLong {
+        /// Its length in bytes.
+        length: u16,
+    },
+    /// The link failed while a frame was to come in.
+    ReadFault,
+    /// The link failed while a reply was sent.
+    WriteFault,
+}
+
+/// Answers the frames that come in over a link, one after the other, until one of them ends the session, the input ends, or
+/// the link fails. It takes memory for a change, a build and a stop alone.
+///
+/// # Errors
+///
+/// `Torn` where the input ends inside a frame, `TooLong` where a length is above 64, and a fault where the link fails.
+pub fn serve_link<K: Desk, L: Link, R: Threads + Wait + Sync, G: Gate>(
+    rt: &R,
+    alloc: Global,
+    desk: &mut K,
+    link: &mut L,
+    workers: u32,
+    gate: &G,
+) -> Result<Ended, SessionFault>
+    requires worker { 0 < workers }
+    requires workers { workers ≤ MAX_WORKERS }
+    ensures place { K.place desk.new ≡ K.place desk.old }
+    ensures talk { Conversed (K.place desk.old) (standing (K.seen desk.old) (K.version desk.old) (K.looks desk.old))
+        (L.talk link.old) result (standing (K.seen desk.new) (K.version desk.new) (K.looks desk.new)) (L.talk link.new) }
+    ensures cause { IfErr result (HasCause (L.read_faults link.old) (L.read_faults link.new)
+        (L.write_faults link.old) (L.write_faults link.new)) }
+    ensures reads { L.read_faults link.old ≤ L.read_faults link.new }
+    ensures writes { L.write_faults link.old ≤ L.write_faults link.new }
+{
+    let mut held = Held::new();
+    serve_frames(rt, alloc, desk, link, workers, gate, &mut held)
+}
+
+/// Answers frame after frame, where nothing is held yet.
+fn serve_frames<K: Desk, L: Link, R: Threads + Wait + Sync, G: Gate>(
+    rt: &R,
+    alloc: Global,
+    desk: &mut K,
+    link: &mut L,
+    workers: u32,
+    gate: &G,
+    held: &mut Held,
+) -> Result<Ended, SessionFault>
+    requires worker { 0 < workers }
+    requires workers { workers ≤ MAX_WORKERS }
+    requires none { held.old ≡ [] }
+    ensures place { K.place desk.new ≡ K.place desk.old }
+    ensures talk { Conversed (K.place desk.old) (standing (K.seen desk.old) (K.version desk.old) (K.looks desk.old))
+        (L.talk link.old) result (standing (K.seen desk.new) (K.version desk.new) (K.looks desk.new)) (L.talk link.new) }
+    ensures cause { IfErr result (HasCause (L.read_faults link.old) (L.read_faults link.new)
+        (L.write_faults link.old) (L.write_faults link.new)) }
+    ensures reads { L.read_faults link.old ≤ L.read_faults link.new }
+    ensures writes { L.write_faults link.old ≤ L.write_faults link.new }
+{
+    for count in 0..MAX_REQUESTS {
+        let ahead = count + 1 < MAX_REQUESTS;
+        match serve_next(rt, alloc, desk, link, workers, gate, held, ahead) {
+            Ok(None) => {}
+            Ok(Some(ended)) => return Ok(ended),
+            Err(fault) => return Err(fault),
+        }
+    }
+    Ok(Ended::Spent)
+}
+
+/// Takes the next frame and answers it. `None` where the session goes on. `ahead` says that a further frame may be taken.
+fn serve_next<K: Desk, L: Link, R: Threads + Wait + Sync, G: Gate>(
+    rt: &R,
+    alloc: Global,
+    desk: &mut K,
+    link: &mut L,
+    workers: u32,
+    gate: &G,
+    held: &mut Held,
+    ahead: bool,
+) -> Result<Option<Ended>, SessionFault>
+    requires worker { 0 < workers }
+    requires workers { workers ≤ MAX_WORKERS }
+    requires begun { length held.old ≤ 2 }
+    ensures place { K.place desk.new ≡ K.place desk.old }
+    ensures steps { Steps (K.place desk.old) ahead (standing (K.seen desk.old) (K.version desk.old) (K.looks desk.old))
+        (L.talk link.old) held.old result
+        (standing (K.seen desk.new) (K.version desk.new) (K.looks desk.new)) (L.talk link.new) held.new }
+    ensures cause { IfErr result (HasCause (L.read_faults link.old) (L.read_faults link.new)
+        (L.write_faults link.old) (L.write_faults link.new)) }
+    ensures reads { L.read_faults link.old ≤ L.read_faults link.new }
+    ensures writes { L.write_faults link.old ≤ L.write_faults link.new }
+{
+    let Some(size) = held.next_frame(link, ahead)? else {
+        return Ok(Some(Ended::Quiet));
+    };
+    let served = serve_frame(rt, alloc, desk, link, workers, gate, held.frame(size));
+    held.pass(size);
+    match served {
+        Ok(ended) => Ok(ended),
+        Err(_) => Err(SessionFault::WriteFault),
+    }
+}
+
+/// Answers a frame and sends the reply. `Some` where the session ends behind it.
+///
+/// # Errors
+///
+/// `Failed` where the link failed before the whole reply was sent.
+fn serve_frame<K: Desk, L: Link, R: Threads + Wait + Sync, G: Gate>(
+    rt: &R,
+    alloc: Global,
+    desk: &mut K,
+    link: &mut L,
+    workers: u32,
+    gate: &G,
+    frame: &[u8],
+) -> Result<Option<Ended>, Failed>
+    requires worker { 0 < workers }
+    requires workers { workers ≤ MAX_WORKERS }
+    requires fits { length frame.now ≤ MAX_REQUEST }
+    ensures place { K.place desk.new ≡ K.place desk.old }
+    ensures tells { TellsBack (K.place desk.old) frame.now
+        (standing (K.seen desk.old) (K.version desk.old) (K.looks desk.old)) (L.talk link.old) result
+        (standing (K.seen desk.new) (K.version desk.new) (K.looks desk.new)) (L.talk link.new) }
+    ensures cause { OnErr result (Rose (L.write_faults link.old) (L.write_faults link.new)) }
+    ensures writes { L.write_faults link.old ≤ L.write_faults link.new }
+    ensures reads { L.read_faults link.new ≡ L.read_faults link.old }
+{
+    let (answered, ended) = answer_frame(rt, alloc, desk, workers, gate, frame);
+    match send_reply(link, &answered, desk.held()) {
+        Ok(()) => Ok(ended),
+        Err(failed) => Err(failed),
+    }
+}
+
+/// Answers a frame, and says whether the session ends behind the reply.
+fn answer_frame<K: Desk, R: Threads + Wait + Sync, G: Gate>(
+    rt: &R,
+    alloc: Global,
+    desk: &mut K,
+    workers: u32,
+    gate: &G,
+    frame: &[u8],
+) -> (Answered, Option<Ended>)
+    requires worker { 0 < workers }
+    requires workers { workers ≤ MAX_WORKERS }
+    requires fits { length frame.now ≤ MAX_REQUEST }
+    ensures place { K.place desk.new ≡ K.place desk.old }
+    ensures answers { AnswersSo (K.place desk.old) frame.now
+        (standing (K.seen desk.old) (K.version desk.old) (K.looks desk.old)) (K.version desk.new) result.0 result.1
+        (standing (K.seen desk.new) (K.version desk.new) (K.looks desk.new)) }
+{
+    match decode_request(frame) {
+        Ok(request) => {
+            let answered = answer(rt, alloc, desk, request, workers, gate);
+            (answered, end_of(request, answered.reply))
+        }
+        Err(what) => {
+            let told = Reply::Malformed {
+                kind: what.kind,
+                length: what.length as u16,
+            };
+            (Answered::of(told), None)
+        }
+    }
+}
+
+/// How a session ends behind a request with this reply; `None` where it goes on.
+fn end_of(request: Request, reply: Reply) -> Option<Ended>
+    ensures { EndsBy request reply result }
+{
+    match (request, reply) {
+        (Request::Bye, _) => Some(Ended::Bye),
+        (Request::Stop, Reply::Done) => Some(Ended::Stop),
+        _ => None,
+    }
+}
