@@ -1,0 +1,4 @@
+pub mod Pieces
+pub mod Numbered
+pub mod Hearings
+pub mod Questions

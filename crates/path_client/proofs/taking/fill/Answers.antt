@@ -1,0 +1,23 @@
+use Rattle.std.proofs.Common.{◌-◌, length, take, sym, subst, arith, rules}
+use Rattle.std.proofs.lemmas.List.{length-take-le}
+use Rattle.std.proofs.lemmas.Result.{err_from_is_err_and}
+use Rattle.path_client.specs.Taking.{Takes}
+use Rattle.path_client.proofs.Pieces.{filled, part_more, takes_more}
+use Rattle.path_client.proofs.taking.fill.Goals as goal
+
+pub returns-in_err-count-clause-part : goal.returns-in_err-count-clause-part
+returns-in_err-count-clause-part g c =
+    let p = err_from_is_err_and c.from_residual.result c.from_residual.ensures.1 in
+    let size = length-take-le c.loop-count.count c.loop-count.room (omega arith) in
+    rw (p.1, p.2) (part_more _ _ _ (take c.loop-count.count c.loop-count.room) _ _ _ _ _ (omega arith) (omega arith) c.loop-count.invariant.takes
+    c.in_err-count.ensures.none)
+
+pub loop-count-preserved : goal.loop-count-preserved
+loop-count-preserved g c = record {
+  within = omega (arith, c.in_ok-count.ensures.count);
+  takes = subst (λ l. Takes (g.L.Link.talk c.args.link.now) (g.L.Link.talk c.take_some.new.link) l)
+      (sym (filled c.loop-count.room c.take_some.new.room c.loop-count.count (length c.loop-count.room - c.loop-count.count) c.in_ok-count.field-0 (omega arith) (omega (arith, c.in_ok-count.ensures.count))))
+      (takes_more _ _ _ _ _ c.loop-count.invariant.takes c.in_ok-count.ensures.taken);
+  later = omega (arith, c.in_ok-count.ensures.later);
+  other = search rules;
+}

@@ -1,0 +1,135 @@
+-- Asking: what a client sends over a link, what it takes of it, and what it hears.
+use Rattle.std.specs.Prelude.{ℕ, ◌≡◌, ◌⊎◌, ◌^◌, ◌<◌, ◌≤◌, List, [], ◌++◌, length, take, map, Option, Result, IfOk, IfErr, IsErrOf}
+use Rattle.byteorder.specs.Endian.{big_bytes}
+use Rattle.moves.specs.declared.Move.{Move}
+use Rattle.moves.specs.Moves.{number_of}
+use Rattle.query_proto.specs.declared.TheConstants.{MAX_REPLY}
+use Rattle.query_proto.specs.declared.replies.Reply.{Reply}
+use Rattle.query_proto.specs.declared.requests.Request.{Request}
+use Rattle.query_proto.specs.Frames.{AreMovesOf, IsReplyFrame, IsRequestFrame, reply_frame, sent_reply, sent_request}
+use Rattle.wire.specs.Talks.{Talk, with_sent, with_taken, SendsPrefix}
+use Rattle.path_client.specs.declared.fault.ClientFault.{ClientFault}
+use Rattle.path_client.specs.declared.fault.ClientFault.TheVariants.{Malformed, Closed, ReadFault, WriteFault, NoMemory}
+use Rattle.path_client.specs.declared.heard.Heard.{Heard}
+use Rattle.path_client.specs.Taking.{BeginsLeft, NothingLeft, Takes}
+
+-- these bytes were sent, these were taken of what was left, and no byte more
+pub record Passes (before after : Option Talk) (taken sent : List ℕ) : Type 0 where
+  pub front : BeginsLeft before taken
+  pub moved : after ≡ with_sent (with_taken before (length taken)) sent
+
+-- the answer that was heard: the reply and its moves whose frame stands behind its length in these bytes
+pub record Hears (taken : List ℕ) (reply : Reply) (moves : List Move) : Type 0 where
+  pub are : AreMovesOf reply moves
+  pub is : taken ≡ sent_reply reply moves
+
+-- the length of a frame, which some reply may have
+pub record IsSize (taken : List ℕ) : Type 0 where
+  pub size : ℕ
+  pub is : taken ≡ big_bytes 4 size
+  pub allowed : size ≤ MAX_REPLY
+
+-- the length of a frame, which no reply has
+pub record IsTooLong (taken : List ℕ) : Type 0 where
+  pub size : ℕ
+  pub is : taken ≡ big_bytes 4 size
+  pub fits : size < 2 ^ 32
+  pub long : MAX_REPLY < size
+
+-- a whole frame behind its length, which is the frame of no reply
+pub record SpellsNoReply (taken : List ℕ) : Type 0 where
+  pub frame : List ℕ
+  pub is : taken ≡ big_bytes 4 (length frame) ++ frame
+  pub allowed : length frame ≤ MAX_REPLY
+  pub none : (reply : Reply) → IsReplyFrame reply frame → ⊥
+
+-- a whole answer
+pub record IsAnswer (taken : List ℕ) : Type 0 where
+  pub reply : Reply
+  pub moves : List Move
+  pub hears : Hears taken reply moves
+
+-- a part of a frame behind its length, which is more than that part
+pub record IsTornFrame (taken : List ℕ) : Type 0 where
+  pub size : ℕ
+  pub part : List ℕ
+  pub is : taken ≡ big_bytes 4 size ++ part
+  pub allowed : size ≤ MAX_REPLY
+  pub fewer : length part < size
+
+-- a part of an answer: fewer bytes than its length has, or a part of the frame behind it
+abbrev pub IsTorn : List ℕ → Type 0
+IsTorn taken = (length taken < 4) ⊎ IsTornFrame taken
+
+-- why no answer was heard, by what was taken
+abbrev pub NotHeard : List ℕ → Option Talk → ClientFault → Type 0
+NotHeard taken after Malformed = IsTooLong taken ⊎ SpellsNoReply taken
+NotHeard taken after (Closed have) = (have ≡ length taken) × IsTorn taken × NothingLeft after
+NotHeard taken after ReadFault = IsTorn taken
+NotHeard taken after WriteFault = taken ≡ []
+NotHeard taken after NoMemory = IsSize taken ⊎ IsAnswer taken
+
+-- a first part of the text, which is less than the whole
+abbrev pub IsFirstPart : List ℕ → List ℕ → Type 0
+IsFirstPart part text = (count : ℕ) × (count < length text) × (part ≡ take count text)
+
+-- A request is sent whole and once, but for a fault of writing; then an answer is taken, if it is allowed and comes whole,
+-- and no byte more.
+pub record Asked (request : Request) (before : Option Talk) (result : Result Heard ClientFault) (after : Option Talk) : Type 0 where
+  pub frame : List ℕ
+  pub spells : IsRequestFrame request frame
+  pub taken : List ℕ
+  pub sent : List ℕ
+  pub passes : Passes before after taken sent
+  pub whole : (IsErrOf result WriteFault → ⊥) → sent ≡ sent_request frame
+  pub part : IsErrOf result WriteFault → IsFirstPart sent (sent_request frame)
+  pub heard : IfOk result (λ heard. Hears taken heard.reply heard.moves)
+  pub fault : IfErr result (NotHeard taken after)
+
+-- the request was sent whole and once
+pub record SendsRequest (request : Request) (before after : Option Talk) : Type 0 where
+  pub frame : List ℕ
+  pub spells : IsRequestFrame request frame
+  pub sends : after ≡ with_sent before (sent_request frame)
+
+-- less than the whole request was sent
+pub record SendsRequestPart (request : Request) (before after : Option Talk) : Type 0 where
+  pub frame : List ℕ
+  pub spells : IsRequestFrame request frame
+  pub sends : SendsPrefix before after (sent_request frame)
+
+-- the length of a frame was taken, which some reply may have
+pub record TakesSize (before after : Option Talk) (size : ℕ) : Type 0 where
+  pub takes : Takes before after (big_bytes 4 size)
+  pub allowed : size ≤ MAX_REPLY
+
+-- an answer was taken and heard
+pub record HearsFrom (before after : Option Talk) (reply : Reply) (moves : List Move) : Type 0 where
+  pub taken : List ℕ
+  pub takes : Takes before after taken
+  pub hears : Hears taken reply moves
+
+-- no answer was heard, for want of memory or by what came in
+pub record HearsNothing (before after : Option Talk) (fault : ClientFault) : Type 0 where
+  pub taken : List ℕ
+  pub takes : Takes before after taken
+  pub why : NotHeard taken after fault
+  pub listens : fault ≡ WriteFault → ⊥
+
+-- the reply and its moves that have this frame
+pub record IsHeardIn (frame : List ℕ) (reply : Reply) (moves : List Move) : Type 0 where
+  pub are : AreMovesOf reply moves
+  pub is : frame ≡ reply_frame reply moves
+
+-- why nothing is heard in a whole frame: it is that of no reply, or there was no memory for the moves
+abbrev pub NotHeardIn : List ℕ → ClientFault → Type 0
+NotHeardIn frame Malformed = (reply : Reply) → IsReplyFrame reply frame → ⊥
+NotHeardIn frame NoMemory = (reply : Reply) × IsReplyFrame reply frame
+NotHeardIn frame (Closed have) = ⊥
+NotHeardIn frame ReadFault = ⊥
+NotHeardIn frame WriteFault = ⊥
+
+-- the bytes are the numbers of moves
+pub record AreNumbers (bytes : List ℕ) : Type 0 where
+  pub moves : List Move
+  pub are : bytes ≡ map number_of moves

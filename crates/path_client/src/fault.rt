@@ -1,0 +1,33 @@
+//! Why no answer was heard.
+
+use std::alloc::AllocError;
+
+/// Why no answer was heard.
+#[derive(Clone, Copy, Debug, PartialEq, Eq)]
+pub enum ClientFault {
+    /// What came in is no answer: its length is above the most that the frame of a reply has, or it is whole, and no
+    /// reply has its frame.
+    Malformed,
+    /// The link ended before an answer was whole.
+    Closed {
+        /// How many bytes of it came in, those of its length among them; at most 32,783.
+        have: u32,
+    },
+    /// The link failed to give bytes.
+    ReadFault,
+    /// The link failed to send bytes. Less than the whole request was sent.
+    WriteFault,
+    /// Memory ran out.
+    NoMemory,
+}
+
+impl From<AllocError> for ClientFault {
+    ghost use Rattle.std.specs.Prelude.{◌≡◌};
+    ghost use Rattle.path_client.specs.declared.fault.ClientFault.TheVariants.{NoMemory};
+
+    ghost from_gives = { λ _ fault. fault ≡ NoMemory };
+
+    fn from(_: AllocError) -> ClientFault {
+        ClientFault::NoMemory
+    }
+}

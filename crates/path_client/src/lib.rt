@@ -1,0 +1,14 @@
+//! A client's side of the talk with a server: one request out, one answer in.
+#![tactic(auto)]
+
+mod asking;
+mod fault;
+mod heard;
+mod hearing;
+mod taking;
+#[cfg(test)]
+mod tests;
+
+pub use asking::ask;
+pub use fault::ClientFault;
+pub use heard::{Heard, MoveList};

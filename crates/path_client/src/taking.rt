@@ -1,0 +1,46 @@
+//! Bytes that are taken of a link.
+
+ghost use Rattle.std.specs.Prelude.{◌≡◌, ◌+◌, ◌<◌, ◌≤◌, ◌^◌, length, take, IfErr, IfOk, IsErrOf, OnOk};
+ghost use Rattle.wire.specs.Causes.{Rose};
+ghost use Rattle.path_client.specs.Taking.{Takes, TakesPart};
+
+use crate::ClientFault;
+use wire::{Failed, Link};
+
+/// Fills a room with the next bytes that come in, and takes no byte more. So many bytes of the answer are held already.
+///
+/// # Errors
+///
+/// `Closed`, with the bytes that are held then, exactly where the link ends before the room is full, and `ReadFault`.
+pub(crate) fn fill<L: Link>(link: &mut L, room: &mut [u8], held: u32) -> Result<(), ClientFault>
+    requires { held + length room.old < 2 ^ 32 }
+    ensures all { OnOk result (Takes (L.talk link.old) (L.talk link.new) room.new) }
+    ensures part { IfErr result (TakesPart (L.talk link.old) (L.talk link.new) (length room.old) held) }
+    ensures cause { IsErrOf result ClientFault.ReadFault → Rose (L.read_faults link.old) (L.read_faults link.new) }
+    ensures later { L.read_faults link.old ≤ L.read_faults link.new }
+    ensures other { L.write_faults link.new ≡ L.write_faults link.old }
+{
+    let mut count = 0;
+    while count < room.len() {
+        count += take_some(link, &mut room[count..], held + count as u32)?;
+    }
+    Ok(())
+}
+
+/// Takes the next bytes that come in to the front of a room, at least one, and says how many.
+fn take_some<L: Link>(link: &mut L, room: &mut [u8], held: u32) -> Result<usize, ClientFault>
+    requires { 0 < length room.old }
+    ensures some { IfOk result (λ count. 0 < count) }
+    ensures count { IfOk result (λ count. count ≤ length room.old) }
+    ensures taken { IfOk result (λ count. Takes (L.talk link.old) (L.talk link.new) (take count room.new)) }
+    ensures none { IfErr result (TakesPart (L.talk link.old) (L.talk link.new) (length room.old) held) }
+    ensures cause { IsErrOf result ClientFault.ReadFault → Rose (L.read_faults link.old) (L.read_faults link.new) }
+    ensures later { L.read_faults link.old ≤ L.read_faults link.new }
+    ensures other { L.write_faults link.new ≡ L.write_faults link.old }
+{
+    match link.recv(room) {
+        Ok(0) => Err(ClientFault::Closed { have: held }),
+        Ok(count) => Ok(count),
+        Err(Failed) => Err(ClientFault::ReadFault),
+    }
+}
