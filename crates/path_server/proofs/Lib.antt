@@ -1,8 +1,10 @@
-pub mod Routing
 pub mod Telling
+pub mod Writing
+pub mod FileLemmas
 pub mod ClapLemmas
 pub mod CommandLemmas
 pub mod NumberLemmas
 pub mod RequestLemmas
 pub mod OptionLemmas
 pub mod PlainLemmas
+pub mod RunLemmas

@@ -1,5 +1,5 @@
 -- What a command makes of words, and what it made of the values that a parse found.
-use Rattle.std.proofs.Common.{◌≡◌, List, [], ◌∷◌, length, String, Bool, true, false, Option, Some, None, Err, IfOk, string_bytes, find, position, inl, inr, refl, sym, ap, option_map, arith}
+use Rattle.std.proofs.Common.{◌≡◌, List, [], ◌∷◌, length, String, Bool, true, false, Option, Some, None, Err, IfOk, IfSome, string_bytes, find, position, inl, inr, refl, sym, ap, option_map, arith}
 use Rattle.std.specs.Option.{option_and_then}
 use Rattle.std.specs.List.{position_or_len}
 use Rattle.std.proofs.lemmas.Bool.{cases_lt}
@@ -13,7 +13,7 @@ use Rattle.clap.specs.Words.{Text, first_value, found_of, is_simple_and_free}
 use Rattle.clap.specs.declared.parser.matches.ArgMatches.{ArgMatches}
 use Rattle.clap.proofs.OnLiterals.{clap_on_literals}
 use Rattle.path_server.specs.declared.commands.Verb.{Verb}
-use Rattle.path_server.specs.declared.commands.Verb.TheVariants.{Path, Check}
+use Rattle.path_server.specs.declared.commands.Verb.TheVariants.{Path, Check, Scen, Made, Replay, Talk}
 use Rattle.path_server.specs.declared.request.Request.{Request}
 use Rattle.path_server.specs.declared.request.RequestError.TheVariants.{Usage}
 use Rattle.path_server.specs.Commands.{app_for, verb_named, verb_of}
@@ -25,6 +25,10 @@ pub simple_app : (verb : Verb) → is_simple_and_free (app_for verb) ≡ true
 unfolding app_for command_app clap_on_literals
 simple_app Path = refl
 simple_app Check = refl
+simple_app Scen = refl
+simple_app Made = refl
+simple_app Replay = refl
+simple_app Talk = refl
 
 -- the first word names the command
 pub named_first : (words : List (String Global)) (name : String Global) → Some name ≡ slice_get words 0 → verb_of (texts_of words) ≡ verb_named (string_bytes name)
@@ -49,6 +53,11 @@ read_some None x e = tt
 pub read_none : (o : Option Request) (x : Option Asked) → option_map asked o ≡ x → ok_or o Usage ≡ Err Usage → x ≡ None
 read_none (Some request) x e h = absurd cc
 read_none None x e h = sym e
+
+-- what holds of a request that is there holds of the one that was read
+pub kept_some : (P : Request → Type 0) (o : Option Request) → IfSome o P → IfOk (ok_or o Usage) P
+kept_some P (Some request) p = p
+kept_some P None p = tt
 
 -- the first that passes is what stands at the place of the first that passes
 pub find_by_position : {X : Type 0} (p : X → Bool) (xs : List X) → option_and_then (λ place. slice_get xs place) (position p xs) ≡ find p xs

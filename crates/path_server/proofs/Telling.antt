@@ -1,39 +1,49 @@
--- What the costs of a search say of a path.
-use Rattle.std.proofs.Common.{◌≡◌, ℕ, List, Some, None, inl, inr, refl, sym, ◌∙◌, subst}
+-- A walk and its cost are the answer of a version.
+use Rattle.std.proofs.Common.{◌≡◌, ℕ, ◌≤◌, not, List, Some, None, sym, ap, subst, ◌∙◌, arith}
+use Rattle.std.proofs.lemmas.List.Sums.{count_by-le-length}
 use Rattle.root_cost.specs.declared.Cost.{Cost}
-use Rattle.root_cost.specs.Costs.{IsMicro}
+use Rattle.root_cost.specs.declared.TheConstants.{MAX_STEPS}
 use Rattle.moves.specs.declared.Cell.{Cell}
-use Rattle.moves.specs.declared.Move.{Move}
-use Rattle.moves.specs.Maps.{Map, IsPassable}
-use Rattle.moves.specs.Paths.{cost_of, IsBest, IsLeastCost}
-use Rattle.moves.proofs.LawsOfPaths.{leads_back, same_cost_of_best}
-use Rattle.moves.specs.PathLaws.{back_along}
-use Rattle.grid_search.specs.Searches.{Searched, HasSearched, cost_at}
-use Rattle.path_server.specs.Texts.{path_text, unreachable_text}
-use Rattle.path_server.specs.Queries.{IsPathAnswer}
-use Rattle.path_server.proofs.Routing.{least_to_source}
+use Rattle.moves.specs.Moves.{is_diagonal}
+use Rattle.moves.specs.Paths.{Reaches, cost_of, IsLeastCost}
+use Rattle.moves.proofs.LawsOfPaths.{same_cost_of_best}
+use Rattle.versions.specs.Databases.{Versioned}
+use Rattle.versions.specs.Queries.{AreEnds}
+use Rattle.versions.specs.Answers.{unreachable, path}
+use Rattle.walker.specs.Walks.{Walking, BeginsWalk}
+use Rattle.path_server.specs.Texts.{unreachable_text}
+use Rattle.path_server.specs.Queries.{TellsAhead, TellsAnswer, TellsPath}
 
--- a cell without a cost is reached by no path
-pub tells_none : (map : Map) (start goal : Cell) (search : Searched) (text : List ℕ) → HasSearched map goal search → IsPassable map start → IsPassable map goal
-    → cost_at search start ≡ None → text ≡ unreachable_text → IsPathAnswer map start goal text
-tells_none map start goal search text searched from to none told = record {
-  leaves = from;
-  arrives = to;
-  told = inl (
-    (λ (moves, leads). subst (IsLeastCost map goal start) none (searched.least start from.inside) (back_along moves, leads_back map start goal moves leads)),
-    told,
-  );
-}
+pub tells_none : (version : Versioned) (start goal : Cell) (text : List ℕ) → AreEnds version.map start goal → (Reaches version.map start goal → ⊥) → text ≡ unreachable_text
+    → TellsAnswer version start goal text
+tells_none version start goal text ends none told = record { answer = unreachable; is = (ends, none); told = told }
 
--- a cell with a cost has a best path of that cost
-pub tells_path : (map : Map) (start goal : Cell) (search : Searched) (cost : Cost) (moves : List Move) (text : List ℕ) → HasSearched map goal search
-    → IsPassable map start → IsPassable map goal → cost_at search start ≡ Some cost → IsBest map start moves goal
-    → (micro : ℕ) × IsMicro cost micro × (text ≡ path_text cost micro moves) → IsPathAnswer map start goal text
-tells_path map start goal search cost moves text searched from to here best (micro, floor, told) =
-    let least = least_to_source map goal start search cost searched from.inside here in
-    let same : cost ≡ cost_of moves = sym least.2 ∙ same_cost_of_best map start goal least.0 moves least.1 best in
-    record {
-      leaves = from;
-      arrives = to;
-      told = inr (moves, micro, best, subst (λ c. IsMicro c micro) same floor, told ∙ subst (λ c. path_text cost micro moves ≡ path_text c micro moves) same refl);
-    }
+module _ (version : Versioned) (start goal : Cell) (walk : Walking) (begins : BeginsWalk version start goal walk) (cost : Cost) (least : IsLeastCost version.map start goal (Some cost)) where
+  -- the least cost is that of the walk
+  same_cost : cost ≡ cost_of begins.moves
+  same_cost = sym least.2 ∙ same_cost_of_best version.map start goal least.0 begins.moves least.1 begins.is.best
+
+  pub tells_walk : (text : List ℕ) → AreEnds version.map start goal → TellsAhead walk cost text → TellsAnswer version start goal text
+  tells_walk text ends told = record {
+    answer = path begins.moves;
+    is = (ends, begins.is);
+    told = subst (λ c. TellsPath c begins.moves text) same_cost (told begins.moves begins.ahead);
+  }
+
+  pub few_straight : cost.straight ≤ MAX_STEPS
+  few_straight =
+      let most = count_by-le-length (λ move. not (is_diagonal move)) begins.moves in
+      let few = begins.few in
+      let same = ap (λ c. c.straight) same_cost in
+      omega arith
+
+  pub few_diagonal : cost.diagonal ≤ MAX_STEPS
+  few_diagonal =
+      let most = count_by-le-length is_diagonal begins.moves in
+      let few = begins.few in
+      let same = ap (λ c. c.diagonal) same_cost in
+      omega arith
+
+-- where a walk begins there is a least cost
+pub has_cost : (version : Versioned) (start goal : Cell) (walk : Walking) → BeginsWalk version start goal walk → IsLeastCost version.map start goal None → ⊥
+has_cost version start goal walk begins none = none (begins.moves, begins.is.best.leads)

@@ -4,13 +4,13 @@ use Rattle.std.specs.Str.{bytes_eq}
 use Rattle.clap.specs.Walk.{Rule, Text}
 use Rattle.clap.specs.Simple.{App}
 use Rattle.path_server.specs.declared.commands.Verb.{Verb}
-use Rattle.path_server.specs.declared.commands.Verb.TheVariants.{Path, Check}
+use Rattle.path_server.specs.declared.commands.Verb.TheVariants.{Path, Check, Scen, Made, Replay, Talk}
 use Rattle.path_server.specs.declared.commands.Field.{Field}
 use Rattle.path_server.specs.declared.commands.Field.TheVariants.{Argument, Setting}
 use Rattle.path_server.specs.declared.commands.Value.{Value}
 use Rattle.path_server.specs.declared.commands.Value.TheVariants as value
-use Rattle.path_server.specs.Words.{command_app, coordinate_in, option_rule, order_in, path_in}
-use Rattle.path_server.specs.Words.{required_rule, workers_in}
+use Rattle.path_server.specs.Words.{command_app, number_as, option_rule, order_in, path_in}
+use Rattle.path_server.specs.Words.{required_rule}
 
 -- what clap reads of an argument or option
 abbrev pub rule_for : Field → Rule
@@ -20,16 +20,14 @@ rule_for (Setting id form) = option_rule id.now
 -- the text is such a value
 abbrev pub is_value : Value → Text → Bool
 is_value value.File text = is_some (path_in text)
-is_value value.Coordinate text = is_some (coordinate_in text)
+is_value (value.Number kind) text = is_some (number_as kind text)
 is_value value.Order text = is_some (order_in text)
-is_value value.Workers text = is_some (workers_in text)
 
 -- how a value is shown
 abbrev pub form_text : Value → Text
 form_text value.File = codes "FILE"
-form_text value.Coordinate = codes "N"
+form_text (value.Number kind) = codes "N"
 form_text value.Order = codes "rows|dfs"
-form_text value.Workers = codes "N"
 
 -- how an argument or option is shown
 abbrev pub field_text : Field → Text
@@ -42,23 +40,35 @@ with_build arguments =
     map required_rule arguments ++ option_rule (codes "order") ∷ option_rule (codes "workers") ∷ []
 
 abbrev pub verbs : List Verb
-verbs = Path ∷ Check ∷ []
+verbs = Path ∷ Check ∷ Scen ∷ Made ∷ Replay ∷ Talk ∷ []
 
 -- the word that names the command
 abbrev pub verb_name : Verb → Text
 verb_name Path = codes "path"
 verb_name Check = codes "check"
+verb_name Scen = codes "scen"
+verb_name Made = codes "made"
+verb_name Replay = codes "replay"
+verb_name Talk = codes "talk"
 
 -- its arguments in order, and its options
 abbrev pub verb_rules : Verb → List Rule
 verb_rules Path =
     with_build (codes "MAP" ∷ codes "SX" ∷ codes "SY" ∷ codes "GX" ∷ codes "GY" ∷ [])
 verb_rules Check = with_build (codes "MAP" ∷ [])
+verb_rules Scen = with_build (codes "MAP" ∷ codes "SCEN" ∷ [])
+verb_rules Made = with_build (codes "W" ∷ codes "H" ∷ codes "SEED" ∷ [])
+verb_rules Replay = with_build (codes "MAP" ∷ codes "EVENTS" ∷ [])
+verb_rules Talk = with_build (codes "MAP" ∷ []) ++ option_rule (codes "room") ∷ []
 
 -- how they are shown
 abbrev pub verb_synopsis : Verb → Text
 verb_synopsis Path = codes " MAP SX SY GX GY [--order rows|dfs] [--workers N]"
 verb_synopsis Check = codes " MAP [--order rows|dfs] [--workers N]"
+verb_synopsis Scen = codes " MAP SCEN [--order rows|dfs] [--workers N]"
+verb_synopsis Made = codes " W H SEED [--order rows|dfs] [--workers N]"
+verb_synopsis Replay = codes " MAP EVENTS [--order rows|dfs] [--workers N]"
+verb_synopsis Talk = codes " MAP [--order rows|dfs] [--workers N] [--room N]"
 
 -- the command as clap reads it
 unfoldable pub app_for : Verb → App

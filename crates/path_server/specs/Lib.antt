@@ -4,7 +4,7 @@ pub mod Requests
 pub mod PlainWords
 pub mod Texts
 pub mod Queries
-pub mod Routes
 pub mod Statuses
 pub mod Runs
+pub mod Talks
 pub mod System

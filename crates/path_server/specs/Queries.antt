@@ -1,48 +1,71 @@
--- What a query for a path is answered.
-use Rattle.std.specs.Prelude.{◌≡◌, ◌⊎◌, ℕ, List, codes}
+-- What is printed of the answers of a version.
+use Rattle.std.specs.Prelude.{◌≡◌, ◌++◌, ℕ, List}
+use Rattle.root_cost.specs.declared.Cost.{Cost}
 use Rattle.root_cost.specs.Costs.{IsMicro}
 use Rattle.moves.specs.declared.Cell.{Cell}
 use Rattle.moves.specs.declared.Move.{Move}
-use Rattle.moves.specs.Maps.{Map, IsInside, IsPassable}
-use Rattle.moves.specs.Paths.{Reaches, cost_of, IsBest}
-use Rattle.path_server.specs.declared.query.End.{End}
-use Rattle.path_server.specs.declared.query.End.TheVariants.{Start, Goal}
-use Rattle.path_server.specs.declared.query.QueryRefusal.{QueryRefusal}
-use Rattle.path_server.specs.declared.query.QueryRefusal.TheVariants.{Outside, Blocked}
-use Rattle.path_server.specs.Texts.{path_text, unreachable_text}
+use Rattle.moves.specs.Paths.{cost_of}
+use Rattle.versions.specs.Databases.{Versioned}
+use Rattle.versions.specs.Answers.{Answer, refused, unreachable, path, IsAnswer}
+use Rattle.walker.specs.Walks.{Walking, IsAhead}
+use Rattle.scen_read.specs.declared.scenario.ScenLine.{ScenLine}
+use Rattle.scen_run.specs.declared.queries.QueryTotals.{QueryTotals}
+use Rattle.scen_run.specs.declared.results.LineResult.{LineResult}
+use Rattle.scen_run.specs.MadeQueries.{AreQueryTotals}
+use Rattle.scen_run.specs.Reports.{IsReport}
+use Rattle.scen_run.specs.Results.{AreLineResults}
+use Rattle.path_core.specs.Boards.{Boarded, new_board}
+use Rattle.path_replay.specs.declared.event.Event.{Event}
+use Rattle.path_replay.specs.Replays.{IsReplay}
+use Rattle.path_server.specs.Texts.{head_text, made_text, names_text, path_text, unreachable_text}
 
--- why a query is refused, in words
-abbrev pub refusal_text : QueryRefusal → List ℕ
-refusal_text (Outside Start) = codes "outside start"
-refusal_text (Outside Goal) = codes "outside goal"
-refusal_text (Blocked Start) = codes "blocked start"
-refusal_text (Blocked Goal) = codes "blocked goal"
+-- the text tells the cost and the floor of the exact length, and goes up to the moves
+pub record TellsHead (cost : Cost) (text : List ℕ) : Type 0 where
+  pub micro : ℕ
+  pub floor : IsMicro cost micro
+  pub is : text ≡ head_text cost micro
 
--- the cause to refuse one end
-abbrev pub IsEndRefusal : Map → Cell → End → QueryRefusal → Type 0
-IsEndRefusal map cell which (Outside end) = (end ≡ which) × (IsInside map cell → ⊥)
-IsEndRefusal map cell which (Blocked end) =
-    (end ≡ which) × IsInside map cell × (IsPassable map cell → ⊥)
+-- the text tells a path: its cost, the floor of its exact length to six digits, its moves
+pub record TellsPath (cost : Cost) (moves : List Move) (text : List ℕ) : Type 0 where
+  pub micro : ℕ
+  pub floor : IsMicro cost micro
+  pub is : text ≡ path_text cost micro moves
 
--- the first cause to refuse the two ends; the start is judged wholly before the goal
-abbrev pub IsRefusal : Map → Cell → Cell → QueryRefusal → Type 0
-IsRefusal map start goal (Outside Start) = IsInside map start → ⊥
-IsRefusal map start goal (Blocked Start) = IsInside map start × (IsPassable map start → ⊥)
-IsRefusal map start goal (Outside Goal) = IsPassable map start × (IsInside map goal → ⊥)
-IsRefusal map start goal (Blocked Goal) =
-    IsPassable map start × IsInside map goal × (IsPassable map goal → ⊥)
+-- the text tells the answer; a refusal has a status of its own and no such text
+abbrev pub Tells : Answer → List ℕ → Type 0
+Tells (refused why) text = ⊥
+Tells unreachable text = text ≡ unreachable_text
+Tells (path moves) text = TellsPath (cost_of moves) moves text
 
--- the text tells a best path from the start to the goal: its cost, the floor of its exact length
--- to six digits, its moves
-abbrev pub TellsBestPath : Map → Cell → Cell → List ℕ → Type 0
-TellsBestPath map start goal text =
-    (moves : List Move) × (micro : ℕ) × IsBest map start moves goal × IsMicro (cost_of moves) micro
-    × (text ≡ path_text (cost_of moves) micro moves)
+-- the text tells what the version answers
+pub record TellsAnswer (version : Versioned) (start goal : Cell) (text : List ℕ) : Type 0 where
+  pub answer : Answer
+  pub is : IsAnswer version start goal answer
+  pub told : Tells answer text
 
--- both ends are passable, and the text says `unreachable` where no path exists, and else tells a
--- best path
-pub record IsPathAnswer (map : Map) (start goal : Cell) (text : List ℕ) : Type 0 where
-  pub leaves : IsPassable map start
-  pub arrives : IsPassable map goal
-  pub told : ((Reaches map start goal → ⊥) × (text ≡ unreachable_text))
-      ⊎ TellsBestPath map start goal text
+-- the text is the report on what the version says of scenarios
+pub record TellsResults (version : Versioned) (scenarios : List ScenLine) (text : List ℕ) : Type 0 where
+  pub results : List LineResult
+  pub are : AreLineResults version scenarios results
+  pub report : IsReport results text
+
+-- the text tells how large the version is, and what its answers to the queries of the seed come to
+pub record TellsTotals (version : Versioned) (seed : ℕ) (text : List ℕ) : Type 0 where
+  pub totals : QueryTotals
+  pub are : AreQueryTotals version seed totals
+  pub is : text ≡ made_text version totals
+
+-- the text has the lines that events print on a board with no entries, whose first version this is
+pub record TellsReplay (version : Versioned) (events : List Event) (text : List ℕ) : Type 0 where
+  pub board : Boarded
+  pub is : IsReplay (new_board version.map version 0) events text board
+
+-- ---- while a walk is read
+
+-- the text grew by the moves that are ahead of the walk
+abbrev pub AppendsAhead : Walking → List ℕ → List ℕ → Type 0
+AppendsAhead walk old new = (moves : List Move) → IsAhead walk moves → new ≡ old ++ names_text moves
+
+-- the text tells the cost and the moves that are ahead of the walk
+abbrev pub TellsAhead : Walking → Cost → List ℕ → Type 0
+TellsAhead walk cost text = (moves : List Move) → IsAhead walk moves → TellsPath cost moves text

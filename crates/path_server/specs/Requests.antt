@@ -1,33 +1,71 @@
 -- What the words of a command line ask for.
-use Rattle.std.specs.Prelude.{ℕ, List, Option, Some, None, codes, if◌then◌else◌, option_and_then}
+use Rattle.std.specs.Prelude.{◌≡◌, ℕ, ◌≤◌, ◌*◌, nat_le, List, String, Option, Some, None, codes, if◌then◌else◌, option_and_then}
+use Rattle.std.specs.Global.{Global}
 use Rattle.clap.specs.Walk.{Text}
 use Rattle.moves.specs.declared.Cell.{Cell}
+use Rattle.moves.specs.declared.TheConstants.{MAX_CELLS}
+use Rattle.moves.specs.Maps.{IsWithinLimits}
+use Rattle.path_core.specs.declared.TheConstants.{MAX_ENTRIES}
 use Rattle.cell_order.specs.declared.OrderKind.{OrderKind}
 use Rattle.cell_order.specs.declared.OrderKind.TheVariants.{Rows}
 use Rattle.path_server.specs.declared.commands.Verb.{Verb}
 use Rattle.path_server.specs.declared.commands.Verb.TheVariants as verb
 use Rattle.path_server.specs.declared.request.BuildOptions.{BuildOptions}
 use Rattle.path_server.specs.declared.request.Request.{Request}
-use Rattle.path_server.specs.declared.request.Request.TheVariants.{Path, Check}
+use Rattle.path_server.specs.declared.request.Request.TheVariants.{Path, Check, Scen, Made, Replay, Talk}
+use Rattle.path_server.specs.declared.request.Sides.{Sides}
+use Rattle.path_server.specs.declared.words.TheConstants.{STANDARD_ROOM}
+use Rattle.path_server.specs.declared.words.NumberKind.{NumberKind}
+use Rattle.path_server.specs.declared.words.NumberKind.TheVariants as number
 use Rattle.path_server.specs.Commands.{app_for, verb_of}
-use Rattle.path_server.specs.Words.{coordinate_in, is_taken, order_in, path_in, value_of}
-use Rattle.path_server.specs.Words.{workers_in}
+use Rattle.path_server.specs.Words.{coordinate_in, is_taken, number_as, order_in, path_in, room_in}
+use Rattle.path_server.specs.Words.{texts_of, value_of, workers_in}
 
--- what is asked for, each with how a database is built: a best path between two cells of a map, or
--- whether a file is a map
+-- What is asked for, each with how a database is built: a best path between two cells of a map;
+-- whether a file is a map; what a map says of a file of scenarios; the map that is made of two sides
+-- and a seed; what a file of events prints on a board that begins with a map; and a session on such
+-- a board, with its room.
 pub data Asked : Type 0 where
   path : Text → Cell → Cell → BuildOptions → Asked
   check : Text → BuildOptions → Asked
+  scen : Text → Text → BuildOptions → Asked
+  made : Sides → ℕ → BuildOptions → Asked
+  replay : Text → Text → BuildOptions → Asked
+  talk : Text → ℕ → BuildOptions → Asked
 
 -- a request of the program, with the bytes of its texts
 abbrev pub asked : Request → Asked
 asked (Path map start goal build) = path map.now start goal build
 asked (Check map build) = check map.now build
+asked (Scen map scenarios build) = scen map.now scenarios.now build
+asked (Made sides seed build) = made sides seed build
+asked (Replay map events build) = replay map.now events.now build
+asked (Talk map room build) = talk map.now room build
 
--- the file that is to be read
-abbrev pub file_of : Asked → Text
-file_of (path map start goal build) = map
-file_of (check map build) = map
+-- the command that asks for it
+abbrev pub verb_asked : Asked → Verb
+verb_asked (path map start goal build) = verb.Path
+verb_asked (check map build) = verb.Check
+verb_asked (scen map scenarios build) = verb.Scen
+verb_asked (made sides seed build) = verb.Made
+verb_asked (replay map events build) = verb.Replay
+verb_asked (talk map room build) = verb.Talk
+
+-- how the first version of the map is built
+abbrev pub build_of : Asked → BuildOptions
+build_of (path map start goal build) = build
+build_of (check map build) = build
+build_of (scen map scenarios build) = build
+build_of (made sides seed build) = build
+build_of (replay map events build) = build
+build_of (talk map room build) = build
+
+-- a map that is made has sides within the limits, and a board has room for no more entries than it
+-- can have
+abbrev pub HasLimits : Asked → Type 0
+HasLimits (made sides seed build) = IsWithinLimits sides.width sides.height
+HasLimits (talk map room build) = room ≤ MAX_ENTRIES
+HasLimits _ = Unit {0}
 
 -- ---- what a command makes of its values, each of which has the name of an argument or option
 
@@ -51,6 +89,22 @@ cell_from _ _ = None
 unfoldable pub cell_at : Values → Text → Text → Option Cell
 cell_at values column row = cell_from (coordinate_at values column) (coordinate_at values row)
 
+-- the number of that kind that an argument names
+abbrev pub number_at : NumberKind → Values → Text → Option ℕ
+number_at kind values id = option_and_then (number_as kind) (values id)
+
+-- sides with so many cells as a map may have
+abbrev pub sides_from : Option ℕ → Option ℕ → Option Sides
+sides_from (Some width) (Some height) =
+    if nat_le (width * height) MAX_CELLS then Some (record { width = width; height = height })
+    else None
+sides_from _ _ = None
+
+-- the sides that two arguments name
+unfoldable pub sides_at : Values → Text → Text → Option Sides
+sides_at values width height =
+    sides_from (number_at number.Side values width) (number_at number.Side values height)
+
 -- what an option says, or the first value where it is not given
 abbrev pub given_or : {X : Type 0} → X → (Text → Option X) → Option Text → Option X
 given_or standard reader (Some text) = reader text
@@ -63,6 +117,10 @@ order_at values id = given_or Rows order_in (values id)
 -- how many threads build, one where no other number is given
 abbrev pub workers_at : Values → Text → Option ℕ
 workers_at values id = given_or 1 workers_in (values id)
+
+-- for how many entries a board takes memory first, 65,536 where no other number is given
+abbrev pub room_at : Values → Text → Option ℕ
+room_at values id = given_or STANDARD_ROOM room_in (values id)
 
 abbrev pub build_from : Option OrderKind → Option ℕ → Option BuildOptions
 build_from (Some order) (Some workers) = Some (record { order = order; workers = workers })
@@ -90,10 +148,50 @@ check_from _ _ = None
 unfoldable pub check_by : Values → Option Asked
 check_by values = check_from (path_at values (codes "MAP")) (build_at values)
 
+abbrev pub scen_from : Option Text → Option Text → Option BuildOptions → Option Asked
+scen_from (Some map) (Some scenarios) (Some build) = Some (scen map scenarios build)
+scen_from _ _ _ = None
+
+-- `scen MAP SCEN`
+unfoldable pub scen_by : Values → Option Asked
+scen_by values = scen_from (path_at values (codes "MAP")) (path_at values (codes "SCEN"))
+    (build_at values)
+
+abbrev pub made_from : Option Sides → Option ℕ → Option BuildOptions → Option Asked
+made_from (Some sides) (Some seed) (Some build) = Some (made sides seed build)
+made_from _ _ _ = None
+
+-- `made W H SEED`
+unfoldable pub made_by : Values → Option Asked
+made_by values = made_from (sides_at values (codes "W") (codes "H"))
+    (number_at number.Seed values (codes "SEED")) (build_at values)
+
+abbrev pub replay_from : Option Text → Option Text → Option BuildOptions → Option Asked
+replay_from (Some map) (Some events) (Some build) = Some (replay map events build)
+replay_from _ _ _ = None
+
+-- `replay MAP EVENTS`
+unfoldable pub replay_by : Values → Option Asked
+replay_by values = replay_from (path_at values (codes "MAP")) (path_at values (codes "EVENTS"))
+    (build_at values)
+
+abbrev pub talk_from : Option Text → Option ℕ → Option BuildOptions → Option Asked
+talk_from (Some map) (Some room) (Some build) = Some (talk map room build)
+talk_from _ _ _ = None
+
+-- `talk MAP`, with `--room N`
+unfoldable pub talk_by : Values → Option Asked
+talk_by values = talk_from (path_at values (codes "MAP")) (room_at values (codes "room"))
+    (build_at values)
+
 -- what each command makes of its values
 abbrev pub asked_by : Verb → Values → Option Asked
 asked_by verb.Path = path_by
 asked_by verb.Check = check_by
+asked_by verb.Scen = scen_by
+asked_by verb.Made = made_by
+asked_by verb.Replay = replay_by
+asked_by verb.Talk = talk_by
 
 -- ---- the command line
 
@@ -105,3 +203,11 @@ request_by verb words =
 -- what the words of a command line ask for, or None where no command takes them
 unfoldable pub request_of : List Text → Option Asked
 request_of words = option_and_then (λ verb. request_by verb words) (verb_of words)
+
+-- the first word is `talk`
+abbrev pub IsTalk : List (String Global) → Type 0
+IsTalk words = verb_of (texts_of words) ≡ Some verb.Talk
+
+-- it is not: what the words come to is printed
+abbrev pub IsPrinted : List (String Global) → Type 0
+IsPrinted words = IsTalk words → ⊥

@@ -1,5 +1,5 @@
 -- The words of a command, as clap reads them, and what a value of a command may be.
-use Rattle.std.specs.Prelude.{◌≡◌, ℕ, Bool, true, ◌&&◌, List, [], ◌∷◌, Option, Some, None, String}
+use Rattle.std.specs.Prelude.{◌≡◌, ◌<◌, ◌≤◌, ℕ, Bool, true, ◌&&◌, List, [], ◌∷◌, Option, Some, None, String}
 use Rattle.std.specs.Prelude.{map, length, codes, nat_lt, nat_le, if◌then◌else◌, string_bytes}
 use Rattle.std.specs.Prelude.{IsTrue}
 use Rattle.std.specs.Char.{is_ascii_digit}
@@ -15,7 +15,11 @@ use Rattle.clap.specs.declared.builder.action.ArgAction.TheVariants.{Set}
 use Rattle.clap.specs.declared.parser.matches.ArgMatches.{ArgMatches}
 use Rattle.cell_order.specs.declared.OrderKind.{OrderKind}
 use Rattle.cell_order.specs.declared.OrderKind.TheVariants.{Rows, Dfs}
-use Rattle.path_server.specs.declared.words.TheConstants.{MAX_WORKERS}
+use Rattle.build_pool.specs.declared.TheConstants.{MAX_WORKERS}
+use Rattle.moves.specs.declared.TheConstants.{MAX_SIDE}
+use Rattle.path_core.specs.declared.TheConstants.{MAX_ENTRIES}
+use Rattle.path_server.specs.declared.words.NumberKind.{NumberKind}
+use Rattle.path_server.specs.declared.words.NumberKind.TheVariants as number
 
 -- the bytes of each word
 abbrev pub texts_of : List (String Global) → List Text
@@ -66,23 +70,51 @@ is_number text = nat_lt 0 (length text) && (nat_le (length text) 10 && list_all 
 unfoldable pub number_in : Text → Option ℕ
 number_in text = if is_number text then Some (digits_value 10 text) else None
 
--- the number where it is not above the limit
-abbrev pub up_to : ℕ → Option ℕ → Option ℕ
-up_to limit (Some number) = if nat_le number limit then Some number else None
-up_to limit None = None
+-- the least number of each kind, and the greatest
+abbrev pub least : NumberKind → ℕ
+least number.Coordinate = 0
+least number.Side = 1
+least number.Seed = 0
+least number.Workers = 1
+least number.Room = 0
 
--- the number where it is not 0
-abbrev pub not_zero : Option ℕ → Option ℕ
-not_zero (Some number) = if nat_lt 0 number then Some number else None
-not_zero None = None
+abbrev pub most : NumberKind → ℕ
+most number.Coordinate = 65535
+most number.Side = MAX_SIDE
+most number.Seed = 4294967295
+most number.Workers = MAX_WORKERS
+most number.Room = MAX_ENTRIES
+
+-- the number where it is from the one to the other
+abbrev pub between : ℕ → ℕ → Option ℕ → Option ℕ
+between low high (Some value) = if nat_le low value && nat_le value high then Some value else None
+between low high None = None
+
+-- the number of that kind that the text writes
+unfoldable pub number_as : NumberKind → Text → Option ℕ
+number_as kind text = between (least kind) (most kind) (number_in text)
+
+-- the number is of that kind
+pub record IsOfKind (kind : NumberKind) (value : ℕ) : Type 0 where
+  pub above : least kind ≤ value
+  pub below : value ≤ most kind
 
 -- a column or a row: a number from 0 to 65,535
-unfoldable pub coordinate_in : Text → Option ℕ
-coordinate_in text = up_to 65535 (number_in text)
+abbrev pub coordinate_in : Text → Option ℕ
+coordinate_in = number_as number.Coordinate
 
 -- how many threads build a database: a number from 1 to 64
-unfoldable pub workers_in : Text → Option ℕ
-workers_in text = not_zero (up_to MAX_WORKERS (number_in text))
+abbrev pub workers_in : Text → Option ℕ
+workers_in = number_as number.Workers
+
+-- for how many entries a board takes memory first: a number from 0 to 2,097,153
+abbrev pub room_in : Text → Option ℕ
+room_in = number_as number.Room
+
+-- so many threads may build
+pub record AreWorkers (workers : ℕ) : Type 0 where
+  pub some : 0 < workers
+  pub few : workers ≤ MAX_WORKERS
 
 -- an order of cells
 abbrev pub order_in : Text → Option OrderKind

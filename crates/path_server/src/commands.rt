@@ -1,13 +1,15 @@
 //! The commands of the program: a line each, with its name, its arguments and its options.
-ghost use Rattle.std.specs.Prelude.{◌≡◌, false, flat_map, map, IfOk, is_some};
+ghost use Rattle.std.specs.Prelude.{◌≡◌, bytes_eq, false, find, flat_map, map, position, IfOk};
+ghost use Rattle.std.specs.Prelude.{is_some, slice_get};
 ghost use Rattle.clap.specs.Words.{app_of, rule_of};
 ghost use Rattle.path_server.specs.Commands.{app_for, field_text, form_text, is_value, rule_for};
 ghost use Rattle.path_server.specs.Commands.{verb_name, verb_named, verb_rules, verb_synopsis};
 
-use crate::words::{coordinate, file_name, order, workers};
+use crate::words::{NumberKind, file_name, order};
 use clap::{Arg, ArgAction, Command};
 use std::alloc::{AllocError, Global};
 use std::fmt;
+use std::fmt::Write;
 
 /// A command of the program.
 #[derive(Clone, Copy, Debug, PartialEq, Eq)]
@@ -16,6 +18,14 @@ pub enum Verb {
     Path,
     /// Whether a file is a map, and its size.
     Check,
+    /// What a map says of a file of scenarios.
+    Scen,
+    /// How large a map is that is made of two sides and a seed, and what queries on it come to.
+    Made,
+    /// What a file of events prints, on a board that begins with a map.
+    Replay,
+    /// A session on a board that begins with a map.
+    Talk,
 }
 
 /// An argument or an option of a command, and what its value may be.
@@ -32,33 +42,67 @@ pub enum Field {
 pub enum Value {
     /// The name of a file.
     File,
-    /// A column or a row.
-    Coordinate,
+    /// A number.
+    Number(NumberKind),
     /// An order of cells.
     Order,
-    /// How many threads build.
-    Workers,
 }
 
 static PATH_FIELDS: [Field; 7] = [
     Field::Argument("MAP", Value::File),
-    Field::Argument("SX", Value::Coordinate),
-    Field::Argument("SY", Value::Coordinate),
-    Field::Argument("GX", Value::Coordinate),
-    Field::Argument("GY", Value::Coordinate),
+    Field::Argument("SX", Value::Number(NumberKind::Coordinate)),
+    Field::Argument("SY", Value::Number(NumberKind::Coordinate)),
+    Field::Argument("GX", Value::Number(NumberKind::Coordinate)),
+    Field::Argument("GY", Value::Number(NumberKind::Coordinate)),
     Field::Setting("order", Value::Order),
-    Field::Setting("workers", Value::Workers),
+    Field::Setting("workers", Value::Number(NumberKind::Workers)),
 ];
 
 static CHECK_FIELDS: [Field; 3] = [
     Field::Argument("MAP", Value::File),
     Field::Setting("order", Value::Order),
-    Field::Setting("workers", Value::Workers),
+    Field::Setting("workers", Value::Number(NumberKind::Workers)),
+];
+
+static SCEN_FIELDS: [Field; 4] = [
+    Field::Argument("MAP", Value::File),
+    Field::Argument("SCEN", Value::File),
+    Field::Setting("order", Value::Order),
+    Field::Setting("workers", Value::Number(NumberKind::Workers)),
+];
+
+static MADE_FIELDS: [Field; 5] = [
+    Field::Argument("W", Value::Number(NumberKind::Side)),
+    Field::Argument("H", Value::Number(NumberKind::Side)),
+    Field::Argument("SEED", Value::Number(NumberKind::Seed)),
+    Field::Setting("order", Value::Order),
+    Field::Setting("workers", Value::Number(NumberKind::Workers)),
+];
+
+static REPLAY_FIELDS: [Field; 4] = [
+    Field::Argument("MAP", Value::File),
+    Field::Argument("EVENTS", Value::File),
+    Field::Setting("order", Value::Order),
+    Field::Setting("workers", Value::Number(NumberKind::Workers)),
+];
+
+static TALK_FIELDS: [Field; 4] = [
+    Field::Argument("MAP", Value::File),
+    Field::Setting("order", Value::Order),
+    Field::Setting("workers", Value::Number(NumberKind::Workers)),
+    Field::Setting("room", Value::Number(NumberKind::Room)),
 ];
 
 impl Verb {
     /// All commands.
-    pub const ALL: [Verb; 2] = [Verb::Path, Verb::Check];
+    pub const ALL: [Verb; 6] = [
+        Verb::Path,
+        Verb::Check,
+        Verb::Scen,
+        Verb::Made,
+        Verb::Replay,
+        Verb::Talk,
+    ];
 
     /// The word that names the command.
     pub fn name(self) -> &'static str
@@ -67,6 +111,10 @@ impl Verb {
         match self {
             Verb::Path => "path",
             Verb::Check => "check",
+            Verb::Scen => "scen",
+            Verb::Made => "made",
+            Verb::Replay => "replay",
+            Verb::Talk => "talk",
         }
     }
 
@@ -78,6 +126,10 @@ impl Verb {
         match self {
             Verb::Path => PATH_FIELDS.as_slice(),
             Verb::Check => CHECK_FIELDS.as_slice(),
+            Verb::Scen => SCEN_FIELDS.as_slice(),
+            Verb::Made => MADE_FIELDS.as_slice(),
+            Verb::Replay => REPLAY_FIELDS.as_slice(),
+            Verb::Talk => TALK_FIELDS.as_slice(),
         }
     }
 
@@ -86,8 +138,30 @@ impl Verb {
     pub fn named(name: &str) -> Option<Verb>
         ensures { result ≡ verb_named name.now }
     {
-        Verb::ALL.iter().find(|verb| verb.name() == name).copied()
+        first_named(&Verb::ALL, name)
     }
+}
+
+/// The first of these commands that has the name.
+fn first_named(verbs: &[Verb], name: &str) -> Option<Verb>
+    ensures { result ≡ find (λ verb. bytes_eq (verb_name verb) name.now) verbs.now }
+{
+    let place = first_place(verbs, name)?;
+    verb_at(verbs, place)
+}
+
+/// The command at that place.
+fn verb_at(verbs: &[Verb], place: usize) -> Option<Verb>
+    ensures { result ≡ slice_get verbs.now place }
+{
+    verbs.get(place).copied()
+}
+
+/// The place of the first of these commands that has the name.
+fn first_place(verbs: &[Verb], name: &str) -> Option<usize>
+    ensures { result ≡ position (λ verb. bytes_eq (verb_name verb) name.now) verbs.now }
+{
+    verbs.iter().position(|verb| verb.name() == name)
 }
 
 impl Field {
@@ -123,19 +197,20 @@ impl Value {
     {
         match self {
             Value::File => file_name(text).is_some(),
-            Value::Coordinate => coordinate(text).is_some(),
+            Value::Number(kind) => kind.read(text).is_some(),
             Value::Order => order(text).is_some(),
-            Value::Workers => workers(text).is_some(),
         }
     }
 
-    /// What such a value is, in words.
-    pub fn wanted(self) -> &'static str {
+    /// Writes what such a value is, in words.
+    pub fn push_wanted(self, text: &mut String) -> Result<(), AllocError> {
         match self {
-            Value::File => "the name of a file",
-            Value::Coordinate => "a number from 0 to 65535",
-            Value::Order => "rows or dfs",
-            Value::Workers => "a number from 1 to 64",
+            Value::File => text.push_str("the name of a file"),
+            Value::Number(kind) => {
+                let (least, most) = (kind.least(), kind.most());
+                write!(text, "a number from {least} to {most}")
+            }
+            Value::Order => text.push_str("rows or dfs"),
         }
     }
 }
@@ -149,7 +224,7 @@ impl fmt::Display for Value {
     fn fmt<W: fmt::Write>(&self, f: &mut fmt::Formatter<W>) -> fmt::Result {
         match self {
             Value::File => write!(f, "FILE"),
-            Value::Coordinate | Value::Workers => write!(f, "N"),
+            Value::Number(_) => write!(f, "N"),
             Value::Order => write!(f, "rows|dfs"),
         }
     }

@@ -6,15 +6,18 @@ ghost use Rattle.path_server.specs.Commands.{field_text, verb_name, verb_synopsi
 ghost use Rattle.path_server.specs.Texts.{line};
 
 use crate::commands::{Field, Verb, command};
-use crate::query::{End, QueryRefusal};
 use crate::request::{Request, RequestError, first_verb, read_request};
 use crate::status::Status;
 use clap::ArgMatches;
-use map_read::MapFault;
+use map_read::{MAX_MAP_BYTES, MapFault};
 use moves::{Cell, MAX_CELLS, MAX_PASSABLE, MAX_SIDE};
+use query_proto::MAX_REQUEST;
+use scen_read::ScenFault;
+use session::SessionFault;
 use std::alloc::{AllocError, Global};
 use std::fmt::Write;
 use std::io::ErrorKind;
+use versions::{End, QueryRefusal};
 
 /// What to tell of a run over these words that ended so; `reason` is why the last file was not
 /// read. The text is empty where the work was done, and ends with a line feed where it is not.
@@ -32,6 +35,7 @@ pub fn advice(
         (Status::Usage, _) => push_usage(&mut text, alloc, words)?,
         (Status::NoMemory, _) => text.push_str("path_server: out of memory\n")?,
         (Status::WriteFault, _) => text.push_str("path_server: the output failed\n")?,
+        (Status::Broken(fault), _) => push_broken(&mut text, *fault)?,
         (_, Ok(request)) => push_on_file(&mut text, request, status, reason)?,
         (_, Err(_)) => {}
     }
@@ -46,6 +50,21 @@ pub fn argument_advice(error: RequestError) -> &'static str {
     }
 }
 
+/// How the input of a session broke off.
+fn push_broken(text: &mut String, fault: SessionFault) -> Result<(), AllocError> {
+    match fault {
+        SessionFault::Torn { have, want } => {
+            text.push_str("path_server talk: the input ended inside a frame, ")?;
+            write!(text, "{have} of {want} bytes\n")
+        }
+        SessionFault::TooLong { length } => {
+            text.push_str("path_server talk: a frame of ")?;
+            write!(text, "{length} bytes is longer than {MAX_REQUEST}\n")
+        }
+        SessionFault::ReadFault | SessionFault::WriteFault => Ok(()),
+    }
+}
+
 /// What is wrong with the file that was asked for, or with the query of it.
 fn push_on_file(
     text: &mut String,
@@ -53,29 +72,80 @@ fn push_on_file(
     status: &Status,
     reason: Option<ErrorKind>,
 ) -> Result<(), AllocError> {
-    let file = request.map();
-    match status {
-        Status::ReadFault => push_read_fault(text, file, reason),
-        Status::TooLong { limit } => write!(text, "{file}: expected at most {limit} bytes\n"),
-        Status::Map(fault) => push_map_fault(text, file, *fault),
-        Status::Query(refusal) => push_refusal(text, file, request, *refusal),
+    match (status, request) {
+        (Status::ReadFault, Request::Talk { .. }) if reason.is_none() => {
+            text.push_str("path_server talk: the input failed\n")
+        }
+        (Status::ReadFault, _) => push_read_fault(text, request, reason),
+        (Status::TooLong { limit }, _) => push_too_long(text, request, *limit),
+        (Status::Map(fault), Request::Made { .. }) => push_made_fault(text, *fault),
+        (Status::Map(fault), Request::Path { map, .. }) => push_map_fault(text, map, *fault),
+        (Status::Map(fault), Request::Check { map, .. }) => push_map_fault(text, map, *fault),
+        (Status::Map(fault), Request::Scen { map, .. }) => push_map_fault(text, map, *fault),
+        (Status::Map(fault), Request::Replay { map, .. }) => push_map_fault(text, map, *fault),
+        (Status::Map(fault), Request::Talk { map, .. }) => push_map_fault(text, map, *fault),
+        (Status::Scen(fault), Request::Scen { scenarios, .. }) => {
+            push_scenario_fault(text, scenarios, *fault)
+        }
+        (Status::Events { line }, Request::Replay { events, .. }) => {
+            push_events_fault(text, events, *line)
+        }
+        (
+            Status::Query(refusal),
+            Request::Path {
+                map,
+                start,
+                goal,
+                ..
+            },
+        ) => { push_refusal(text, map, start, goal, *refusal) }
         _ => Ok(()),
     }
 }
 
 // ---- files
 
-/// Why the file was not read.
+/// The names of the files that a request is about, where there are two the later one behind the
+/// other.
+fn push_files(text: &mut String, request: Request) -> Result<(), AllocError> {
+    match request {
+        Request::Path { map, .. } | Request::Check { map, .. } | Request::Talk { map, .. } => {
+            text.push_str(map)
+        }
+        Request::Scen { map, scenarios, .. } => write!(text, "{map} or {scenarios}"),
+        Request::Replay { map, events, .. } => write!(text, "{map} or {events}"),
+        Request::Made { .. } => Ok(()),
+    }
+}
+
+/// Why a file was not read.
 fn push_read_fault(
     text: &mut String,
-    file: &str,
+    request: Request,
     reason: Option<ErrorKind>,
 ) -> Result<(), AllocError> {
+    text.push_str("path_server: ")?;
+    push_files(text, request)?;
     match reason {
-        Some(ErrorKind::NotFound) => write!(text, "path_server: {file}: no such file\n"),
-        Some(reason) => write!(text, "path_server: {file}: {reason}\n"),
-        None => write!(text, "path_server: {file}: it cannot be read\n"),
+        Some(ErrorKind::NotFound) => text.push_str(": no such file\n"),
+        Some(reason) => write!(text, ": {reason}\n"),
+        None => text.push_str(": it cannot be read\n"),
     }
+}
+
+/// How long a file may be; the later one may have more bytes than a map.
+fn push_too_long(text: &mut String, request: Request, limit: u32) -> Result<(), AllocError> {
+    match request {
+        Request::Scen { scenarios, .. } if limit as usize != MAX_MAP_BYTES => {
+            text.push_str(scenarios)?
+        }
+        Request::Replay { events, .. } if limit as usize != MAX_MAP_BYTES => {
+            text.push_str(events)?
+        }
+        Request::Scen { map, .. } | Request::Replay { map, .. } => text.push_str(map)?,
+        _ => push_files(text, request)?,
+    }
+    write!(text, ": expected at most {limit} bytes\n")
 }
 
 /// How many lines stand before the first row of a map, and 1 more: lines are numbered from 1.
@@ -120,6 +190,49 @@ fn push_map_fault(text: &mut String, file: &str, fault: MapFault) -> Result<(), 
     }
 }
 
+/// Why a map is not made.
+fn push_made_fault(text: &mut String, fault: MapFault) -> Result<(), AllocError> {
+    match fault {
+        MapFault::TooManyCells { x, y } => {
+            write!(text, "path_server made: expected at most {MAX_PASSABLE} ")?;
+            write!(text, "passable cells, one more at column {x} and row {y}\n")
+        }
+        _ => Ok(()),
+    }
+}
+
+/// The line at which scenarios are refused, and what was expected there.
+fn push_scenario_fault(text: &mut String, file: &str, fault: ScenFault) -> Result<(), AllocError> {
+    match fault {
+        ScenFault::Version => write!(text, "{file}:1: expected 'version 1'\n"),
+        ScenFault::Fields { line, found } => {
+            write!(text, "{file}:{line}: expected ")?;
+            write!(text, "9 fields, found {found}\n")
+        }
+        ScenFault::Number { line, field } => {
+            let wanted = field_wanted(field);
+            write!(text, "{file}:{line}: expected ")?;
+            write!(text, "{wanted} in field {field}\n")
+        }
+    }
+}
+
+/// The line at which events are refused, and what an event is.
+fn push_events_fault(text: &mut String, file: &str, line: u32) -> Result<(), AllocError> {
+    write!(text, "{file}:{line}: expected an event: ")?;
+    text.push_str("submit P X Y B, look P, query P SX SY GX GY, ")?;
+    text.push_str("begin P, row P, publish P or halt P\n")
+}
+
+/// What is expected in a field of a scenario, of which the second is a name and the last a length.
+fn field_wanted(field: u32) -> &'static str {
+    match field {
+        1 | 3 | 4 => "a number from 0 to 4294967295",
+        9 => "a length of at most 7 digits before the point",
+        _ => "a number from 0 to 65535",
+    }
+}
+
 /// The line of the file, from 1 on, at which a map is refused.
 fn fault_line(fault: MapFault) -> u32 {
     match fault {
@@ -135,17 +248,17 @@ fn fault_line(fault: MapFault) -> u32 {
 fn push_refusal(
     text: &mut String,
     file: &str,
-    request: Request,
+    start: Cell,
+    goal: Cell,
     refusal: QueryRefusal,
 ) -> Result<(), AllocError> {
     let (which, why) = match refusal {
         QueryRefusal::Outside { which } => (which, "lies outside the map"),
         QueryRefusal::Blocked { which } => (which, "is blocked"),
     };
-    match (request, which) {
-        (Request::Path { start, .. }, End::Start) => push_end(text, file, "start", start, why),
-        (Request::Path { goal, .. }, End::Goal) => push_end(text, file, "goal", goal, why),
-        (Request::Check { .. }, _) => Ok(()),
+    match which {
+        End::Start => push_end(text, file, "start", start, why),
+        End::Goal => push_end(text, file, "goal", goal, why),
     }
 }
 
@@ -256,11 +369,15 @@ fn push_wrong_value(
         let (Field::Argument(id, value) | Field::Setting(id, value)) = *field;
         if let Some(word) = matches.get_str(id) {
             if !value.takes(word) {
-                let wanted = value.wanted();
                 write!(text, "path_server {name}: ")?;
-                return write!(text, "{id}: '{word}' is not {wanted}\n");
+                write!(text, "{id}: '{word}' is not ")?;
+                value.push_wanted(text)?;
+                return text.push_str("\n");
             }
         }
     }
-    Ok(())
+    write!(
+        text,
+        "path_server {name}: W H: expected at most {MAX_CELLS} cells\n"
+    )
 }

@@ -4,35 +4,49 @@
 
 mod check;
 mod commands;
+mod database;
+mod file;
 mod help;
+mod made;
 mod map_file;
 mod path;
-mod query;
+mod replay;
 mod request;
 mod request_laws;
-mod route;
 mod run;
+mod scen;
 mod status;
 mod system;
+mod talk;
+mod task;
 mod words;
 
+use build_pool::FreeGate;
 use help::{advice, argument_advice};
 use run::{refuse, run};
 use status::Status;
 use std::process::ExitCode;
 use std::{env, io};
 use system::{command_words, exit_code};
-use wire::{HostFiles, StdSink};
+use wire::{HostFiles, StdLink, StdSink};
 
-/// Runs the command that the words ask for over the system's files and standard output, and tells
-/// on standard error what a person may do about an end other than `Done`.
+/// Runs the command that the words ask for over the system's files, standard input and standard
+/// output, and tells on standard error what a person may do about an end other than `Done`.
 fn main(rt: HostRuntime) -> ExitCode {
     let mut files = HostFiles::new(&rt);
     let mut out = StdSink::new(&rt);
     let arguments = arguments(&rt);
     let status = match command_words(&arguments) {
         Ok(words) => {
-            let status = run(rt.alloc(), words, &mut files, &mut out);
+            let status = run(
+                &rt,
+                rt.alloc(),
+                words,
+                &mut files,
+                &mut StdLink::new(&rt),
+                &mut out,
+                &FreeGate,
+            );
             if let Ok(text) = advice(rt.alloc(), words, &status, files.reason()) {
                 tell(&rt, text.as_str());
             }

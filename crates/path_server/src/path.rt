@@ -1,64 +1,59 @@
-//! `path MAP SX SY GX GY`: a best path between two cells of a map.
+//! `path MAP SX SY GX GY`: the path between two cells of a map, read from the map's database.
 
-ghost use Rattle.std.specs.Prelude.{◌≡◌, ℕ, ◌≤◌, ◌++◌, IfErr, IfOk, string_bytes};
-ghost use Rattle.root_cost.specs.Costs.{IsMicro};
-ghost use Rattle.moves.specs.Maps.{IsPassable, IsSearchable};
-ghost use Rattle.grid_search.specs.Searches.{HasSearched};
-ghost use Rattle.path_server.specs.Queries.{IsPathAnswer};
-ghost use Rattle.path_server.specs.Runs.{IsQueryCause};
-ghost use Rattle.path_server.specs.Texts.{names_text, path_text, unreachable_text};
+ghost use Rattle.std.specs.Prelude.{◌≡◌, ◌≤◌, IfErr, IfOk, string_bytes};
+ghost use Rattle.walker.specs.Walks.{HasFewAhead};
+ghost use Rattle.path_server.specs.Queries.{AppendsAhead, TellsAhead, TellsAnswer, TellsHead};
+ghost use Rattle.path_server.specs.Runs.{IsPathCause};
+ghost use Rattle.path_server.specs.Texts.{unreachable_text};
 
-use crate::query::judge;
-use crate::route::best_path;
 use crate::status::Status;
-use grid_search::Search;
-use moves::{Cell, Grid, Move};
+use moves::{Cell, MAX_PASSABLE};
 use root_cost::{Cost, MAX_STEPS};
 use std::alloc::{AllocError, Global};
 use std::fmt::Write;
+use versions::Version;
+use walker::{Walk, measure};
 
-/// The text that tells a best path between two cells of the map, or that there is none.
-pub fn answer_path(alloc: Global, grid: &Grid, start: Cell, goal: Cell) -> Result<String, Status>
-    requires { IsSearchable grid.now }
-    ensures done { IfOk result (λ text. IsPathAnswer grid.now start goal (string_bytes text)) }
-    ensures refused { IfErr result (λ status. IsQueryCause grid.now start goal status) }
-{
-    judge(grid, start, goal)?;
-    let cells = grid.width() * grid.height();
-    let mut search = Search::new(alloc, cells as usize)?;
-    search.from_source(grid, goal);
-    Ok(tell_path(alloc, grid, &search, start, goal)?)
-}
-
-/// Tells a best path to the cell from which the search was made, or that there is none.
-fn tell_path(
+/// The text that tells the walk between two cells, or that no path exists.
+pub fn answer_path(
     alloc: Global,
-    grid: &Grid,
-    search: &Search,
+    version: &Version,
     start: Cell,
     goal: Cell,
-) -> Result<String, AllocError>
-    requires searched { HasSearched grid.now goal search.now }
-    requires cells { IsSearchable grid.now }
-    requires start { IsPassable grid.now start }
-    requires goal { IsPassable grid.now goal }
-    ensures { IfOk result (λ text. IsPathAnswer grid.now start goal (string_bytes text)) }
+) -> Result<String, Status>
+    ensures done { IfOk result (λ text.
+        TellsAnswer version.entry.now start goal (string_bytes text)) }
+    ensures refused { IfErr result (IsPathCause version.entry.now start goal) }
 {
-    match search.cost(start) {
-        None => unreachable_text(alloc),
-        Some(cost) => {
-            let moves = best_path(alloc, grid, search, start, goal, cost)?;
-            path_text(alloc, cost, moves.as_slice())
+    match Walk::start(version, start, goal)? {
+        None => Ok(unreachable_text(alloc)?),
+        Some(mut walk) => {
+            // A path exists, and so it has a cost.
+            let cost = measure(version, start, goal)?.unwrap();
+            Ok(path_text(alloc, cost, &mut walk)?)
         }
     }
 }
 
-/// The cost, the length and the moves of a path, a line each.
-fn path_text(alloc: Global, cost: Cost, moves: &[Move]) -> Result<String, AllocError>
+/// The cost, the length and the moves that are ahead of a walk, a line each. The walk is at its
+/// goal then.
+fn path_text(alloc: Global, cost: Cost, walk: &mut Walk) -> Result<String, AllocError>
     requires straight { cost.straight ≤ MAX_STEPS }
     requires diagonal { cost.diagonal ≤ MAX_STEPS }
-    ensures { IfOk result (λ text. (micro : ℕ) × IsMicro cost micro
-        × (string_bytes text ≡ path_text cost micro moves.now)) }
+    requires few { HasFewAhead walk.old }
+    ensures { IfOk result (λ text. TellsAhead walk.old cost (string_bytes text)) }
+{
+    let mut text = head_text(alloc, cost)?;
+    push_moves(&mut text, walk)?;
+    text.push_str("\n")?;
+    Ok(text)
+}
+
+/// The cost and the length of a path, a line each, and the word before its moves.
+fn head_text(alloc: Global, cost: Cost) -> Result<String, AllocError>
+    requires straight { cost.straight ≤ MAX_STEPS }
+    requires diagonal { cost.diagonal ≤ MAX_STEPS }
+    ensures { IfOk result (λ text. TellsHead cost (string_bytes text)) }
 {
     let Cost { straight, diagonal } = cost;
     let length = cost.length();
@@ -66,18 +61,20 @@ fn path_text(alloc: Global, cost: Cost, moves: &[Move]) -> Result<String, AllocE
     write!(text, "cost {straight} {diagonal}\n")?;
     write!(text, "length {length}\n")?;
     text.push_str("moves")?;
-    push_names(&mut text, moves)?;
-    text.push_str("\n")?;
     Ok(text)
 }
 
-/// Writes the names of moves, a space before each.
-fn push_names(text: &mut String, moves: &[Move]) -> Result<(), AllocError>
+/// Writes the names of the moves that are ahead of a walk, a space before each, as they are read.
+fn push_moves(text: &mut String, walk: &mut Walk) -> Result<(), AllocError>
+    requires { HasFewAhead walk.old }
     ensures { IfOk result (λ _.
-        string_bytes text.new ≡ string_bytes text.old ++ names_text moves.now) }
+        AppendsAhead walk.old (string_bytes text.old) (string_bytes text.new)) }
 {
-    for by in moves {
-        write!(text, " {by}")?;
+    for _ in 0..MAX_PASSABLE {
+        match walk.step() {
+            Some(by) => write!(text, " {by}")?,
+            None => return Ok(()),
+        }
     }
     Ok(())
 }

@@ -1,20 +1,26 @@
 //! What the words of a command line ask for.
-ghost use Rattle.std.specs.Prelude.{◌≡◌, ◌≢◌, IfOk, None, Some, false, option_map};
+ghost use Rattle.std.specs.Prelude.{◌≡◌, ◌≢◌, ◌≤◌, IfOk, IfSome, IsFalse, IsTrue, None, Some, false, option_map};
 ghost use Rattle.clap.specs.Words.{first_value, found_of, kind_of};
 ghost use Rattle.path_server.specs.declared.request.RequestError.TheVariants.{NoMemory, Usage};
 ghost use Rattle.clap.specs.declared.error.kind.ErrorKind.TheVariants.{OutOfMemory};
 ghost use Rattle.path_server.specs.Commands.{app_for, verb_of};
-ghost use Rattle.path_server.specs.Words.{HasValues, is_taken, texts_of};
-ghost use Rattle.path_server.specs.Requests.{asked, asked_by, build_at, cell_at, check_by, coordinate_at};
-ghost use Rattle.path_server.specs.Requests.{file_of, order_at, path_at, path_by, request_by, request_of};
-ghost use Rattle.path_server.specs.Requests.{workers_at};
+ghost use Rattle.path_server.specs.Words.{AreWorkers, HasValues, is_taken, texts_of};
+ghost use Rattle.moves.specs.Maps.{IsWithinLimits};
+ghost use Rattle.path_core.specs.declared.TheConstants.{MAX_ENTRIES};
+ghost use Rattle.path_server.specs.declared.commands.Verb.{Verb};
+ghost use Rattle.path_server.specs.Words.{IsOfKind};
+ghost use Rattle.path_server.specs.Requests.{HasLimits, IsPrinted, IsTalk, asked, asked_by, build_at};
+ghost use Rattle.path_server.specs.Requests.{build_of, cell_at};
+ghost use Rattle.path_server.specs.Requests.{check_by, coordinate_at, made_by, number_at, order_at};
+ghost use Rattle.path_server.specs.Requests.{path_at, path_by, replay_by, request_by, request_of};
+ghost use Rattle.path_server.specs.Requests.{room_at, scen_by, sides_at, talk_by, verb_asked, workers_at};
 
 use crate::commands::{Verb, command};
-use crate::words::{coordinate, file_name, order, workers};
+use crate::words::{NumberKind, STANDARD_ROOM, coordinate, file_name, order, workers};
 use cell_order::OrderKind;
 use clap::error::ErrorKind;
 use clap::{ArgMatches, Error};
-use moves::Cell;
+use moves::{Cell, MAX_CELLS};
 use std::alloc::{AllocError, Global};
 
 /// What the words of a command line ask for.
@@ -38,6 +44,53 @@ pub enum Request<'a> {
         /// How a database of the map is built.
         build: BuildOptions,
     },
+    /// What a map says of scenarios.
+    Scen {
+        /// The name of the map's file, which is not empty.
+        map: &'a str,
+        /// The name of the scenarios' file, which is not empty.
+        scenarios: &'a str,
+        /// How a database of the map is built.
+        build: BuildOptions,
+    },
+    /// The map that is made of two sides and a seed.
+    Made {
+        /// The sides of the map.
+        sides: Sides,
+        /// The seed.
+        seed: u32,
+        /// How a database of the map is built.
+        build: BuildOptions,
+    },
+    /// What events print on a board that begins with a map.
+    Replay {
+        /// The name of the map's file, which is not empty.
+        map: &'a str,
+        /// The name of the events' file, which is not empty.
+        events: &'a str,
+        /// How a database of the map is built.
+        build: BuildOptions,
+    },
+    /// A session on a board that begins with a map.
+    Talk {
+        /// The name of the map's file, which is not empty.
+        map: &'a str,
+        /// For how many entries the board takes memory first, at most
+        /// [`MAX_ENTRIES`](path_core::MAX_ENTRIES).
+        room: u32,
+        /// How a database of the map is built.
+        build: BuildOptions,
+    },
+}
+
+/// The sides of a map: each from 1 to [`MAX_SIDE`](moves::MAX_SIDE), with at most [`MAX_CELLS`]
+/// cells between them.
+#[derive(Clone, Copy, Debug, PartialEq, Eq)]
+pub struct Sides {
+    /// The number of columns.
+    pub width: u32,
+    /// The number of rows.
+    pub height: u32,
 }
 
 /// How a database is built.
@@ -78,13 +131,17 @@ impl From<Error> for RequestError {
 }
 
 impl<'a> Request<'a> {
-    /// The name of the map's file.
-    pub fn map(&self) -> &'a str
-        ensures { result.now ≡ file_of (asked self.now) }
+    /// How the first version of the map is built.
+    pub fn build(&self) -> BuildOptions
+        ensures { result ≡ build_of (asked self.now) }
     {
         match self {
-            Request::Path { map, .. } => map,
-            Request::Check { map, .. } => map,
+            Request::Path { build, .. } => *build,
+            Request::Check { build, .. } => *build,
+            Request::Scen { build, .. } => *build,
+            Request::Made { build, .. } => *build,
+            Request::Replay { build, .. } => *build,
+            Request::Talk { build, .. } => *build,
         }
     }
 }
@@ -96,6 +153,10 @@ pub fn read_request<'a>(alloc: Global, words: &'a [String]) -> Result<Request<'a
         request_of (texts_of words.entry.now) ≡ Some (asked request)) }
     ensures usage { result ≡ Err RequestError.Usage
         → request_of (texts_of words.entry.now) ≡ None }
+    ensures verb { IfOk result (λ request.
+        verb_of (texts_of words.entry.now) ≡ Some (verb_asked (asked request))) }
+    ensures workers { IfOk result (λ request. AreWorkers (build_of (asked request)).workers) }
+    ensures limits { IfOk result (λ request. HasLimits (asked request)) }
 {
     match first_verb(words) {
         Some(verb) => read_as(alloc, verb, words),
@@ -111,12 +172,23 @@ pub fn first_verb(words: &[String]) -> Option<Verb>
     Verb::named(name.as_str())
 }
 
+/// Whether the words name `talk`.
+pub fn is_talk(words: &[String]) -> bool
+    ensures talk { IsTrue result → IsTalk words.now }
+    ensures printed { IsFalse result → IsPrinted words.now }
+{
+    first_verb(words) == Some(Verb::Talk)
+}
+
 /// Reads the words of this command.
 fn read_as<'a>(alloc: Global, verb: Verb, words: &'a [String]) -> Result<Request<'a>, RequestError>
     ensures request { IfOk result (λ request.
         request_by verb (texts_of words.entry.now) ≡ Some (asked request)) }
     ensures usage { result ≡ Err RequestError.Usage
         → request_by verb (texts_of words.entry.now) ≡ None }
+    ensures verb { IfOk result (λ request. verb_asked (asked request) ≡ verb) }
+    ensures workers { IfOk result (λ request. AreWorkers (build_of (asked request)).workers) }
+    ensures limits { IfOk result (λ request. HasLimits (asked request)) }
 {
     let matches = parse(alloc, verb, words)?;
     asked_of(verb, &matches).ok_or(RequestError::Usage)
@@ -134,18 +206,28 @@ fn parse<'a>(alloc: Global, verb: Verb, words: &'a [String]) -> Result<ArgMatche
 
 /// What the command makes of its values, where each passes its reader.
 fn asked_of<'a>(verb: Verb, matches: &ArgMatches<'a>) -> Option<Request<'a>>
-    ensures { option_map asked result ≡ asked_by verb (first_value (found_of matches.now)) }
+    ensures asked { option_map asked result ≡ asked_by verb (first_value (found_of matches.now)) }
+    ensures verb { IfSome result (λ request. verb_asked (asked request) ≡ verb) }
+    ensures workers { IfSome result (λ request. AreWorkers (build_of (asked request)).workers) }
+    ensures limits { IfSome result (λ request. HasLimits (asked request)) }
 {
     match verb {
         Verb::Path => path_asked(matches),
         Verb::Check => check_asked(matches),
+        Verb::Scen => scen_asked(matches),
+        Verb::Made => made_asked(matches),
+        Verb::Replay => replay_asked(matches),
+        Verb::Talk => talk_asked(matches),
     }
 }
 
 /// What `path` asks for.
 #[tactic(auto, unfolding(crate::specs::Requests::path_by))]
 fn path_asked<'a>(matches: &ArgMatches<'a>) -> Option<Request<'a>>
-    ensures { option_map asked result ≡ path_by (first_value (found_of matches.now)) }
+    ensures asked { option_map asked result ≡ path_by (first_value (found_of matches.now)) }
+    ensures verb { IfSome result (λ request. verb_asked (asked request) ≡ Verb.Path) }
+    ensures workers { IfSome result (λ request. AreWorkers (build_of (asked request)).workers) }
+    ensures limits { IfSome result (λ request. HasLimits (asked request)) }
 {
     let map = file_at(matches, "MAP")?;
     let start = cell_at(matches, "SX", "SY")?;
@@ -162,11 +244,74 @@ fn path_asked<'a>(matches: &ArgMatches<'a>) -> Option<Request<'a>>
 /// What `check` asks for.
 #[tactic(auto, unfolding(crate::specs::Requests::check_by))]
 fn check_asked<'a>(matches: &ArgMatches<'a>) -> Option<Request<'a>>
-    ensures { option_map asked result ≡ check_by (first_value (found_of matches.now)) }
+    ensures asked { option_map asked result ≡ check_by (first_value (found_of matches.now)) }
+    ensures verb { IfSome result (λ request. verb_asked (asked request) ≡ Verb.Check) }
+    ensures workers { IfSome result (λ request. AreWorkers (build_of (asked request)).workers) }
+    ensures limits { IfSome result (λ request. HasLimits (asked request)) }
 {
     let map = file_at(matches, "MAP")?;
     let build = build_at(matches)?;
     Some(Request::Check { map, build })
+}
+
+/// What `scen` asks for.
+#[tactic(auto, unfolding(crate::specs::Requests::scen_by))]
+fn scen_asked<'a>(matches: &ArgMatches<'a>) -> Option<Request<'a>>
+    ensures asked { option_map asked result ≡ scen_by (first_value (found_of matches.now)) }
+    ensures verb { IfSome result (λ request. verb_asked (asked request) ≡ Verb.Scen) }
+    ensures workers { IfSome result (λ request. AreWorkers (build_of (asked request)).workers) }
+    ensures limits { IfSome result (λ request. HasLimits (asked request)) }
+{
+    let map = file_at(matches, "MAP")?;
+    let scenarios = file_at(matches, "SCEN")?;
+    let build = build_at(matches)?;
+    Some(Request::Scen {
+        map,
+        scenarios,
+        build,
+    })
+}
+
+/// What `made` asks for.
+#[tactic(auto, unfolding(crate::specs::Requests::made_by))]
+fn made_asked<'a>(matches: &ArgMatches<'a>) -> Option<Request<'a>>
+    ensures asked { option_map asked result ≡ made_by (first_value (found_of matches.now)) }
+    ensures verb { IfSome result (λ request. verb_asked (asked request) ≡ Verb.Made) }
+    ensures workers { IfSome result (λ request. AreWorkers (build_of (asked request)).workers) }
+    ensures limits { IfSome result (λ request. HasLimits (asked request)) }
+{
+    let sides = sides_at(matches, "W", "H")?;
+    let seed = number_at(matches, NumberKind::Seed, "SEED")?;
+    let build = build_at(matches)?;
+    Some(Request::Made { sides, seed, build })
+}
+
+/// What `replay` asks for.
+#[tactic(auto, unfolding(crate::specs::Requests::replay_by))]
+fn replay_asked<'a>(matches: &ArgMatches<'a>) -> Option<Request<'a>>
+    ensures asked { option_map asked result ≡ replay_by (first_value (found_of matches.now)) }
+    ensures verb { IfSome result (λ request. verb_asked (asked request) ≡ Verb.Replay) }
+    ensures workers { IfSome result (λ request. AreWorkers (build_of (asked request)).workers) }
+    ensures limits { IfSome result (λ request. HasLimits (asked request)) }
+{
+    let map = file_at(matches, "MAP")?;
+    let events = file_at(matches, "EVENTS")?;
+    let build = build_at(matches)?;
+    Some(Request::Replay { map, events, build })
+}
+
+/// What `talk` asks for.
+#[tactic(auto, unfolding(crate::specs::Requests::talk_by))]
+fn talk_asked<'a>(matches: &ArgMatches<'a>) -> Option<Request<'a>>
+    ensures asked { option_map asked result ≡ talk_by (first_value (found_of matches.now)) }
+    ensures verb { IfSome result (λ request. verb_asked (asked request) ≡ Verb.Talk) }
+    ensures workers { IfSome result (λ request. AreWorkers (build_of (asked request)).workers) }
+    ensures limits { IfSome result (λ request. HasLimits (asked request)) }
+{
+    let map = file_at(matches, "MAP")?;
+    let room = room_at(matches, "room")?;
+    let build = build_at(matches)?;
+    Some(Request::Talk { map, room, build })
 }
 
 /// The file that the argument `id` names.
@@ -194,10 +339,33 @@ fn cell_at(matches: &ArgMatches<'_>, column: &str, row: &str) -> Option<Cell>
     Some(Cell { x, y })
 }
 
+/// The number of that kind that the argument `id` names.
+fn number_at(matches: &ArgMatches<'_>, kind: NumberKind, id: &str) -> Option<u32>
+    ensures number { result ≡ number_at kind (first_value (found_of matches.now)) id.now }
+    ensures range { IfSome result (IsOfKind kind) }
+{
+    kind.read(matches.get_str(id)?)
+}
+
+/// The sides of which the one argument names the width, and the other the height.
+#[tactic(auto, unfolding(crate::specs::Requests::sides_at))]
+fn sides_at(matches: &ArgMatches<'_>, width: &str, height: &str) -> Option<Sides>
+    ensures sides { result ≡ sides_at (first_value (found_of matches.now)) width.now height.now }
+    ensures limits { IfSome result (λ sides. IsWithinLimits sides.width sides.height) }
+{
+    let width = number_at(matches, NumberKind::Side, width)?;
+    let height = number_at(matches, NumberKind::Side, height)?;
+    if width * height > MAX_CELLS {
+        return None;
+    }
+    Some(Sides { width, height })
+}
+
 /// What `--order` and `--workers` say.
 #[tactic(auto, unfolding(crate::specs::Requests::build_at))]
 fn build_at(matches: &ArgMatches<'_>) -> Option<BuildOptions>
-    ensures { result ≡ build_at (first_value (found_of matches.now)) }
+    ensures options { result ≡ build_at (first_value (found_of matches.now)) }
+    ensures workers { IfSome result (λ build. AreWorkers build.workers) }
 {
     let order = order_at(matches, "order")?;
     let workers = workers_at(matches, "workers")?;
@@ -214,9 +382,21 @@ fn order_at(matches: &ArgMatches<'_>, id: &str) -> Option<OrderKind>
     }
 }
 
+/// The room that the option `id` names; [`STANDARD_ROOM`] where it is not given.
+fn room_at(matches: &ArgMatches<'_>, id: &str) -> Option<u32>
+    ensures number { result ≡ room_at (first_value (found_of matches.now)) id.now }
+    ensures range { IfSome result (λ room. room ≤ MAX_ENTRIES) }
+{
+    match matches.get_str(id) {
+        Some(text) => NumberKind::Room.read(text),
+        None => Some(STANDARD_ROOM),
+    }
+}
+
 /// The number of threads that the option `id` names; one where it is not given.
 fn workers_at(matches: &ArgMatches<'_>, id: &str) -> Option<u32>
-    ensures { result ≡ workers_at (first_value (found_of matches.now)) id.now }
+    ensures number { result ≡ workers_at (first_value (found_of matches.now)) id.now }
+    ensures range { IfSome result AreWorkers }
 {
     match matches.get_str(id) {
         Some(text) => workers(text),

@@ -1,31 +1,89 @@
-//! The top call: all that the program does, over the files and the output that are handed in.
+//! The top call: all that the program does, over the files, the input and the output that are handed
+//! in.
 
 ghost use Rattle.std.specs.Prelude.{◌≡◌, ◌≢◌, ◌≤◌, ◌⊎◌, IfErr, IfOk, string_bytes};
 ghost use Rattle.std.specs.Io.KnownBytes.{Appends};
-ghost use Rattle.wire.specs.Causes.{Rose};
-ghost use Rattle.wire.specs.Contents.{PutsPrefix};
+ghost use Rattle.wire.specs.Causes.{NoneFell, Rose};
+ghost use Rattle.wire.specs.Contents.{PutsPrefix, TellsTheSame};
 ghost use Rattle.moves.specs.Maps.{IsSearchable};
+ghost use Rattle.path_server.specs.declared.commands.Verb.{Verb};
 ghost use Rattle.path_server.specs.declared.status.Status.{Status};
-ghost use Rattle.path_server.specs.Requests.{asked};
+ghost use Rattle.path_server.specs.Requests.{HasLimits, IsPrinted, IsTalk, asked, verb_asked};
 ghost use Rattle.path_server.specs.Statuses.{status_text};
-ghost use Rattle.path_server.specs.Runs.{BreaksOff, IsAnswer, IsAnswerOn, IsCause, IsMapCause, PutsAll, run_over};
+ghost use Rattle.path_server.specs.Runs.{BreaksOff, GivesMap, GivesNoMap, IsAnswerOn, IsAnswerTo};
+ghost use Rattle.path_server.specs.Runs.{IsCause, IsVersionCause, MayBeDone, PutsAll, file_over};
+ghost use Rattle.path_server.specs.Runs.{run_over};
+ghost use Rattle.path_server.specs.Talks.{TalkEnds, input_over};
 
 use crate::check::answer_check;
+use crate::database::first_version;
+use crate::made::{answer_made, made_grid};
 use crate::map_file::read_grid;
 use crate::path::answer_path;
-use crate::request::{Request, read_request};
+use crate::replay::answer_replay;
+use crate::request::{Request, is_talk, read_request};
+use crate::scen::answer_scen;
 use crate::status;
 use crate::status::Status;
+use crate::talk::talk;
+use crate::task::{Task, task_for};
+use build_pool::Gate;
 use moves::Grid;
 use std::alloc::Global;
-use wire::{Files, Sink, put_all};
+use std::sync::Wait;
+use std::thread::Threads;
+use text_lines::Text;
+use versions::Version;
+use wire::{Files, Link, Sink, put_all};
 
 /// Does what the words of a command line ask for, which are those after the program's own name, and
-/// says how it ended.
+/// says how it ended. Each piece of a build passes the gate.
 ///
-/// The text that is right for the end was put: with `Done` the answer, with any other status its
-/// line. Only with `WriteFault` it is less than a whole text, and the output has failed.
-pub fn run<F: Files, O: Sink>(alloc: Global, words: &[String], files: &mut F, out: &mut O) -> Status
+/// `talk` holds a session over the input, and puts nothing on the output. Any other command leaves
+/// the input alone, and the text that is right for the end was put: with `Done` the answer, with any
+/// other status its line. Only with `WriteFault` it is less than a whole text, and the output has
+/// failed.
+pub fn run<F: Files, O: Sink, L: Link, G: Gate, R: Threads + Wait + Sync>(
+    rt: &R,
+    alloc: Global,
+    words: &[String],
+    files: &mut F,
+    input: &mut L,
+    out: &mut O,
+    gate: &G,
+) -> Status
+    ensures whole { IsPrinted words.now → result ≢ Status.WriteFault
+        → PutsAll (run_over words.now F.content F.faults files.old files.new) result
+        (O.bytes out.old) (O.bytes out.new) }
+    ensures cut { IsPrinted words.now → result ≡ Status.WriteFault
+        → BreaksOff (run_over words.now F.content F.faults files.old files.new)
+        (O.bytes out.old) (O.bytes out.new) }
+    ensures fault { IsPrinted words.now → result ≡ Status.WriteFault
+        → Rose (O.faults out.old) (O.faults out.new) }
+    ensures unheard { IsPrinted words.now → input.new ≡ input.old }
+    ensures silent { IsTalk words.now → out.new ≡ out.old }
+    ensures talk { IsTalk words.now
+        → TalkEnds (run_over words.now F.content F.faults files.old files.new)
+        (input_over L.talk L.read_faults L.write_faults input.old input.new) result }
+{
+    if is_talk(words) {
+        talk(rt, alloc, words, files, input, gate)
+    } else {
+        print(rt, alloc, words, files, out, gate)
+    }
+}
+
+/// Puts the text that answers the words, or the line of the status with which the run ends without
+/// one.
+fn print<F: Files, O: Sink, G: Gate, R: Threads + Sync>(
+    rt: &R,
+    alloc: Global,
+    words: &[String],
+    files: &mut F,
+    out: &mut O,
+    gate: &G,
+) -> Status
+    requires printed { IsPrinted words.now }
     ensures whole { result ≢ Status.WriteFault
         → PutsAll (run_over words.now F.content F.faults files.old files.new) result
         (O.bytes out.old) (O.bytes out.new) }
@@ -34,8 +92,8 @@ pub fn run<F: Files, O: Sink>(alloc: Global, words: &[String], files: &mut F, ou
         (O.bytes out.old) (O.bytes out.new) }
     ensures fault { result ≡ Status.WriteFault → Rose (O.faults out.old) (O.faults out.new) }
 {
-    match answer(alloc, words, files) {
-        Ok(text) => put(out, text.as_bytes(), Status::Done),
+    match answer(rt, alloc, words, files, gate) {
+        Ok(text) => put(out, text.bytes(), Status::Done),
         Err(status) => refuse(alloc, out, status),
     }
 }
@@ -74,28 +132,73 @@ fn put<O: Sink>(out: &mut O, text: &[u8], status: Status) -> Status
 }
 
 /// The text that answers the words, or the status with which the run ends without one.
-fn answer<F: Files>(alloc: Global, words: &[String], files: &mut F) -> Result<String, Status>
-    ensures done { IfOk result (λ text.
-        IsAnswer (run_over words.now F.content F.faults files.old files.new) (string_bytes text)) }
+fn answer<F: Files, G: Gate, R: Threads + Sync>(
+    rt: &R,
+    alloc: Global,
+    words: &[String],
+    files: &mut F,
+    gate: &G,
+) -> Result<Text, Status>
+    requires printed { IsPrinted words.now }
+    ensures done { IfOk result
+        (IsAnswerTo (run_over words.now F.content F.faults files.old files.new)) }
     ensures refused { IfErr result
         (IsCause (run_over words.now F.content F.faults files.old files.new)) }
 {
     let request = read_request(alloc, words)?;
-    let grid = read_grid(alloc, files, request.map())?;
-    answer_on(alloc, &grid, request)
+    let grid = grid_for(alloc, files, request)?;
+    let task = task_for(alloc, files, request)?;
+    let version = first_version(rt, alloc, grid, request.build(), gate)?;
+    answer_on(rt, alloc, version, task)
 }
 
-/// The text that answers what was asked of the map.
-fn answer_on(alloc: Global, grid: &Grid, request: Request) -> Result<String, Status>
-    requires { IsSearchable grid.now }
-    ensures done { IfOk result (λ text.
-        IsAnswerOn grid.now (asked request.entry) (string_bytes text)) }
-    ensures refused { IfErr result (IsMapCause grid.now (asked request.entry)) }
+/// The map that was asked about.
+fn grid_for<F: Files>(alloc: Global, files: &mut F, request: Request) -> Result<Grid, Status>
+    requires limits { HasLimits (asked request) }
+    ensures grid { IfOk result
+        (GivesMap (file_over F.content F.faults files.old files.new) (asked request.entry)) }
+    ensures small { IfOk result IsSearchable }
+    ensures kept { TellsTheSame (F.content files.old) (F.content files.new) }
+    ensures later { NoneFell (F.faults files.old) (F.faults files.new) }
+    ensures refused { IfErr result
+        (GivesNoMap (file_over F.content F.faults files.old files.new) (asked request.entry)) }
 {
     match request {
-        Request::Path { start, goal, .. } => answer_path(alloc, grid, start, goal),
-        Request::Check { .. } => Ok(answer_check(alloc, grid)?),
+        Request::Path { map, .. } => read_grid(alloc, files, map),
+        Request::Check { map, .. } => read_grid(alloc, files, map),
+        Request::Scen { map, .. } => read_grid(alloc, files, map),
+        Request::Made { sides, seed, .. } => made_grid(alloc, sides, seed),
+        Request::Replay { map, .. } => read_grid(alloc, files, map),
+        Request::Talk { map, .. } => read_grid(alloc, files, map),
     }
+}
+
+/// The text that answers what was asked of the version.
+fn answer_on<R: Threads + Sync>(
+    rt: &R,
+    alloc: Global,
+    version: Version,
+    task: Task,
+) -> Result<Text, Status>
+    requires unedited { version.prefix ≡ 0 }
+    requires task { MayBeDone task }
+    ensures done { IfOk result (IsAnswerOn version task) }
+    ensures refused { IfErr result (IsVersionCause version task) }
+{
+    match task {
+        Task::Path { start, goal } => Ok(as_text(answer_path(alloc, &version, start, goal)?)),
+        Task::Check => Ok(as_text(answer_check(alloc, &version)?)),
+        Task::Scen(lines) => Ok(as_text(answer_scen(rt, alloc, &version, lines.as_slice())?)),
+        Task::Made { seed } => Ok(as_text(answer_made(alloc, &version, seed)?)),
+        Task::Replay(events) => Ok(answer_replay(alloc, version, events.as_slice())?),
+    }
+}
+
+/// The bytes of a string.
+fn as_text(text: String) -> Text
+    ensures { result ≡ string_bytes text }
+{
+    Text::new(text.into_bytes())
 }
 
 #[cfg(test)]

@@ -3,12 +3,14 @@
 ghost use Rattle.std.specs.Prelude.{◌≡◌, IfOk, string_bytes};
 ghost use Rattle.path_server.specs.Statuses.{status_code, status_text};
 
-use crate::query::QueryRefusal;
 use crate::request::RequestError;
 use map_read::MapFault;
+use scen_read::ScenFault;
+use session::SessionFault;
 use std::alloc::{AllocError, Global};
 use std::fmt;
 use std::fmt::Write;
+use versions::QueryRefusal;
 
 /// How a run ends.
 #[derive(Clone, Copy, Debug, Drop, PartialEq, Eq)]
@@ -19,6 +21,8 @@ pub enum Status {
     Usage,
     /// The file is not a map's.
     Map(MapFault),
+    /// The file is no list of scenarios.
+    Scen(ScenFault),
     /// An end of the path that is asked for lies outside or is blocked.
     Query(QueryRefusal),
     /// The file could not be read.
@@ -32,6 +36,13 @@ pub enum Status {
         /// How many bytes it may have.
         limit: u32,
     },
+    /// The input of a session ended inside a frame, or a frame was too long.
+    Broken(SessionFault),
+    /// The file is no list of events.
+    Events {
+        /// The first line, from 1, that is neither blank nor an event.
+        line: u32,
+    },
 }
 
 impl Status {
@@ -43,11 +54,14 @@ impl Status {
             Status::Done => 0,
             Status::Usage => 1,
             Status::Map(_) => 2,
+            Status::Scen(_) => 3,
             Status::Query(_) => 4,
             Status::ReadFault => 5,
             Status::WriteFault => 6,
             Status::NoMemory => 7,
             Status::TooLong { .. } => 8,
+            Status::Broken(_) => 9,
+            Status::Events { .. } => 11,
         }
     }
 }
@@ -88,8 +102,23 @@ impl From<RequestError> for Status {
     }
 }
 
-/// The line that is printed of the status, without its end; nothing where the work was done or the
-/// output fails.
+impl From<SessionFault> for Status {
+    ghost use Rattle.std.specs.Prelude.{◌≡◌};
+    ghost use Rattle.path_server.specs.Statuses.{status_for};
+
+    ghost from_gives = { λ fault status. status ≡ status_for fault };
+
+    fn from(fault: SessionFault) -> Status {
+        match fault {
+            SessionFault::Torn { .. } | SessionFault::TooLong { .. } => Status::Broken(fault),
+            SessionFault::ReadFault => Status::ReadFault,
+            SessionFault::WriteFault => Status::WriteFault,
+        }
+    }
+}
+
+/// The line that is printed of the status, without its end; nothing where the work was done, the
+/// output fails or a session broke off.
 impl fmt::Display for Status {
     ghost use Rattle.std.specs.Prelude.{Some};
     ghost use Rattle.path_server.specs.Statuses.{status_words};
@@ -98,13 +127,15 @@ impl fmt::Display for Status {
 
     fn fmt<W: fmt::Write>(&self, f: &mut fmt::Formatter<W>) -> fmt::Result {
         match self {
-            Status::Done | Status::WriteFault => Ok(()),
+            Status::Done | Status::WriteFault | Status::Broken(_) => Ok(()),
             Status::Usage => write!(f, "usage: path check scen made replay talk serve ask"),
             Status::Map(fault) => write!(f, "map refused: {fault}"),
+            Status::Scen(fault) => write!(f, "scenario refused: {fault}"),
             Status::Query(refusal) => write!(f, "{refusal}"),
             Status::ReadFault => write!(f, "read fault"),
             Status::NoMemory => write!(f, "out of memory"),
             Status::TooLong { limit } => write!(f, "file too long: {limit}"),
+            Status::Events { line } => write!(f, "events refused: line {line}"),
         }
     }
 }

@@ -1,13 +1,70 @@
 //! The values that a word of a command may be.
-ghost use Rattle.std.specs.Prelude.{◌≡◌, option_map};
+ghost use Rattle.std.specs.Prelude.{◌≡◌, ◌<◌, ◌^◌, IfSome, option_map};
 ghost use Rattle.std.specs.Char.{is_ascii_digit};
 ghost use Rattle.std.specs.List.{list_all};
-ghost use Rattle.path_server.specs.Words.{coordinate_in, is_number, number_in, order_in, path_in, workers_in};
+ghost use Rattle.path_server.specs.Words.{AreWorkers, IsOfKind, coordinate_in, is_number, least};
+ghost use Rattle.path_server.specs.Words.{most, number_as, number_in, order_in, path_in, workers_in};
 
+use build_pool::MAX_WORKERS;
 use cell_order::OrderKind;
+use moves::MAX_SIDE;
+use path_core::MAX_ENTRIES;
 
-/// How many threads may build a database at most.
-pub const MAX_WORKERS: u32 = 64;
+/// For how many entries a board takes memory first, where no other number is given.
+pub const STANDARD_ROOM: u32 = 65_536;
+
+/// What a number of a command says, and with it from where to where it may go.
+#[derive(Clone, Copy, Debug, PartialEq, Eq)]
+pub enum NumberKind {
+    /// A column or a row.
+    Coordinate,
+    /// A side of a map.
+    Side,
+    /// What a map is made of beside its sides.
+    Seed,
+    /// How many threads build.
+    Workers,
+    /// For how many entries a board takes memory first.
+    Room,
+}
+
+impl NumberKind {
+    /// The least number of this kind.
+    pub fn least(self) -> u32
+        ensures { result ≡ least self }
+    {
+        match self {
+            NumberKind::Coordinate | NumberKind::Seed | NumberKind::Room => 0,
+            NumberKind::Side | NumberKind::Workers => 1,
+        }
+    }
+
+    /// The greatest number of this kind.
+    pub fn most(self) -> u32
+        ensures { result ≡ most self }
+    {
+        match self {
+            NumberKind::Coordinate => 65_535,
+            NumberKind::Side => MAX_SIDE,
+            NumberKind::Seed => 4_294_967_295,
+            NumberKind::Workers => MAX_WORKERS,
+            NumberKind::Room => MAX_ENTRIES,
+        }
+    }
+
+    /// The number of this kind that the text writes; `None` exactly where it writes none.
+    #[tactic(auto, unfolding(crate::specs::Words::number_as))]
+    pub fn read(self, text: &str) -> Option<u32>
+        ensures number { result ≡ number_as self text.now }
+        ensures range { IfSome result (IsOfKind self) }
+    {
+        let number = number(text)?;
+        if number < u64::from(self.least()) || number > u64::from(self.most()) {
+            return None;
+        }
+        Some(number as u32)
+    }
+}
 
 /// Whether the text is one to ten decimal digits and nothing else.
 fn is_number(text: &str) -> bool
@@ -40,20 +97,16 @@ pub fn number(text: &str) -> Option<u64>
 pub fn coordinate(text: &str) -> Option<u16>
     ensures { result ≡ coordinate_in text.now }
 {
-    u16::try_from(number(text)?).ok()
+    Some(NumberKind::Coordinate.read(text)? as u16)
 }
 
 /// The number of threads that the text spells, from 1 to 64; `None` exactly where it is no number
 /// or another one.
-#[tactic(auto, unfolding(crate::specs::Words::workers_in))]
 pub fn workers(text: &str) -> Option<u32>
-    ensures { result ≡ workers_in text.now }
+    ensures number { result ≡ workers_in text.now }
+    ensures range { IfSome result AreWorkers }
 {
-    let count = number(text)?;
-    if count > MAX_WORKERS as u64 || count == 0 {
-        return None;
-    }
-    Some(count as u32)
+    NumberKind::Workers.read(text)
 }
 
 /// The order that the text names; `None` exactly where it is neither `rows` nor `dfs`.

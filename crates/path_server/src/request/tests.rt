@@ -1,5 +1,5 @@
 //! What command lines ask for.
-use crate::request::{BuildOptions, Request, RequestError, read_request};
+use crate::request::{BuildOptions, Request, RequestError, Sides, read_request};
 use cell_order::OrderKind;
 use moves::Cell;
 use std::alloc::{AllocError, Global};
@@ -41,6 +41,27 @@ fn path<'a>(map: &'a str, start: (u16, u16), goal: (u16, u16), build: BuildOptio
 
 fn check<'a>(map: &'a str, build: BuildOptions) -> Request<'a> {
     Request::Check { map, build }
+}
+
+fn scen<'a>(map: &'a str, scenarios: &'a str, build: BuildOptions) -> Request<'a> {
+    Request::Scen {
+        map,
+        scenarios,
+        build,
+    }
+}
+
+fn made<'a>(width: u32, height: u32, seed: u32, build: BuildOptions) -> Request<'a> {
+    let sides = Sides { width, height };
+    Request::Made { sides, seed, build }
+}
+
+fn talk<'a>(map: &'a str, room: u32, build: BuildOptions) -> Request<'a> {
+    Request::Talk { map, room, build }
+}
+
+fn replay<'a>(map: &'a str, events: &'a str, build: BuildOptions) -> Request<'a> {
+    Request::Replay { map, events, build }
 }
 
 #[test]
@@ -91,6 +112,27 @@ fn takes_the_words(rt: HostRuntime) -> Result<(), Fail> {
             "path|m.map|0|0|--workers|2|1|--order|dfs|1|",
             path("m.map", short, (1, 1), options(Dfs, 2)),
         ),
+        ("scen|m.map|s.scen|", scen("m.map", "s.scen", STANDARD)),
+        (
+            "scen|--order|dfs|m.map|--|-s|",
+            scen("m.map", "-s", options(Dfs, 1)),
+        ),
+        ("made|3|1|0|", made(3, 1, 0, STANDARD)),
+        (
+            "made|4096|0000000256|4294967295|--workers=2|",
+            made(4096, 256, 4_294_967_295, options(Rows, 2)),
+        ),
+        ("replay|m.map|e|", replay("m.map", "e", STANDARD)),
+        (
+            "replay|--workers|64|m.map|--order=dfs|--|-e|",
+            replay("m.map", "-e", options(Dfs, 64)),
+        ),
+        ("talk|m.map|", talk("m.map", 65_536, STANDARD)),
+        ("talk|m.map|--room|0|", talk("m.map", 0, STANDARD)),
+        (
+            "talk|--room=0002097153|--workers|2|m.map|--order|dfs|",
+            talk("m.map", 2_097_153, options(Dfs, 2)),
+        ),
     ];
     for (line, wanted) in cases {
         let words = words_of(rt.alloc(), line)?;
@@ -117,6 +159,30 @@ fn refuses_the_words(rt: HostRuntime) -> Result<(), Fail> {
         "path|m.map|0|0|1|1|n.map|",
         "check|",
         "check|m.map|0|",
+        "scen|m.map|",
+        "scen|m.map||",
+        "scen|m.map|s.scen|t.scen|",
+        "made|3|1|",
+        "made|0|1|0|",
+        "made|1|0|0|",
+        "made|4097|1|0|",
+        "made|1|4097|0|",
+        "made|4096|257|0|",
+        "made|1|1|4294967296|",
+        "made|1|1|-1|",
+        "made|1|1|0|0|",
+        "replay|m.map|",
+        "replay|m.map||",
+        "replay|m.map|e|f|",
+        "replay|m.map|e|--workers|65|",
+        "talk|",
+        "talk||",
+        "talk|m.map|n.map|",
+        "talk|m.map|--room|",
+        "talk|m.map|--room|2097154|",
+        "talk|m.map|--room|00000000001|",
+        "talk|m.map|--room|-1|",
+        "talk|m.map|--room|1|--room|1|",
         // numbers
         "path|m.map|00000000007|0|1|1|",
         "path|m.map|65536|0|1|1|",

@@ -1,5 +1,7 @@
-use Rattle.std.proofs.Common.{◌∙◌, sym, ap, Err}
-use Rattle.path_server.proofs.RequestLemmas.{read_none, read_some, request_found, request_refused}
+use Rattle.std.proofs.Common.{◌≡◌, ◌∙◌, sym, ap, Err}
+use Rattle.path_server.specs.Requests.{asked, build_of, verb_asked}
+use Rattle.path_server.specs.Words.{AreWorkers}
+use Rattle.path_server.proofs.RequestLemmas.{kept_some, read_none, read_some, request_found, request_refused}
 use Rattle.path_server.proofs.request.read_as.Goals as goal
 
 pub returns-in_err-matches-clause-usage : goal.returns-in_err-matches-clause-usage
@@ -10,8 +12,14 @@ returns-in_err-matches-clause-usage c = λ refused.
 pub returns-clause-request : goal.returns-clause-request
 returns-clause-request c =
     rw c.ok_or.ensures.value
-    (read_some c.asked_of.result _ (c.asked_of.ensures ∙ request_found _ _ _ c.in_ok-matches.ensures.values))
+    (read_some c.asked_of.result _ (c.asked_of.ensures.asked ∙ request_found _ _ _ c.in_ok-matches.ensures.values))
 
 pub returns-clause-usage : goal.returns-clause-usage
 returns-clause-usage c = λ refused.
-    read_none c.asked_of.result _ (c.asked_of.ensures ∙ request_found _ _ _ c.in_ok-matches.ensures.values) (sym c.ok_or.ensures.value ∙ refused)
+    read_none c.asked_of.result _ (c.asked_of.ensures.asked ∙ request_found _ _ _ c.in_ok-matches.ensures.values) (sym c.ok_or.ensures.value ∙ refused)
+
+pub returns-clause-workers : goal.returns-clause-workers
+returns-clause-workers c = rw c.ok_or.ensures.value (kept_some (λ request. AreWorkers (build_of (asked request)).workers) c.asked_of.result c.asked_of.ensures.workers)
+
+pub returns-clause-verb : goal.returns-clause-verb
+returns-clause-verb c = rw c.ok_or.ensures.value (kept_some (λ request. verb_asked (asked request) ≡ c.args.verb) c.asked_of.result c.asked_of.ensures.verb)

@@ -1,0 +1,258 @@
+-- Why a run ends as it does, where its files were read one after the other.
+use Rattle.std.proofs.Common.{◌≡◌, ◌≤◌, ◌<◌, ◌⊎◌, ℕ, length, Option, Result, List, String, IfSome, IfOk, IfErr, Ok, Err, inl, inr, refl, sym, subst, arith}
+use Rattle.std.specs.Global.{Global}
+use Rattle.std.specs.Io.KnownBytes.{Appends}
+use Rattle.wire.specs.Causes.{NoneFell, Rose}
+use Rattle.wire.specs.Contents.{PutsPrefix, TellsTheSame}
+use Rattle.clap.specs.Walk.{Text}
+use Rattle.moves.specs.Maps.{Map}
+use Rattle.scen_read.specs.declared.TheConstants.{MAX_SCEN_BYTES}
+use Rattle.scen_read.specs.ScenText.{scenarios_of}
+use Rattle.path_replay.specs.declared.TheConstants.{MAX_EVENTS_BYTES}
+use Rattle.path_replay.specs.Events.{AreEventsOf, text_said}
+use Rattle.versions.specs.Databases.{Versioned}
+use Rattle.path_server.specs.declared.status.Status.{Status}
+use Rattle.path_server.specs.declared.status.Status.TheVariants as status
+use Rattle.path_server.specs.declared.task.Task.{Task}
+use Rattle.path_server.specs.declared.task.Task.TheVariants as task
+use Rattle.path_server.specs.Statuses.{status_text}
+use Rattle.path_server.specs.Requests.{Asked, path, check, scen, made, replay, talk, build_of}
+use Rattle.path_server.specs.Runs.{AsksOf, Asks, BreaksOff, FailsByMap, FailsByTask, IsAnswerOn, IsAnswerTo, IsFirstVersion, GivesMap, GivesNoMap, GivesNoTask, GivesTask, IsCause, IsEventsFileCause, IsFileCause, IsMadeCause, IsMapFileCause, IsRight, IsScenFileCause, IsVersionCause, PutsAll, Run, RunFile, file_over, map_made, run_over}
+
+-- ---- the cause of a status
+
+map_file_fails : (run : Run) (file : RunFile) (cause : Status) → FailsByMap run cause → IsMapFileCause file cause → IsCause run cause
+map_file_fails run file status.Done fails h = absurd h
+map_file_fails run file status.Usage fails h = absurd h
+map_file_fails run file (status.Map fault) fails h = fails
+map_file_fails run file (status.Scen fault) fails h = absurd h
+map_file_fails run file (status.Query refusal) fails h = absurd h
+map_file_fails run file status.ReadFault fails h = inl fails
+map_file_fails run file status.WriteFault fails h = absurd h
+map_file_fails run file status.NoMemory fails h = tt
+map_file_fails run file (status.TooLong limit) fails h = inl fails
+map_file_fails run file (status.Broken why) fails h = absurd h
+map_file_fails run file (status.Events line) fails h = absurd h
+
+made_fails : (run : Run) (map : Map) (cause : Status) → FailsByMap run cause → IsMadeCause map cause → IsCause run cause
+made_fails run map status.Done fails h = absurd h
+made_fails run map status.Usage fails h = absurd h
+made_fails run map (status.Map fault) fails h = fails
+made_fails run map (status.Scen fault) fails h = absurd h
+made_fails run map (status.Query refusal) fails h = absurd h
+made_fails run map status.ReadFault fails h = absurd h
+made_fails run map status.WriteFault fails h = absurd h
+made_fails run map status.NoMemory fails h = tt
+made_fails run map (status.TooLong limit) fails h = absurd h
+made_fails run map (status.Broken why) fails h = absurd h
+made_fails run map (status.Events line) fails h = absurd h
+
+-- there is no map for what was asked for
+pub map_fails : (run : Run) (asked : Asked) (cause : Status) → Asks run asked → GivesNoMap run.file asked cause → IsCause run cause
+map_fails run (path name start goal build) cause asks h =
+    map_file_fails run (run.file name) cause (record { asked = path name start goal build; asks = asks; fails = h }) h
+map_fails run (check name build) cause asks h = map_file_fails run (run.file name) cause (record { asked = check name build; asks = asks; fails = h }) h
+map_fails run (scen name scenarios build) cause asks h =
+    map_file_fails run (run.file name) cause (record { asked = scen name scenarios build; asks = asks; fails = h }) h
+map_fails run (made sides seed build) cause asks h = made_fails run (map_made sides seed) cause (record { asked = made sides seed build; asks = asks; fails = h }) h
+map_fails run (replay name events build) cause asks h =
+    map_file_fails run (run.file name) cause (record { asked = replay name events build; asks = asks; fails = h }) h
+map_fails run (talk name room build) cause asks h = map_file_fails run (run.file name) cause (record { asked = talk name room build; asks = asks; fails = h }) h
+
+scen_file_fails : (run : Run) (file : RunFile) (cause : Status) → FailsByTask run cause → IsScenFileCause file cause → IsCause run cause
+scen_file_fails run file status.Done fails h = absurd h
+scen_file_fails run file status.Usage fails h = absurd h
+scen_file_fails run file (status.Map fault) fails h = absurd h
+scen_file_fails run file (status.Scen fault) fails h = fails
+scen_file_fails run file (status.Query refusal) fails h = absurd h
+scen_file_fails run file status.ReadFault fails h = inr fails
+scen_file_fails run file status.WriteFault fails h = absurd h
+scen_file_fails run file status.NoMemory fails h = tt
+scen_file_fails run file (status.TooLong limit) fails h = inr fails
+scen_file_fails run file (status.Broken why) fails h = absurd h
+scen_file_fails run file (status.Events line) fails h = absurd h
+
+events_file_fails : (run : Run) (file : RunFile) (cause : Status) → FailsByTask run cause → IsEventsFileCause file cause → IsCause run cause
+events_file_fails run file status.Done fails h = absurd h
+events_file_fails run file status.Usage fails h = absurd h
+events_file_fails run file (status.Map fault) fails h = absurd h
+events_file_fails run file (status.Scen fault) fails h = absurd h
+events_file_fails run file (status.Query refusal) fails h = absurd h
+events_file_fails run file status.ReadFault fails h = inr fails
+events_file_fails run file status.WriteFault fails h = absurd h
+events_file_fails run file status.NoMemory fails h = tt
+events_file_fails run file (status.TooLong limit) fails h = inr fails
+events_file_fails run file (status.Broken why) fails h = absurd h
+events_file_fails run file (status.Events line) fails h = fails
+
+-- there is a map, and another file is not what it has to be
+pub task_fails : (run : Run) (asked : Asked) (map : Map) (cause : Status) → Asks run asked → GivesMap run.file asked map → GivesNoTask run.file asked cause → IsCause run cause
+task_fails run (path name start goal build) map cause asks gives h = absurd h
+task_fails run (check name build) map cause asks gives h = absurd h
+task_fails run (scen name scenarios build) map cause asks gives h =
+    scen_file_fails run (run.file scenarios) cause (record { asked = scen name scenarios build; asks = asks; map = map; gives = gives; fails = h }) h
+task_fails run (made sides seed build) map cause asks gives h = absurd h
+task_fails run (replay name events build) map cause asks gives h =
+    events_file_fails run (run.file events) cause (record { asked = replay name events build; asks = asks; map = map; gives = gives; fails = h }) h
+task_fails run (talk name room build) map cause asks gives h = absurd h
+
+-- the version has no answer
+version_fails : (run : Run) (asked : Task) (version : Versioned) (cause : Status) → AsksOf run asked version → IsVersionCause version asked cause → IsCause run cause
+version_fails run (task.Path start goal) version status.Done of h = absurd h
+version_fails run (task.Path start goal) version status.Usage of h = absurd h
+version_fails run (task.Path start goal) version (status.Map fault) of h = absurd h
+version_fails run (task.Path start goal) version (status.Scen fault) of h = absurd h
+version_fails run (task.Path start goal) version (status.Query refusal) of h = record { task = task.Path start goal; version = version; of = of; fails = h }
+version_fails run (task.Path start goal) version status.ReadFault of h = absurd h
+version_fails run (task.Path start goal) version status.WriteFault of h = absurd h
+version_fails run (task.Path start goal) version status.NoMemory of h = tt
+version_fails run (task.Path start goal) version (status.TooLong limit) of h = absurd h
+version_fails run (task.Path start goal) version (status.Broken why) of h = absurd h
+version_fails run (task.Path start goal) version (status.Events line) of h = absurd h
+version_fails run task.Check version cause of h = subst (λ cause. IsCause run cause) (sym h) tt
+version_fails run (task.Scen lines) version cause of h = subst (λ cause. IsCause run cause) (sym h) tt
+version_fails run (task.Made seed) version cause of h = subst (λ cause. IsCause run cause) (sym h) tt
+version_fails run (task.Replay events) version cause of h = subst (λ cause. IsCause run cause) (sym h) tt
+
+-- the answer of the version, and its refusal, are those of the run
+pub answer_is : (run : Run) (given : Task) (version : Versioned) (answer : Result (List ℕ) Status) → AsksOf run given version
+    → IfOk answer (IsAnswerOn version given) → IfOk answer (IsAnswerTo run)
+answer_is run given version (Ok text) of h = record { task = given; version = version; of = of; answers = h }
+answer_is run given version (Err cause) of h = tt
+
+pub refusal_is : (run : Run) (given : Task) (version : Versioned) (answer : Result (List ℕ) Status) → AsksOf run given version → IfErr answer (IsVersionCause version given)
+    → IfErr answer (IsCause run)
+refusal_is run given version (Ok text) of h = tt
+refusal_is run given version (Err cause) of h = version_fails run given version cause of h
+
+-- ---- what is put of a refusal
+
+right_refusal : (run : Run) (cause : Status) → IsCause run cause → IsRight run cause (status_text cause)
+right_refusal run status.Done is = absurd is
+right_refusal run status.Usage is = (is, refl)
+right_refusal run (status.Map fault) is = (is, refl)
+right_refusal run (status.Scen fault) is = (is, refl)
+right_refusal run (status.Query refusal) is = (is, refl)
+right_refusal run status.ReadFault is = (is, refl)
+right_refusal run status.WriteFault is = absurd is
+right_refusal run status.NoMemory is = (is, refl)
+right_refusal run (status.TooLong limit) is = (is, refl)
+right_refusal run (status.Broken why) is = absurd is
+right_refusal run (status.Events line) is = (is, refl)
+
+-- the line of the cause is right, and so is that of want of memory
+told_is_right : (run : Run) (cause told : Status) → IsCause run cause → (told ≡ cause) ⊎ (told ≡ status.NoMemory) → IsRight run told (status_text told)
+told_is_right run cause told is (inl same) = subst (λ told. IsRight run told (status_text told)) (sym same) (right_refusal run cause is)
+told_is_right run cause told is (inr same) = subst (λ told. IsRight run told (status_text told)) (sym same) (tt, refl)
+
+pub puts_refusal : (run : Run) (cause told : Status) (old new : Option (List ℕ)) → IsCause run cause → (told ≡ cause) ⊎ (told ≡ status.NoMemory) → Appends old new (status_text told)
+    → PutsAll run told old new
+puts_refusal run cause told old new is which put = record { text = status_text told; right = told_is_right run cause told is which; put = put }
+
+pub breaks_refusal : (run : Run) (cause told : Status) (old new : Option (List ℕ)) → IsCause run cause → (told ≡ cause) ⊎ (told ≡ status.NoMemory) → PutsPrefix old new (status_text told)
+    → BreaksOff run old new
+breaks_refusal run cause told old new is which put = record { ended = told; text = status_text told; right = told_is_right run cause told is which; put = put }
+
+-- ---- files that were read between
+
+module _ {F : Type 0} (content : F → Text → Option Text) (faults : F → Text → ℕ) (old mid new : F) where
+  -- what was told of the map's file is told of it in the whole run
+  pub same_map : (asked : Asked) (map : Map) → GivesMap (file_over content faults old mid) asked map → GivesMap (file_over content faults old new) asked map
+  same_map (path name start goal build) map h = h
+  same_map (check name build) map h = h
+  same_map (scen name scenarios build) map h = h
+  same_map (made sides seed build) map h = h
+  same_map (replay name events build) map h = h
+  same_map (talk name room build) map h = h
+
+  module _ (kept : TellsTheSame (content old) (content mid)) (later : NoneFell (faults old) (faults mid)) where
+    -- and so is what was told of the second file
+    pub same_task : (asked : Asked) (given : Task) → GivesTask (file_over content faults mid new) asked given → GivesTask (file_over content faults old new) asked given
+    same_task (path name start goal build) given h = h
+    same_task (check name build) given h = h
+    same_task (scen name scenarios build) given h = record {
+      scenarios = h.scenarios;
+      is = h.is;
+      holds = subst (λ held. IfSome held (λ bytes. (length bytes ≤ MAX_SCEN_BYTES) × (scenarios_of bytes ≡ Ok h.scenarios.items))) (kept scenarios) h.holds;
+    }
+    same_task (made sides seed build) given h = h
+    same_task (replay name events build) given h = record {
+      events = h.events;
+      is = h.is;
+      holds = subst (λ held. IfSome held (λ bytes. (length bytes ≤ MAX_EVENTS_BYTES) × AreEventsOf bytes h.events.items)) (kept events) h.holds;
+    }
+    same_task (talk name room build) given h = absurd h
+
+    rose_before : (a b c : ℕ) → a ≤ b → Rose b c → Rose a c
+    rose_before a b c below rose = omega arith
+
+    same_file_cause : (name : Text) (limit : ℕ) (cause : Status) → IsFileCause (file_over content faults mid new name) limit cause
+        → IsFileCause (file_over content faults old new name) limit cause
+    same_file_cause name limit status.Done h = h
+    same_file_cause name limit status.Usage h = h
+    same_file_cause name limit (status.Map fault) h = h
+    same_file_cause name limit (status.Scen fault) h = h
+    same_file_cause name limit (status.Query refusal) h = h
+    same_file_cause name limit status.ReadFault h = rose_before (faults old name) (faults mid name) (faults new name) (later name) h
+    same_file_cause name limit status.WriteFault h = h
+    same_file_cause name limit status.NoMemory h = h
+    same_file_cause name limit (status.TooLong told) h = (h.0, subst (λ held. IfSome held (λ bytes. limit < length bytes)) (kept name) h.1)
+    same_file_cause name limit (status.Broken why) h = absurd h
+    same_file_cause name limit (status.Events line) h = h
+
+    same_scen_cause : (name : Text) (cause : Status) → IsScenFileCause (file_over content faults mid new name) cause → IsScenFileCause (file_over content faults old new name) cause
+    same_scen_cause name status.Done h = h
+    same_scen_cause name status.Usage h = h
+    same_scen_cause name (status.Map fault) h = h
+    same_scen_cause name (status.Scen fault) h =
+        subst (λ held. IfSome held (λ bytes. (length bytes ≤ MAX_SCEN_BYTES) × (scenarios_of bytes ≡ Err fault))) (kept name) h
+    same_scen_cause name (status.Query refusal) h = h
+    same_scen_cause name status.ReadFault h = same_file_cause name MAX_SCEN_BYTES status.ReadFault h
+    same_scen_cause name status.WriteFault h = h
+    same_scen_cause name status.NoMemory h = h
+    same_scen_cause name (status.TooLong limit) h = same_file_cause name MAX_SCEN_BYTES (status.TooLong limit) h
+    same_scen_cause name (status.Broken why) h = absurd h
+    same_scen_cause name (status.Events line) h = h
+
+    same_events_cause : (name : Text) (cause : Status) → IsEventsFileCause (file_over content faults mid new name) cause
+        → IsEventsFileCause (file_over content faults old new name) cause
+    same_events_cause name status.Done h = h
+    same_events_cause name status.Usage h = h
+    same_events_cause name (status.Map fault) h = h
+    same_events_cause name (status.Scen fault) h = h
+    same_events_cause name (status.Query refusal) h = h
+    same_events_cause name status.ReadFault h = same_file_cause name MAX_EVENTS_BYTES status.ReadFault h
+    same_events_cause name status.WriteFault h = h
+    same_events_cause name status.NoMemory h = h
+    same_events_cause name (status.TooLong limit) h = same_file_cause name MAX_EVENTS_BYTES (status.TooLong limit) h
+    same_events_cause name (status.Broken why) h = absurd h
+    same_events_cause name (status.Events line) h =
+        subst (λ held. IfSome held (λ bytes. (length bytes ≤ MAX_EVENTS_BYTES) × (text_said bytes ≡ Err line))) (kept name) h
+
+    pub same_task_cause : (asked : Asked) (cause : Status) → GivesNoTask (file_over content faults mid new) asked cause → GivesNoTask (file_over content faults old new) asked cause
+    same_task_cause (path name start goal build) cause h = h
+    same_task_cause (check name build) cause h = h
+    same_task_cause (scen name scenarios build) cause h = same_scen_cause scenarios cause h
+    same_task_cause (made sides seed build) cause h = h
+    same_task_cause (replay name events build) cause h = same_events_cause events cause h
+    same_task_cause (talk name room build) cause h = absurd h
+
+    -- what was asked for, where both files were read and the version was built
+    pub asks_of : (words : List (String Global)) (asked : Asked) (map : Map) (given : Task) (version : Versioned) → Asks (run_over words content faults old new) asked
+        → GivesMap (file_over content faults old mid) asked map → GivesTask (file_over content faults mid new) asked given
+        → IsFirstVersion map (build_of asked).order version → AsksOf (run_over words content faults old new) given version
+    asks_of words asked map given version asks gives does first = record {
+      asked = asked;
+      asks = asks;
+      map = map;
+      gives = same_map asked map gives;
+      does = same_task asked given does;
+      first = first;
+    }
+
+    -- what was asked for, where the second file is not what it has to be
+    pub second_fails : (words : List (String Global)) (asked : Asked) (map : Map) (cause : Status) → Asks (run_over words content faults old new) asked
+        → GivesMap (file_over content faults old mid) asked map → GivesNoTask (file_over content faults mid new) asked cause
+        → IsCause (run_over words content faults old new) cause
+    second_fails words asked map cause asks gives fails =
+        task_fails (run_over words content faults old new) asked map cause asks (same_map asked map gives) (same_task_cause asked cause fails)

@@ -1,0 +1,114 @@
+//! `talk MAP`: a session over the input, on a board that begins with a map.
+ghost use Rattle.std.specs.Prelude.{◌≡◌, ◌≤◌, IfErr, IfOk};
+ghost use Rattle.session.specs.Conversations.{HasCause};
+ghost use Rattle.path_core.specs.declared.TheConstants.{MAX_ENTRIES};
+ghost use Rattle.path_core.specs.Boards.{new_board};
+ghost use Rattle.path_server.specs.Requests.{IsTalk};
+ghost use Rattle.path_server.specs.Runs.{IsCause, run_over};
+ghost use Rattle.path_server.specs.Talks.{AsksBoard, HoldsTalk, TalkEnds, input_over};
+ghost use Rattle.path_server.specs.Words.{AreWorkers};
+
+use crate::database::first_version;
+use crate::map_file::read_grid;
+use crate::request::{Request, read_request};
+use crate::status::Status;
+use build_pool::Gate;
+use path_core::Board;
+use session::{Ended, Lone, SessionFault, serve_link};
+use std::alloc::{AllocError, Global};
+use std::sync::{Arc, Wait};
+use std::thread::Threads;
+use versions::Version;
+use wire::{Files, Link};
+
+/// A board to hold a session on, and how many threads build its versions.
+#[derive(Drop)]
+struct Begun {
+    board: Board,
+    workers: u32,
+}
+
+/// Holds the session that the words ask for over the input, and says how it ended.
+pub fn talk<F: Files, L: Link, G: Gate, R: Threads + Wait + Sync>(
+    rt: &R,
+    alloc: Global,
+    words: &[String],
+    files: &mut F,
+    input: &mut L,
+    gate: &G,
+) -> Status
+    requires { IsTalk words.now }
+    ensures { TalkEnds (run_over words.now F.content F.faults files.old files.new)
+        (input_over L.talk L.read_faults L.write_faults input.old input.new) result }
+{
+    match begin(rt, alloc, words, files, gate) {
+        Ok(begun) => match hold(rt, alloc, begun, input, gate) {
+            Ok(_) => Status::Done,
+            Err(fault) => Status::from(fault),
+        },
+        Err(status) => status,
+    }
+}
+
+/// Holds a session over the input, as the one pass of a board.
+///
+/// # Errors
+///
+/// Those of `serve_link`.
+fn hold<L: Link, G: Gate, R: Threads + Wait + Sync>(
+    rt: &R,
+    alloc: Global,
+    begun: Begun,
+    input: &mut L,
+    gate: &G,
+) -> Result<Ended, SessionFault>
+    requires { AreWorkers begun.workers }
+    ensures talk { HoldsTalk begun.board
+        (input_over L.talk L.read_faults L.write_faults input.old input.new) result }
+    ensures cause { IfErr result (HasCause
+        (L.read_faults input.old) (L.read_faults input.new)
+        (L.write_faults input.old) (L.write_faults input.new)) }
+{
+    let mut desk = Lone {
+        board: begun.board,
+        pass: 0,
+    };
+    serve_link(rt, alloc, &mut desk, input, begun.workers, gate)
+}
+
+/// The board that the words ask for.
+fn begin<F: Files, G: Gate, R: Threads + Sync>(
+    rt: &R,
+    alloc: Global,
+    words: &[String],
+    files: &mut F,
+    gate: &G,
+) -> Result<Begun, Status>
+    requires { IsTalk words.now }
+    ensures board { IfOk result (λ begun. AsksBoard
+        (run_over words.now F.content F.faults files.old files.new) begun.board) }
+    ensures workers { IfOk result (λ begun. AreWorkers begun.workers) }
+    ensures refused { IfErr result
+        (IsCause (run_over words.now F.content F.faults files.old files.new)) }
+{
+    let request = read_request(alloc, words)?;
+    let Request::Talk { map, room, build } = request else {
+        unreachable!()
+    };
+    let grid = read_grid(alloc, files, map)?;
+    let version = first_version(rt, alloc, grid, build, gate)?;
+    Ok(Begun {
+        board: first_board(alloc, version, room)?,
+        workers: build.workers,
+    })
+}
+
+/// A board with no entries, whose first version this is, with this room.
+fn first_board(alloc: Global, version: Version, room: u32) -> Result<Board, AllocError>
+    requires unedited { version.prefix ≡ 0 }
+    requires room { room ≤ MAX_ENTRIES }
+    ensures { IfOk result (λ board. board ≡ new_board version.map version room) }
+{
+    let grid = version.grid().copy()?;
+    Board::start_with(alloc, grid, Arc::new(alloc, version)?, room)
+}
