@@ -5,10 +5,11 @@ set -o pipefail
 shopt -s inherit_errexit
 export LC_ALL=C
 
-# our program, and how often each command is run
+# our program, how often each command is run, and what is measured: U for user time, R for time by the clock
 # shellcheck disable=SC2034
 ours=crates/bench/out/bench
 rounds=${ROUNDS:-15}
+clock=U
 
 # Proves and builds our program; what `rt` prints is shown where that fails.
 build_ours() {
@@ -24,7 +25,7 @@ build_ours() {
 build_twin() {
     local twin=bench/build/$1
     if [[ ! -x $twin || -n $(find bench -maxdepth 1 -name '*.[ch]pp' -newer "$twin") ]]; then
-        g++ -O3 -march=x86-64-v2 -o "$twin" "bench/$1.cpp"
+        g++ -O3 -march=x86-64-v2 -pthread -o "$twin" "bench/$1.cpp"
     fi
 }
 
@@ -48,26 +49,31 @@ same() {
     done
 }
 
-# The user time of a command with so many repeats, in seconds; its print is dropped: COMMAND N
-user_time() {
-    local TIMEFORMAT=%3U
+# The time of a command with so many repeats, in seconds; its print is dropped: COMMAND N
+time_of() {
+    local TIMEFORMAT=%3$clock
     { time repeated "$@" >/dev/null 2>&3; } 3>&2 2>&1
 }
 
-# In each round every command runs in turn with N repeats, and then every one with 2N. A round's figure is the
-# difference of a command's two user times, so that starting up and all that is done once are left out. Prints a line
-# for each command: the median of the rounds, in nanoseconds an item. ITEMS is how many items the N repeats have, one
-# number for all commands or one for each: N ITEMS COMMAND..
-medians() {
-    local n=$1 round i
-    local -a items once twice commands=("${@:3}")
-    read -ra items <<<"$2"
+# In each round every command runs in turn with FROM repeats, and then every one with UPTO. A round's figure is the
+# difference of a command's two times, so that starting up and all that is done once are left out. Prints a line for
+# each command: the median of the rounds, in nanoseconds an item. ITEMS is how many items the repeats between have, one
+# number for all commands or one for each: FROM UPTO ITEMS COMMAND..
+between() {
+    local from=$1 upto=$2 round i
+    local -a items few many commands=("${@:4}")
+    read -ra items <<<"$3"
     for ((round = 0; round < rounds; round++)); do
-        for i in "${!commands[@]}"; do once[i]=$(user_time "${commands[i]}" "$n"); done
-        for i in "${!commands[@]}"; do twice[i]=$(user_time "${commands[i]}" $((2 * n))); done
-        for i in "${!commands[@]}"; do echo "$i ${once[i]} ${twice[i]} ${items[i]:-${items[0]}}"; done
+        for i in "${!commands[@]}"; do few[i]=$(time_of "${commands[i]}" "$from"); done
+        for i in "${!commands[@]}"; do many[i]=$(time_of "${commands[i]}" "$upto"); done
+        for i in "${!commands[@]}"; do echo "$i ${few[i]} ${many[i]} ${items[i]:-${items[0]}}"; done
     done | awk '{ print $1, ($3 - $2) * 1e9 / $4 }' | sort -k 1,1n -k 2,2g |
         awk -v rounds="$rounds" '(NR - 1) % rounds == int(rounds / 2) { print $2 }'
+}
+
+# `between` N repeats and 2N: N ITEMS COMMAND..
+medians() {
+    between "$1" $((2 * $1)) "${@:2}"
 }
 
 # Prints what `medians` has found as a row of the table: ours, the twins, and the ratios of ours to them. UNIT is ns, us

@@ -1,6 +1,8 @@
-// The plain twin of bench_scen: the same text, read into the same scenarios.
+// The twin of the work `scen_read` of crates/bench: the same text, read into the same scenarios.
 // Build: g++ -O3 -march=x86-64-v2 -o bench/build/scen_read bench/scen_read.cpp
-// Run: bench/build/scen_read REPEATS    It prints the sum of the coordinates and lengths that were read in all.
+// Run: bench/build/scen_read LINES REPEATS
+// It reads a text of so many scenarios so often, and prints the sum of the lengths, of two coordinates and of the bytes
+// of the name of each scenario that was read.
 #include "lines.hpp"
 #include <cstdint>
 #include <cstdio>
@@ -10,10 +12,10 @@
 
 struct Scenario { uint32_t bucket; std::string name; uint32_t width, height; uint16_t sx, sy, gx, gy; uint64_t nano; };
 
-static std::string text() {
+static std::string text(uint64_t count) {
     std::string s = "version 1\n";
     char line[200];
-    for (uint64_t i = 0; i < 260000; i++) {
+    for (uint64_t i = 0; i < count; i++) {
         uint64_t start = i * 7 % 512, goal = i * 13 % 512;
         snprintf(line, sizeof line, "%lu\tmaps/rooms/64.map\t512\t512\t%lu\t%lu\t%lu\t%lu\t%lu.%lu\n", (unsigned long)(i / 10), (unsigned long)start,
                  (unsigned long)goal, (unsigned long)goal, (unsigned long)start, (unsigned long)(i * 37 % 1000), (unsigned long)(10000000 + i * 7919 % 90000000));
@@ -96,8 +98,9 @@ static bool read(std::string_view bytes, std::vector<Scenario>& scenarios) {
 }
 
 int main(int argc, char** argv) {
-    unsigned repeats = argc > 1 ? atoi(argv[1]) : 1;
-    std::string s = text();
+    if (argc != 3) return 2;
+    unsigned repeats = atoi(argv[2]);
+    std::string s = text(strtoull(argv[1], nullptr, 10));
     uint64_t sum = 0;
     for (unsigned i = 0; i < repeats; i++) {
         std::vector<Scenario> scenarios;

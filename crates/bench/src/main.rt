@@ -1,17 +1,24 @@
 //! Repeats one piece of the crates' work, for measuring, and prints a check sum.
 //!
-//! `bench WORK WORD..` does one of the works that `works.rt` lists, as `bench search open 100`; its twin in C++ prints the
-//! same. `bench brief` goes through all of them with few repeats. `bench/run` builds and measures this program and the twins.
+//! `bench WORK WORD..` does one of the works that `works.rt` lists, as `bench search open 100`; its twin in C++ prints
+//! the same. `bench brief` goes through all of them with few repeats. `bench/run` builds and measures this program and
+//! the twins.
 #![tactic(auto)]
 
+mod builds;
 mod fills;
+mod kinds;
 mod labels;
 mod maps;
 mod orders;
 mod packs;
 mod reads;
 mod rows;
+mod scen_texts;
+mod scens;
 mod searches;
+mod turns;
+mod walks;
 mod works;
 
 use std::{env, io};
@@ -24,9 +31,9 @@ fn main(rt: HostRuntime) -> io::Result<()> {
         line.push(' ')?;
     }
     if line.as_str() == "brief " {
-        print!(rt; "{}", works::brief(rt.alloc())?)?;
+        print!(rt; "{}", works::brief(&rt, rt.alloc())?)?;
     } else {
-        println!(rt; "{}", works::run(rt.alloc(), line.as_str())?)?;
+        println!(rt; "{}", works::run(&rt, rt.alloc(), line.as_str())?)?;
     }
     Ok(())
 }

@@ -1,0 +1,13 @@
+# Whole walks over the rows of four maps of some nine thousand cells, in both orders: a move.
+build_twin walk
+while read -r kind side walks; do
+    map=bench/build/$kind.map
+    $ours map "$kind" "$side" | sed '/^$/d' >"$map"
+    for order in rows dfs; do
+        commands=("$ours walk $kind $side $order {}" "bench/build/walk $map $order {}")
+        same 2 "${commands[@]}"
+        read -r moves _ <<<"$(repeated "${commands[1]}" 1)"
+        medians "$walks" $((walks * moves)) "${commands[@]}" |
+            report "a move, $kind, $order, $((moves / 256)) moves a walk" ns C++
+    done
+done < <(xargs -n 3 <<<"open 95 300 blocked25 110 300 rooms 100 300 maze2 117 300")
