@@ -11,3 +11,4 @@ pub mod Leading
 pub mod Hiring
 pub mod Crewing
 pub mod Parting
+pub mod Pairing

@@ -46,10 +46,10 @@ place_at id board count place pass new = record {
   room = ap (λ (f : Foundation). f.room) new.base;
 }
 
-module _ {D : Type 0} (talks : D → Option (List EndedTalk)) (closed : D → Bool) (faults : D → ℕ) (id : TableId) (board : Boarded) (count : ℕ)
+module _ {D : Type 0} (talks : D → Option (List EndedTalk)) (closed : D → Bool) (faults : D → ℕ) (port : D → Option ℕ) (id : TableId) (board : Boarded) (count : ℕ)
     (doors : List D) (passes : List Pass) (doors_after : List D) (passes_after : List Pass) (builds : BuildTotals) (failed : Bool) (rung_before rung_after : ℕ)
     (news : AreNewPasses id board count passes) (some : 0 < length doors)
-    (p : IsParted talks closed faults doors passes doors_after passes_after builds failed rung_before rung_after) where
+    (p : IsParted talks closed faults port doors passes doors_after passes_after builds failed rung_before rung_after) where
   long_before : length passes ≡ length doors + 1
   long_before = let long = p.long in
       let all : length passes ≡ length p.first + 1 = ap length p.passes_are ∙ length-append p.first (p.builder ∷ []) in omega (arith, long, all)
@@ -106,7 +106,7 @@ module _ {D : Type 0} (talks : D → Option (List EndedTalk)) (closed : D → Bo
     seen_on i early = let b = long_after in
         subst (λ (x : Pass). OthersAdd i (seen_of x) history) (first_after_at i p.builder early) (goes i p.builder (omega (arith, b, early)))
 
-    pub are_served : AreServed talks closed faults board doors doors_after history
+    pub are_served : AreServed talks closed faults port board doors doors_after history
     are_served = record {
       long = p.ran.doors_long;
       each = λ i door early.
@@ -122,6 +122,7 @@ module _ {D : Type 0} (talks : D → Option (List EndedTalk)) (closed : D → Bo
                 (stands_first id board count i (get_or p.first i p.builder) new zero) run.served;
             ended = run.how;
             ends = run.ends;
+            port_is = run.port_is;
             to_end = seen_on i early;
           };
     }

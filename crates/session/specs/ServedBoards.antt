@@ -25,7 +25,7 @@ pub record IsPlaceAt (board : Boarded) (number : ℕ) (place : Place) : Type 0 w
   pub order : place.order ≡ board.order
   pub room : place.room ≡ board.room
 
-module _ {D : Type 0} (talks : D → Option (List EndedTalk)) (closed : D → Bool) (faults : D → ℕ) where
+module _ {D : Type 0} (talks : D → Option (List EndedTalk)) (closed : D → Bool) (faults : D → ℕ) (port : D → Option ℕ) where
   -- The pass with that number served the door from its first look on, up to what it saw last; the history goes on from there
   -- with no entry of its own.
   pub record IsServed (board : Boarded) (number : ℕ) (before after : D) (history : List Entry) : Type 0 where
@@ -35,6 +35,7 @@ module _ {D : Type 0} (talks : D → Option (List EndedTalk)) (closed : D → Bo
     pub served : HasServed place first_standing (talks before) last (talks after)
     pub ended : DoorEnded
     pub ends : DoorEndsSo ended last.seen (closed after) (faults before) (faults after)
+    pub port_is : port after ≡ port before
     pub to_end : OthersAdd number last.seen history
 
   -- EACH DOOR WAS SERVED by the pass with the number of its place
@@ -69,7 +70,7 @@ pub record IsBuiltBy (board : Boarded) (number : ℕ) (totals : BuildTotals) (ru
 
 -- ---- before the board is closed
 
-module _ {D : Type 0} (talks : D → Option (List EndedTalk)) (closed : D → Bool) (faults : D → ℕ) where
+module _ {D : Type 0} (talks : D → Option (List EndedTalk)) (closed : D → Bool) (faults : D → ℕ) (port : D → Option ℕ) where
   -- all passes but the last served the doors, and the last built
   pub record IsParted (doors : List D) (passes : List Pass) (doors_after : List D) (passes_after : List Pass) (builds : BuildTotals) (failed : Bool)
       (rung_before rung_after : ℕ) : Type 0 where
@@ -80,6 +81,6 @@ module _ {D : Type 0} (talks : D → Option (List EndedTalk)) (closed : D → Bo
     pub first_after : List Pass
     pub builder_after : Pass
     pub passes_after_are : passes_after ≡ first_after ++ builder_after ∷ []
-    pub ran : HaveRun talks closed faults doors first doors_after first_after failed
+    pub ran : HaveRun talks closed faults port doors first doors_after first_after failed
     pub same : place_of builder_after ≡ place_of builder
     pub built : HasBuilt (place_of builder) (standing_of builder) builds rung_before (standing_of builder_after) rung_after

@@ -1,6 +1,6 @@
 //! A board that is served at its doors, with a builder beside them.
 
-ghost use Rattle.std.specs.Prelude.{◌≡◌, ◌<◌, ◌≤◌, ◌+◌, [], false, true, All, IfErr, IfOk, OnOk, length, vec_capacity};
+ghost use Rattle.std.specs.Prelude.{◌≡◌, ◌<◌, ◌≤◌, ◌+◌, [], false, true, All, IfErr, IfOk, OnErr, OnOk, length, vec_capacity};
 ghost use Rattle.build_pool.specs.declared.TheConstants.{MAX_WORKERS};
 ghost use Rattle.path_core.specs.Histories.{IsLegal};
 ghost use Rattle.path_core.specs.Passes.{pass_of};
@@ -58,7 +58,7 @@ struct Parted<D: Door> {
 ///
 /// # Errors
 ///
-/// There was no memory. The doors come back, and the board is dropped.
+/// There was no memory. The doors come back, nothing was heard at the ear, and the board is dropped.
 pub fn serve_board<D: Door, B: Bell, E: Ear, R: Threads + Wait + Sync, G: Gate>(
     rt: &R,
     alloc: Global,
@@ -79,7 +79,7 @@ pub fn serve_board<D: Door, B: Bell, E: Ear, R: Threads + Wait + Sync, G: Gate>(
     ensures base { IfOk result (λ served. foundation_of served.board ≡ foundation_of board) }
     ensures legal { IfOk result (λ served. IsLegal served.board.start served.board.history) }
     ensures named { IfOk result (λ served. All (λ entry. pass_of entry < length doors.items + 1) served.board.history) }
-    ensures served { IfOk result (λ served. AreServed D.talks D.closed D.faults board
+    ensures served { IfOk result (λ served. AreServed D.talks D.closed D.faults D.port board
         doors.items served.doors.items served.board.history) }
     ensures built { IfOk result (λ served. IsBuiltBy board (length doors.items) served.builds
         (E.rung ear.old) (E.rung ear.new) served.board.history) }
@@ -87,6 +87,7 @@ pub fn serve_board<D: Door, B: Bell, E: Ear, R: Threads + Wait + Sync, G: Gate>(
         doors.items served.doors.items served.board.history) }
     ensures over { OnOk result (E.over ear.new ≡ true) }
     ensures refused { IfErr result (λ refused. refused.doors.items ≡ doors.items) }
+    ensures unheard { OnErr result (ear.new ≡ ear.old) }
 {
     // That the first version comes after no edits is known from here.
     board.version();
@@ -130,7 +131,7 @@ fn serve_shared<'a, D: Door, B: Bell, E: Ear, R: Threads + Wait + Sync, G: Gate>
     requires none { room.items ≡ [] }
     requires room { length doors.items ≤ vec_capacity room }
     requires waiting { E.over ear.old ≡ false }
-    ensures parted { IsParted D.talks D.closed D.faults doors.items passes.items result.doors.items result.passes.items
+    ensures parted { IsParted D.talks D.closed D.faults D.port doors.items passes.items result.doors.items result.passes.items
         result.builds result.failed (E.rung ear.old) (E.rung ear.new) }
     ensures over { E.over ear.new ≡ true }
 {

@@ -125,7 +125,7 @@ fn work<D: Door, B: Bell, R: Threads + Wait + Sync, G: Gate>(
     requires worker { 0 < workers }
     requires workers { workers ≤ MAX_WORKERS }
     requires open { D.closed worker.old.door ≡ false }
-    ensures { HasRun D.talks D.closed D.faults worker.old.seat.pass worker.old.door
+    ensures { HasRun D.talks D.closed D.faults D.port worker.old.seat.pass worker.old.door
         worker.new.seat.pass worker.new.door worker.new.ended }
 {
     let ended = door_loop(rt, alloc, &mut worker.seat, &mut worker.door, workers, gate);
@@ -145,7 +145,7 @@ fn serve_crew<D: Door, B: Bell, R: Threads + Wait + Sync, G: Gate>(
     requires workers { workers ≤ MAX_WORKERS }
     requires open { (i : ℕ) (d : _) → i < length crew.old → D.closed (slice_index_or crew.old i d).door ≡ false }
     ensures long { length crew.new ≡ length crew.old }
-    ensures each { (i : ℕ) (d : _) → i < length crew.old → HasRun D.talks D.closed D.faults
+    ensures each { (i : ℕ) (d : _) → i < length crew.old → HasRun D.talks D.closed D.faults D.port
         (slice_index_or crew.old i d).seat.pass (slice_index_or crew.old i d).door
         (slice_index_or crew.new i d).seat.pass (slice_index_or crew.new i d).door (slice_index_or crew.new i d).ended }
 {
@@ -173,7 +173,7 @@ fn serve_list<'a, D: Door, B: Bell, R: Threads + Wait + Sync, G: Gate>(
     requires worker { 0 < workers }
     requires workers { workers ≤ MAX_WORKERS }
     requires open { (i : ℕ) (d : _) → i < length crew.items → D.closed (slice_index_or crew.items i d).door ≡ false }
-    ensures ran { HaveAllRun D.talks D.closed D.faults crew.entry.items result.items }
+    ensures ran { HaveAllRun D.talks D.closed D.faults D.port crew.entry.items result.items }
 {
     let mut crew = crew;
     serve_crew(rt, alloc, workers, gate, bell, crew.as_mut_slice());
@@ -227,7 +227,7 @@ pub(crate) fn serve_beside<'a, D: Door, B: Bell, E: Ear, R: Threads + Wait + Syn
     ensures same { place_of result.0.pass ≡ place_of builder.entry.pass }
     ensures built { HasBuilt (place_of builder.entry.pass) (standing_of builder.entry.pass) result.2
         (E.rung ear.old) (standing_of result.0.pass) (E.rung ear.new) }
-    ensures ran { HaveAllRun D.talks D.closed D.faults crew.entry.items result.1.items }
+    ensures ran { HaveAllRun D.talks D.closed D.faults D.port crew.entry.items result.1.items }
 {
     // The builder is the first: where no thread can be made it comes last, when the bell is shut.
     let ((builder, ear, totals), crew) = join(

@@ -6,6 +6,7 @@ ghost use Rattle.moves.specs.Drawings.{IsDrawing};
 
 mod rings;
 mod served;
+mod shared;
 mod talks;
 
 use crate::{Answered, Lone, PathAt, answer};

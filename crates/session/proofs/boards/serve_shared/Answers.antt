@@ -11,7 +11,7 @@ use Rattle.session.proofs.boards.serve_shared.Goals as goal
 
 pub serve_beside-builder-requires-clause-open : goal.serve_beside-builder-requires-clause-open
 serve_beside-builder-requires-clause-open g c κs within =
-    crew_each g.D.Door.talks g.D.Door.closed g.D.Door.faults (λ door. g.D.Door.closed door ≡ false) c.hire-crew.result.items c.args.doors.items
+    crew_each g.D.Door.talks g.D.Door.closed g.D.Door.faults g.D.Door.port (λ door. g.D.Door.closed door ≡ false) c.hire-crew.result.items c.args.doors.items
     c.hire-crew.ensures.doors c.requires.open
 
 pub push_reserved-requires : goal.push_reserved-requires
@@ -45,7 +45,7 @@ returns-clause-parted g c =
       first_after = c.dismiss.new.passes.items;
       builder_after = after;
       passes_after_are = c.push_reserved.ensures.items;
-      ran = have_run g.D.Door.talks g.D.Door.closed g.D.Door.faults c.hire-crew.result.items c.serve_beside-builder.result.1.items c.args.doors.items left
+      ran = have_run g.D.Door.talks g.D.Door.closed g.D.Door.faults g.D.Door.port c.hire-crew.result.items c.serve_beside-builder.result.1.items c.args.doors.items left
           c.dismiss.new.doors.items c.dismiss.new.passes.items c.serve_beside-builder.ensures.ran c.hire-crew.ensures.doors c.hire-crew.ensures.passes
           c.dismiss.ensures.doors c.dismiss.ensures.passes c.any_failed-failed.result
           (c.any_failed-failed.ensures ∙ ap (λ l. any_of l (λ w. has_failed w.ended)) c.deref.ensures.value);
