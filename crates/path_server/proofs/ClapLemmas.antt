@@ -2,15 +2,15 @@
 use Rattle.std.proofs.Common.{◌≡◌, ◌≢◌, ◌∙◌, ◌&&◌, Bool, List, [], ◌∷◌, true, false, IsTrue, inl, inr, refl, ap, arith}
 use Rattle.std.proofs.lemmas.Bool.Decides.{nat_tests}
 use Rattle.clap.specs.Words.{App, HasKind, HasMatchesOf, IsAmong, Kinds, Text, fault_of, found_of, is_simple, is_simple_and_free, kind_of}
-use Rattle.clap.specs.Walk.{first_of, is_empty}
+use Rattle.clap.specs.Walk.{all_of, first_of, is_empty}
 use Rattle.clap.specs.Simple.{built}
 use Rattle.clap.specs.Faults.{is_free_app}
 use Rattle.clap.specs.declared.error.Error.{Error}
 use Rattle.clap.specs.declared.error.kind.ErrorKind.{ErrorKind}
 use Rattle.clap.specs.declared.error.kind.ErrorKind.TheVariants.{OutOfMemory}
 use Rattle.clap.specs.declared.parser.matches.ArgMatches.{ArgMatches}
-use Rattle.clap.proofs.WalkLemmas.{first_value-rows}
-use Rattle.path_server.specs.Words.{HasValues, is_taken, value_of}
+use Rattle.clap.proofs.WalkLemmas.{first_value-rows, raw_values-rows}
+use Rattle.path_server.specs.Words.{HasValues, is_taken, value_of, values_of}
 
 -- no kind of error is among those of words that clap takes
 is_fault : (kinds : Kinds) (k : ErrorKind) → IsAmong k kinds → is_empty kinds ≡ false
@@ -27,10 +27,11 @@ left_true false b e = e
 
 -- where a parse of these words succeeds
 pub has_values : (app : App) (words : List Text) (m : ArgMatches) → is_simple_and_free app ≡ true → fault_of app words ≡ [] → HasMatchesOf app words m → HasValues app words m
-unfolding is_taken value_of
+unfolding is_taken value_of values_of
 has_values app words m simple clean found = record {
   taken = no_fault (fault_of app words) clean;
   values = λ id. first_value-rows (found_of m) id ∙ ap (first_of id) (found (left_true (is_simple app) (is_free_app (built app)) simple)).0;
+  every = λ id. raw_values-rows (found_of m) id ∙ ap (all_of id) (found (left_true (is_simple app) (is_free_app (built app)) simple)).0;
 }
 
 -- where a parse fails and memory is left

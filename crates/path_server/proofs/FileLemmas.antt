@@ -39,6 +39,7 @@ file_cause file status.WriteFault h = h
 file_cause file status.NoMemory h = h
 file_cause file (status.TooLong limit) h = h
 file_cause file (status.Broken why) h = absurd h
+file_cause file status.BadAnswer h = absurd h
 file_cause file (status.Events line) h = h
 
 pub holds_scenarios : (file : RunFile) (bytes : List ℕ) (scenarios : List ScenLine) → HoldsBytes file MAX_SCEN_BYTES bytes → scenarios_of bytes ≡ Ok scenarios → HoldsScenarios file scenarios
@@ -59,6 +60,7 @@ scenario_file_cause file status.WriteFault h = h
 scenario_file_cause file status.NoMemory h = h
 scenario_file_cause file (status.TooLong limit) h = h
 scenario_file_cause file (status.Broken why) h = absurd h
+scenario_file_cause file status.BadAnswer h = absurd h
 scenario_file_cause file (status.Events line) h = h
 
 pub holds_events : (file : RunFile) (bytes : List ℕ) (events : List Event) → HoldsBytes file MAX_EVENTS_BYTES bytes → AreEventsOf bytes events → HoldsEvents file events
@@ -79,4 +81,5 @@ events_file_cause file status.WriteFault h = h
 events_file_cause file status.NoMemory h = h
 events_file_cause file (status.TooLong limit) h = h
 events_file_cause file (status.Broken why) h = absurd h
+events_file_cause file status.BadAnswer h = absurd h
 events_file_cause file (status.Events line) h = absurd h

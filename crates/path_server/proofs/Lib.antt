@@ -8,3 +8,5 @@ pub mod RequestLemmas
 pub mod OptionLemmas
 pub mod PlainLemmas
 pub mod RunLemmas
+pub mod AskLemmas
+pub mod ServingLemmas

@@ -1,5 +1,5 @@
 -- What a command makes of words, and what it made of the values that a parse found.
-use Rattle.std.proofs.Common.{◌≡◌, List, [], ◌∷◌, length, String, Bool, true, false, Option, Some, None, Err, IfOk, IfSome, string_bytes, find, position, inl, inr, refl, sym, ap, option_map, arith}
+use Rattle.std.proofs.Common.{◌≡◌, List, [], ◌∷◌, length, String, Bool, true, false, Option, Some, None, Err, IfOk, IfSome, string_bytes, find, position, inl, inr, refl, sym, ap, ap₂, option_map, arith}
 use Rattle.std.specs.Option.{option_and_then}
 use Rattle.std.specs.List.{position_or_len}
 use Rattle.std.proofs.lemmas.Bool.{cases_lt}
@@ -13,11 +13,11 @@ use Rattle.clap.specs.Words.{Text, first_value, found_of, is_simple_and_free}
 use Rattle.clap.specs.declared.parser.matches.ArgMatches.{ArgMatches}
 use Rattle.clap.proofs.OnLiterals.{clap_on_literals}
 use Rattle.path_server.specs.declared.commands.Verb.{Verb}
-use Rattle.path_server.specs.declared.commands.Verb.TheVariants.{Path, Check, Scen, Made, Replay, Talk}
+use Rattle.path_server.specs.declared.commands.Verb.TheVariants.{Path, Check, Scen, Made, Replay, Talk, Serve, Ask}
 use Rattle.path_server.specs.declared.request.Request.{Request}
 use Rattle.path_server.specs.declared.request.RequestError.TheVariants.{Usage}
 use Rattle.path_server.specs.Commands.{app_for, verb_named, verb_of}
-use Rattle.path_server.specs.Words.{HasValues, command_app, is_taken, texts_of}
+use Rattle.path_server.specs.Words.{HasValues, command_app, every_value, is_taken, texts_of}
 use Rattle.path_server.specs.Requests.{Asked, asked, asked_by, request_by}
 
 -- clap says of each command what it makes of any words
@@ -29,6 +29,8 @@ simple_app Scen = refl
 simple_app Made = refl
 simple_app Replay = refl
 simple_app Talk = refl
+simple_app Serve = refl
+simple_app Ask = refl
 
 -- the first word names the command
 pub named_first : (words : List (String Global)) (name : String Global) → Some name ≡ slice_get words 0 → verb_of (texts_of words) ≡ verb_named (string_bytes name)
@@ -36,9 +38,9 @@ named_first [] name e = absurd cc
 named_first (word ∷ words) name e = let same : word ≡ name = cc in ap (λ first. verb_named (string_bytes first)) same
 
 -- clap takes the words: the command reads the values that the parse found
-pub request_found : (verb : Verb) (words : List Text) (m : ArgMatches) → HasValues (app_for verb) words m → asked_by verb (first_value (found_of m)) ≡ request_by verb words
+pub request_found : (verb : Verb) (words : List Text) (m : ArgMatches) → HasValues (app_for verb) words m → asked_by verb (first_value (found_of m)) (every_value (found_of m)) ≡ request_by verb words
 unfolding request_by
-request_found verb words m found = rw found.taken (ap (asked_by verb) (λ i id. found.values id i))
+request_found verb words m found = rw found.taken (ap₂ (asked_by verb) (λ i id. found.values id i) (λ i id. found.every id i))
 
 -- clap does not take them
 pub request_refused : (verb : Verb) (words : List Text) → is_taken (app_for verb) words ≡ false → request_by verb words ≡ None

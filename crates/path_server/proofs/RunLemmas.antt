@@ -16,7 +16,7 @@ use Rattle.path_server.specs.declared.status.Status.TheVariants as status
 use Rattle.path_server.specs.declared.task.Task.{Task}
 use Rattle.path_server.specs.declared.task.Task.TheVariants as task
 use Rattle.path_server.specs.Statuses.{status_text}
-use Rattle.path_server.specs.Requests.{Asked, path, check, scen, made, replay, talk, build_of}
+use Rattle.path_server.specs.Requests.{Asked, path, check, scen, made, replay, talk, serve, ask, build_of}
 use Rattle.path_server.specs.Runs.{AsksOf, Asks, BreaksOff, FailsByMap, FailsByTask, IsAnswerOn, IsAnswerTo, IsFirstVersion, GivesMap, GivesNoMap, GivesNoTask, GivesTask, IsCause, IsEventsFileCause, IsFileCause, IsMadeCause, IsMapFileCause, IsRight, IsScenFileCause, IsVersionCause, PutsAll, Run, RunFile, file_over, map_made, run_over}
 
 -- ---- the cause of a status
@@ -32,6 +32,7 @@ map_file_fails run file status.WriteFault fails h = absurd h
 map_file_fails run file status.NoMemory fails h = tt
 map_file_fails run file (status.TooLong limit) fails h = inl fails
 map_file_fails run file (status.Broken why) fails h = absurd h
+map_file_fails run file status.BadAnswer fails h = absurd h
 map_file_fails run file (status.Events line) fails h = absurd h
 
 made_fails : (run : Run) (map : Map) (cause : Status) → FailsByMap run cause → IsMadeCause map cause → IsCause run cause
@@ -45,6 +46,7 @@ made_fails run map status.WriteFault fails h = absurd h
 made_fails run map status.NoMemory fails h = tt
 made_fails run map (status.TooLong limit) fails h = absurd h
 made_fails run map (status.Broken why) fails h = absurd h
+made_fails run map status.BadAnswer fails h = absurd h
 made_fails run map (status.Events line) fails h = absurd h
 
 -- there is no map for what was asked for
@@ -57,6 +59,9 @@ map_fails run (scen name scenarios build) cause asks h =
 map_fails run (made sides seed build) cause asks h = made_fails run (map_made sides seed) cause (record { asked = made sides seed build; asks = asks; fails = h }) h
 map_fails run (replay name events build) cause asks h =
     map_file_fails run (run.file name) cause (record { asked = replay name events build; asks = asks; fails = h }) h
+map_fails run (serve name doors room build) cause asks h =
+    map_file_fails run (run.file name) cause (record { asked = serve name doors room build; asks = asks; fails = h }) h
+map_fails run (ask port said) cause asks h = absurd h
 map_fails run (talk name room build) cause asks h = map_file_fails run (run.file name) cause (record { asked = talk name room build; asks = asks; fails = h }) h
 
 scen_file_fails : (run : Run) (file : RunFile) (cause : Status) → FailsByTask run cause → IsScenFileCause file cause → IsCause run cause
@@ -70,6 +75,7 @@ scen_file_fails run file status.WriteFault fails h = absurd h
 scen_file_fails run file status.NoMemory fails h = tt
 scen_file_fails run file (status.TooLong limit) fails h = inr fails
 scen_file_fails run file (status.Broken why) fails h = absurd h
+scen_file_fails run file status.BadAnswer fails h = absurd h
 scen_file_fails run file (status.Events line) fails h = absurd h
 
 events_file_fails : (run : Run) (file : RunFile) (cause : Status) → FailsByTask run cause → IsEventsFileCause file cause → IsCause run cause
@@ -83,6 +89,7 @@ events_file_fails run file status.WriteFault fails h = absurd h
 events_file_fails run file status.NoMemory fails h = tt
 events_file_fails run file (status.TooLong limit) fails h = inr fails
 events_file_fails run file (status.Broken why) fails h = absurd h
+events_file_fails run file status.BadAnswer fails h = absurd h
 events_file_fails run file (status.Events line) fails h = fails
 
 -- there is a map, and another file is not what it has to be
@@ -95,6 +102,8 @@ task_fails run (made sides seed build) map cause asks gives h = absurd h
 task_fails run (replay name events build) map cause asks gives h =
     events_file_fails run (run.file events) cause (record { asked = replay name events build; asks = asks; map = map; gives = gives; fails = h }) h
 task_fails run (talk name room build) map cause asks gives h = absurd h
+task_fails run (serve name doors room build) map cause asks gives h = absurd h
+task_fails run (ask port said) map cause asks gives h = absurd h
 
 -- the version has no answer
 version_fails : (run : Run) (asked : Task) (version : Versioned) (cause : Status) → AsksOf run asked version → IsVersionCause version asked cause → IsCause run cause
@@ -108,6 +117,7 @@ version_fails run (task.Path start goal) version status.WriteFault of h = absurd
 version_fails run (task.Path start goal) version status.NoMemory of h = tt
 version_fails run (task.Path start goal) version (status.TooLong limit) of h = absurd h
 version_fails run (task.Path start goal) version (status.Broken why) of h = absurd h
+version_fails run (task.Path start goal) version status.BadAnswer of h = absurd h
 version_fails run (task.Path start goal) version (status.Events line) of h = absurd h
 version_fails run task.Check version cause of h = subst (λ cause. IsCause run cause) (sym h) tt
 version_fails run (task.Scen lines) version cause of h = subst (λ cause. IsCause run cause) (sym h) tt
@@ -138,6 +148,7 @@ right_refusal run status.WriteFault is = absurd is
 right_refusal run status.NoMemory is = (is, refl)
 right_refusal run (status.TooLong limit) is = (is, refl)
 right_refusal run (status.Broken why) is = absurd is
+right_refusal run status.BadAnswer is = absurd is
 right_refusal run (status.Events line) is = (is, refl)
 
 -- the line of the cause is right, and so is that of want of memory
@@ -164,6 +175,8 @@ module _ {F : Type 0} (content : F → Text → Option Text) (faults : F → Tex
   same_map (made sides seed build) map h = h
   same_map (replay name events build) map h = h
   same_map (talk name room build) map h = h
+  same_map (serve name doors room build) map h = h
+  same_map (ask port said) map h = absurd h
 
   module _ (kept : TellsTheSame (content old) (content mid)) (later : NoneFell (faults old) (faults mid)) where
     -- and so is what was told of the second file
@@ -182,6 +195,8 @@ module _ {F : Type 0} (content : F → Text → Option Text) (faults : F → Tex
       holds = subst (λ held. IfSome held (λ bytes. (length bytes ≤ MAX_EVENTS_BYTES) × AreEventsOf bytes h.events.items)) (kept events) h.holds;
     }
     same_task (talk name room build) given h = absurd h
+    same_task (serve name doors room build) given h = absurd h
+    same_task (ask port said) given h = absurd h
 
     rose_before : (a b c : ℕ) → a ≤ b → Rose b c → Rose a c
     rose_before a b c below rose = omega arith
@@ -198,6 +213,7 @@ module _ {F : Type 0} (content : F → Text → Option Text) (faults : F → Tex
     same_file_cause name limit status.NoMemory h = h
     same_file_cause name limit (status.TooLong told) h = (h.0, subst (λ held. IfSome held (λ bytes. limit < length bytes)) (kept name) h.1)
     same_file_cause name limit (status.Broken why) h = absurd h
+    same_file_cause name limit status.BadAnswer h = absurd h
     same_file_cause name limit (status.Events line) h = h
 
     same_scen_cause : (name : Text) (cause : Status) → IsScenFileCause (file_over content faults mid new name) cause → IsScenFileCause (file_over content faults old new name) cause
@@ -212,6 +228,7 @@ module _ {F : Type 0} (content : F → Text → Option Text) (faults : F → Tex
     same_scen_cause name status.NoMemory h = h
     same_scen_cause name (status.TooLong limit) h = same_file_cause name MAX_SCEN_BYTES (status.TooLong limit) h
     same_scen_cause name (status.Broken why) h = absurd h
+    same_scen_cause name status.BadAnswer h = absurd h
     same_scen_cause name (status.Events line) h = h
 
     same_events_cause : (name : Text) (cause : Status) → IsEventsFileCause (file_over content faults mid new name) cause
@@ -226,6 +243,7 @@ module _ {F : Type 0} (content : F → Text → Option Text) (faults : F → Tex
     same_events_cause name status.NoMemory h = h
     same_events_cause name (status.TooLong limit) h = same_file_cause name MAX_EVENTS_BYTES (status.TooLong limit) h
     same_events_cause name (status.Broken why) h = absurd h
+    same_events_cause name status.BadAnswer h = absurd h
     same_events_cause name (status.Events line) h =
         subst (λ held. IfSome held (λ bytes. (length bytes ≤ MAX_EVENTS_BYTES) × (text_said bytes ≡ Err line))) (kept name) h
 
@@ -236,6 +254,8 @@ module _ {F : Type 0} (content : F → Text → Option Text) (faults : F → Tex
     same_task_cause (made sides seed build) cause h = h
     same_task_cause (replay name events build) cause h = same_events_cause events cause h
     same_task_cause (talk name room build) cause h = absurd h
+    same_task_cause (serve name doors room build) cause h = absurd h
+    same_task_cause (ask port said) cause h = absurd h
 
     -- what was asked for, where both files were read and the version was built
     pub asks_of : (words : List (String Global)) (asked : Asked) (map : Map) (given : Task) (version : Versioned) → Asks (run_over words content faults old new) asked

@@ -4,18 +4,19 @@ use Rattle.std.specs.Str.{bytes_eq}
 use Rattle.clap.specs.Walk.{Rule, Text}
 use Rattle.clap.specs.Simple.{App}
 use Rattle.path_server.specs.declared.commands.Verb.{Verb}
-use Rattle.path_server.specs.declared.commands.Verb.TheVariants.{Path, Check, Scen, Made, Replay, Talk}
+use Rattle.path_server.specs.declared.commands.Verb.TheVariants.{Path, Check, Scen, Made, Replay, Talk, Serve, Ask}
 use Rattle.path_server.specs.declared.commands.Field.{Field}
-use Rattle.path_server.specs.declared.commands.Field.TheVariants.{Argument, Setting}
+use Rattle.path_server.specs.declared.commands.Field.TheVariants.{Argument, Setting, Several}
 use Rattle.path_server.specs.declared.commands.Value.{Value}
 use Rattle.path_server.specs.declared.commands.Value.TheVariants as value
 use Rattle.path_server.specs.Words.{command_app, number_as, option_rule, order_in, path_in}
-use Rattle.path_server.specs.Words.{required_rule}
+use Rattle.path_server.specs.Words.{required_rule, several_rule}
 
 -- what clap reads of an argument or option
 abbrev pub rule_for : Field → Rule
 rule_for (Argument id form) = required_rule id.now
 rule_for (Setting id form) = option_rule id.now
+rule_for (Several id) = several_rule id.now
 
 -- the text is such a value
 abbrev pub is_value : Value → Text → Bool
@@ -33,6 +34,7 @@ form_text value.Order = codes "rows|dfs"
 abbrev pub field_text : Field → Text
 field_text (Argument id form) = codes " " ++ id.now
 field_text (Setting id form) = codes " [--" ++ id.now ++ codes " " ++ form_text form ++ codes "]"
+field_text (Several id) = codes " " ++ id.now ++ codes ".."
 
 -- arguments of these names, and how a database is built
 abbrev pub with_build : List Text → List Rule
@@ -40,7 +42,7 @@ with_build arguments =
     map required_rule arguments ++ option_rule (codes "order") ∷ option_rule (codes "workers") ∷ []
 
 abbrev pub verbs : List Verb
-verbs = Path ∷ Check ∷ Scen ∷ Made ∷ Replay ∷ Talk ∷ []
+verbs = Path ∷ Check ∷ Scen ∷ Made ∷ Replay ∷ Talk ∷ Serve ∷ Ask ∷ []
 
 -- the word that names the command
 abbrev pub verb_name : Verb → Text
@@ -50,6 +52,8 @@ verb_name Scen = codes "scen"
 verb_name Made = codes "made"
 verb_name Replay = codes "replay"
 verb_name Talk = codes "talk"
+verb_name Serve = codes "serve"
+verb_name Ask = codes "ask"
 
 -- its arguments in order, and its options
 abbrev pub verb_rules : Verb → List Rule
@@ -60,6 +64,9 @@ verb_rules Scen = with_build (codes "MAP" ∷ codes "SCEN" ∷ [])
 verb_rules Made = with_build (codes "W" ∷ codes "H" ∷ codes "SEED" ∷ [])
 verb_rules Replay = with_build (codes "MAP" ∷ codes "EVENTS" ∷ [])
 verb_rules Talk = with_build (codes "MAP" ∷ []) ++ option_rule (codes "room") ∷ []
+verb_rules Serve =
+    with_build (codes "MAP" ∷ codes "PORT" ∷ codes "DOORS" ∷ []) ++ option_rule (codes "room") ∷ []
+verb_rules Ask = required_rule (codes "PORT") ∷ several_rule (codes "WORDS") ∷ []
 
 -- how they are shown
 abbrev pub verb_synopsis : Verb → Text
@@ -69,6 +76,8 @@ verb_synopsis Scen = codes " MAP SCEN [--order rows|dfs] [--workers N]"
 verb_synopsis Made = codes " W H SEED [--order rows|dfs] [--workers N]"
 verb_synopsis Replay = codes " MAP EVENTS [--order rows|dfs] [--workers N]"
 verb_synopsis Talk = codes " MAP [--order rows|dfs] [--workers N] [--room N]"
+verb_synopsis Serve = codes " MAP PORT DOORS [--order rows|dfs] [--workers N] [--room N]"
+verb_synopsis Ask = codes " PORT WORDS.."
 
 -- the command as clap reads it
 unfoldable pub app_for : Verb → App

@@ -5,6 +5,11 @@ pub mod PlainWords
 pub mod Texts
 pub mod Queries
 pub mod Statuses
+pub mod HeardTexts
+pub mod SaidRequests
+pub mod Asks
 pub mod Runs
 pub mod Talks
+pub mod AskEnds
+pub mod Serving
 pub mod System

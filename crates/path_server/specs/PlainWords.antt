@@ -35,7 +35,7 @@ PlainWordsAreRead = (words : List Text) → AllByRecursion IsPlain words
     → (request_of (codes "path" ∷ words) ≡ plain_path words)
     × (request_of (codes "check" ∷ words) ≡ plain_check words)
 
--- no option has this name
+-- no option of `path` or `check` has this name
 pub record IsUnknown (name : Text) : Type 0 where
   pub order : name ≢ codes "order"
   pub workers : name ≢ codes "workers"

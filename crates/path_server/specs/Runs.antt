@@ -31,7 +31,7 @@ use Rattle.path_server.specs.declared.status.Status.TheVariants as status
 use Rattle.path_server.specs.declared.task.Task.{Task}
 use Rattle.path_server.specs.declared.task.Task.TheVariants as task
 use Rattle.path_server.specs.Words.{texts_of}
-use Rattle.path_server.specs.Requests.{Asked, path, check, scen, made, replay, talk, build_of, request_of}
+use Rattle.path_server.specs.Requests.{Asked, path, check, scen, made, replay, talk, serve, ask, build_of, request_of}
 use Rattle.path_server.specs.Texts.{check_text}
 use Rattle.path_server.specs.Queries.{TellsAnswer, TellsReplay, TellsResults, TellsTotals}
 use Rattle.path_server.specs.Statuses.{status_text}
@@ -116,7 +116,7 @@ HasFailed file = Rose file.before file.after
 abbrev pub map_made : Sides → ℕ → Map
 map_made sides seed = formula_map sides.width sides.height seed
 
--- where each command has its map from
+-- where each command has its map from; `ask` has none
 abbrev pub GivesMap : (Text → RunFile) → Asked → Map → Type 0
 GivesMap file (path name start goal build) map = HoldsMap (file name) map
 GivesMap file (check name build) map = HoldsMap (file name) map
@@ -124,6 +124,8 @@ GivesMap file (scen name scenarios build) map = HoldsMap (file name) map
 GivesMap file (made sides seed build) map = IsMade (map_made sides seed) (Whole map)
 GivesMap file (replay name events build) map = HoldsMap (file name) map
 GivesMap file (talk name room build) map = HoldsMap (file name) map
+GivesMap file (serve name doors room build) map = HoldsMap (file name) map
+GivesMap file (ask port said) map = ⊥
 
 -- the task is that of the scenarios in a file
 pub record GivesScenarios (file : RunFile) (asked : Task) : Type 0 where
@@ -137,7 +139,7 @@ pub record GivesEvents (file : RunFile) (asked : Task) : Type 0 where
   pub is : asked ≡ task.Replay events
   pub holds : HoldsEvents file events.items
 
--- what each command does with the first version of its map, and where it has that from; a session is
+-- what each command does with the first version of its map, and where it has that from; sessions are
 -- no such task
 abbrev pub GivesTask : (Text → RunFile) → Asked → Task → Type 0
 GivesTask file (path name start goal build) asked = asked ≡ task.Path start goal
@@ -146,6 +148,8 @@ GivesTask file (scen name scenarios build) asked = GivesScenarios (file scenario
 GivesTask file (made sides seed build) asked = asked ≡ task.Made seed
 GivesTask file (replay name events build) asked = GivesEvents (file events) asked
 GivesTask file (talk name room build) asked = ⊥
+GivesTask file (serve name doors room build) asked = ⊥
+GivesTask file (ask port said) asked = ⊥
 
 -- the first version of a map in an order: the one that comes after no edit
 pub record IsFirstVersion (map : Map) (order : OrderKind) (version : Versioned) : Type 0 where
@@ -218,6 +222,8 @@ GivesNoMap file (scen name scenarios build) cause = IsMapFileCause (file name) c
 GivesNoMap file (made sides seed build) cause = IsMadeCause (map_made sides seed) cause
 GivesNoMap file (replay name events build) cause = IsMapFileCause (file name) cause
 GivesNoMap file (talk name room build) cause = IsMapFileCause (file name) cause
+GivesNoMap file (serve name doors room build) cause = IsMapFileCause (file name) cause
+GivesNoMap file (ask port said) cause = ⊥
 
 -- why what was asked for has a map, and cannot be done for want of another file
 abbrev pub GivesNoTask : (Text → RunFile) → Asked → Status → Type 0
@@ -274,6 +280,7 @@ IsCause run status.NoMemory = Unit {0}
 IsCause run (status.TooLong limit) = FailsByFile run (status.TooLong limit)
 IsCause run (status.Events line) = FailsByTask run (status.Events line)
 IsCause run (status.Broken fault) = ⊥
+IsCause run status.BadAnswer = ⊥
 
 -- ---- what a task needs
 

@@ -3,6 +3,8 @@ use Rattle.std.specs.Prelude.{ℕ, List, [], ◌++◌, codes}
 use Rattle.std.specs.Fmt.{decimal}
 use Rattle.map_read.specs.Faults.{fault_text}
 use Rattle.scen_read.specs.Faults.{fault_text as scenario_fault_text}
+use Rattle.path_client.specs.declared.fault.ClientFault.{ClientFault}
+use Rattle.path_client.specs.declared.fault.ClientFault.TheVariants as client
 use Rattle.session.specs.declared.sessions.SessionFault.{SessionFault}
 use Rattle.session.specs.declared.sessions.SessionFault.TheVariants as fault
 use Rattle.path_server.specs.declared.request.RequestError.{RequestError}
@@ -26,6 +28,7 @@ status_words status.NoMemory = codes "out of memory"
 status_words (status.TooLong limit) = codes "file too long: " ++ decimal limit
 status_words (status.Events line) = codes "events refused: line " ++ decimal line
 status_words (status.Broken fault) = []
+status_words status.BadAnswer = codes "bad answer"
 
 -- the same as a line
 abbrev pub status_text : Status → List ℕ
@@ -43,6 +46,7 @@ status_code status.WriteFault = 6
 status_code status.NoMemory = 7
 status_code (status.TooLong limit) = 8
 status_code (status.Broken fault) = 9
+status_code status.BadAnswer = 10
 status_code (status.Events line) = 11
 
 -- the status of words that ask for nothing
@@ -56,3 +60,11 @@ status_for (fault.Torn have want) = status.Broken (fault.Torn have want)
 status_for (fault.TooLong size) = status.Broken (fault.TooLong size)
 status_for fault.ReadFault = status.ReadFault
 status_for fault.WriteFault = status.WriteFault
+
+-- the status where nothing was heard of a server
+abbrev pub status_heard : ClientFault → Status
+status_heard client.Malformed = status.BadAnswer
+status_heard (client.Closed have) = status.BadAnswer
+status_heard client.ReadFault = status.ReadFault
+status_heard client.WriteFault = status.WriteFault
+status_heard client.NoMemory = status.NoMemory

@@ -1,5 +1,5 @@
 -- The session that `talk` holds, and how it ends.
-use Rattle.std.specs.Prelude.{◌≡◌, ◌⊎◌, ℕ, [], Err, None, Ok, Option, Result}
+use Rattle.std.specs.Prelude.{◌≡◌, ◌⊎◌, ℕ, Err, None, Ok, Option, Result}
 use Rattle.wire.specs.Causes.{Rose}
 use Rattle.wire.specs.Talks.{Talk}
 use Rattle.clap.specs.Walk.{Text}
@@ -7,6 +7,7 @@ use Rattle.moves.specs.Maps.{Map}
 use Rattle.cell_order.specs.declared.OrderKind.{OrderKind}
 use Rattle.versions.specs.Databases.{Versioned}
 use Rattle.path_core.specs.Boards.{Boarded, new_board}
+use Rattle.path_core.specs.Histories.{IsLegal}
 use Rattle.session.specs.declared.sessions.Ended.{Ended}
 use Rattle.session.specs.declared.sessions.SessionFault.{SessionFault}
 use Rattle.session.specs.declared.sessions.SessionFault.TheVariants as fault
@@ -16,7 +17,7 @@ use Rattle.path_server.specs.declared.request.BuildOptions.{BuildOptions}
 use Rattle.path_server.specs.declared.status.Status.{Status}
 use Rattle.path_server.specs.declared.status.Status.TheVariants as status
 use Rattle.path_server.specs.Requests.{talk}
-use Rattle.path_server.specs.Runs.{Asks, HoldsMap, IsCause, IsFirstVersion, Run}
+use Rattle.path_server.specs.Runs.{Asks, HoldsMap, IsCause, IsFirstVersion, Run, RunFile}
 
 -- the input of a run: its talk, where it is told, and how often a read and a write of it failed, before
 -- the run and after it
@@ -45,48 +46,41 @@ pub record IsUnheard (input : RunInput) : Type 0 where
   pub reads : input.reads_after ≡ input.reads_before
   pub writes : input.writes_after ≡ input.writes_before
 
--- The words ask for a session on this board: one with no entries, of the map that the file holds, with
--- the first version of that in the order asked for, and with the room asked for.
+-- The board is the first of the map that a file holds: it has no entries, the first version of the map
+-- in this order, and this room.
+pub record IsFirstBoard (file : RunFile) (order : OrderKind) (room : ℕ) (board : Boarded) : Type 0 where
+  pub map : Map
+  pub holds : HoldsMap file map
+  pub version : Versioned
+  pub first : IsFirstVersion map order version
+  pub is : board ≡ new_board map version room
+
+-- the words ask for a session on this board
 pub record AsksBoard (run : Run) (board : Boarded) : Type 0 where
   pub name : Text
   pub room : ℕ
   pub build : BuildOptions
   pub asks : Asks run (talk name room build)
-  pub map : Map
-  pub holds : HoldsMap (run.file name) map
-  pub version : Versioned
-  pub first : IsFirstVersion map build.order version
-  pub is : board ≡ new_board map version room
+  pub first : IsFirstBoard (run.file name) build.order room board
 
 -- where the one pass of a session stands, on a board of this map, in this order and with this room
 abbrev pub place_for : Map → OrderKind → ℕ → Place
 place_for map order room =
     record { pass = 0; start = map; order = order; room = room; shared = None }
 
--- how it stands there at first: it has seen no entry, and holds the first version
-abbrev pub first_standing : Versioned → Standing
-first_standing version = standing [] version None
-
--- a session was held over the input as the one pass of this board, and ended so
+-- a session was held over the input as the one pass of this board, and ended so; the history that it
+-- leaves is legal
 pub record HoldsTalk (board : Boarded) (input : RunInput) (ended : Result Ended SessionFault) : Type 0 where
   pub last : Standing
   pub conversed : Conversed (place_for board.start board.order board.room)
       (standing board.history board.version None) input.before ended last input.after
+  pub legal : IsLegal board.start last.seen
 
--- The words ask for a session on the first version of the map that the file holds, in the order and
--- with the room asked for; that session was held over the input, and ended so.
+-- the words ask for a session on a board, and it was held over the input, and ended so
 pub record HasTalked (run : Run) (input : RunInput) (ended : Result Ended SessionFault) : Type 0 where
-  pub name : Text
-  pub room : ℕ
-  pub build : BuildOptions
-  pub asks : Asks run (talk name room build)
-  pub map : Map
-  pub holds : HoldsMap (run.file name) map
-  pub version : Versioned
-  pub first : IsFirstVersion map build.order version
-  pub last : Standing
-  pub conversed : Conversed (place_for map build.order room) (first_standing version) input.before
-      ended last input.after
+  pub board : Boarded
+  pub asks : AsksBoard run board
+  pub talk : HoldsTalk board input ended
 
 -- the input ended inside a frame, or a frame is too long
 abbrev pub IsBroken : SessionFault → Type 0

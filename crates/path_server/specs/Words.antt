@@ -1,15 +1,17 @@
 -- The words of a command, as clap reads them, and what a value of a command may be.
 use Rattle.std.specs.Prelude.{◌≡◌, ◌<◌, ◌≤◌, ℕ, Bool, true, ◌&&◌, List, [], ◌∷◌, Option, Some, None, String}
-use Rattle.std.specs.Prelude.{map, length, codes, nat_lt, nat_le, if◌then◌else◌, string_bytes}
+use Rattle.std.specs.Prelude.{map, option_map, length, codes, nat_lt, nat_le, if◌then◌else◌, string_bytes}
 use Rattle.std.specs.Prelude.{IsTrue}
 use Rattle.std.specs.Char.{is_ascii_digit}
 use Rattle.std.specs.Global.{Global}
 use Rattle.std.specs.List.{list_all}
 use Rattle.std.specs.Str.{bytes_eq}
 use Rattle.std.specs.Str.Parse.{digits_value}
-use Rattle.clap.specs.Walk.{Rule, Text, first_of, is_empty}
+use Rattle.clap.specs.Walk.{Rule, Text, all_of, first_of, is_empty}
+use Rattle.clap.specs.Lexer.{usize_max}
+use Rattle.clap.specs.declared.parser.matches.Found.{Found}
 use Rattle.clap.specs.Simple.{App, matches_of, new_rule, new_shape}
-use Rattle.clap.specs.Matches.{first_value, found_of}
+use Rattle.clap.specs.Matches.{first_value, found_of, matched_of, raw_values}
 use Rattle.clap.specs.Faults.{fault_of}
 use Rattle.clap.specs.declared.builder.action.ArgAction.TheVariants.{Set}
 use Rattle.clap.specs.declared.parser.matches.ArgMatches.{ArgMatches}
@@ -18,6 +20,7 @@ use Rattle.cell_order.specs.declared.OrderKind.TheVariants.{Rows, Dfs}
 use Rattle.build_pool.specs.declared.TheConstants.{MAX_WORKERS}
 use Rattle.moves.specs.declared.TheConstants.{MAX_SIDE}
 use Rattle.path_core.specs.declared.TheConstants.{MAX_ENTRIES}
+use Rattle.session.specs.declared.boards.TheConstants.{MAX_DOORS}
 use Rattle.path_server.specs.declared.words.NumberKind.{NumberKind}
 use Rattle.path_server.specs.declared.words.NumberKind.TheVariants as number
 
@@ -30,6 +33,10 @@ texts_of = map string_bytes
 -- an argument that is required, and has the last value that is given for it
 abbrev pub required_rule : Text → Rule
 required_rule id = record (new_rule id) { required = true; action = Some Set }
+
+-- such an argument with one or more values, which stands behind the others
+abbrev pub several_rule : Text → Rule
+several_rule id = record (required_rule id) { range = Some (record { start_inclusive = 1; end_inclusive = usize_max }) }
 
 -- an option `--id VALUE` or `--id=VALUE`, which may be left out
 abbrev pub option_rule : Text → Rule
@@ -55,10 +62,19 @@ is_taken app words = is_empty (fault_of app words)
 unfoldable pub value_of : App → List Text → Text → Option Text
 value_of app words id = first_of id (matches_of app words)
 
+-- all values that clap finds in the words for the argument of this name
+unfoldable pub values_of : App → List Text → Text → Option (List Text)
+values_of app words id = all_of id (matches_of app words)
+
+-- all values that a parse found for the argument of this name
+abbrev pub every_value : Found → Text → Option (List Text)
+every_value found id = option_map raw_values (matched_of found id)
+
 -- clap takes the words, and a parse found each value that they have
 pub record HasValues (app : App) (words : List Text) (matches : ArgMatches) : Type 0 where
   pub taken : IsTrue (is_taken app words)
   pub values : (id : Text) → first_value (found_of matches) id ≡ value_of app words id
+  pub every : (id : Text) → every_value (found_of matches) id ≡ values_of app words id
 
 -- ---- the values
 
@@ -77,6 +93,8 @@ least number.Side = 1
 least number.Seed = 0
 least number.Workers = 1
 least number.Room = 0
+least number.Port = 1
+least number.Doors = 1
 
 abbrev pub most : NumberKind → ℕ
 most number.Coordinate = 65535
@@ -84,6 +102,8 @@ most number.Side = MAX_SIDE
 most number.Seed = 4294967295
 most number.Workers = MAX_WORKERS
 most number.Room = MAX_ENTRIES
+most number.Port = 65535
+most number.Doors = MAX_DOORS
 
 -- the number where it is from the one to the other
 abbrev pub between : ℕ → ℕ → Option ℕ → Option ℕ

@@ -3,6 +3,7 @@ ghost use Rattle.std.specs.Prelude.{◌≡◌, bytes_eq, false, find, flat_map, 
 ghost use Rattle.std.specs.Prelude.{is_some, slice_get};
 ghost use Rattle.clap.specs.Words.{app_of, rule_of};
 ghost use Rattle.path_server.specs.Commands.{app_for, field_text, form_text, is_value, rule_for};
+ghost use Rattle.path_server.specs.Words.{several_rule};
 ghost use Rattle.path_server.specs.Commands.{verb_name, verb_named, verb_rules, verb_synopsis};
 
 use crate::words::{NumberKind, file_name, order};
@@ -26,6 +27,10 @@ pub enum Verb {
     Replay,
     /// A session on a board that begins with a map.
     Talk,
+    /// Sessions at the doors of a port, on a board that begins with a map.
+    Serve,
+    /// One request to a server, and its answer.
+    Ask,
 }
 
 /// An argument or an option of a command, and what its value may be.
@@ -35,6 +40,8 @@ pub enum Field {
     Argument(&'static str, Value),
     /// An option `--NAME VALUE`, which may be left out.
     Setting(&'static str, Value),
+    /// An argument of this name that has one or more values, behind all others.
+    Several(&'static str),
 }
 
 /// What a value may be.
@@ -93,15 +100,31 @@ static TALK_FIELDS: [Field; 4] = [
     Field::Setting("room", Value::Number(NumberKind::Room)),
 ];
 
+static SERVE_FIELDS: [Field; 6] = [
+    Field::Argument("MAP", Value::File),
+    Field::Argument("PORT", Value::Number(NumberKind::Port)),
+    Field::Argument("DOORS", Value::Number(NumberKind::Doors)),
+    Field::Setting("order", Value::Order),
+    Field::Setting("workers", Value::Number(NumberKind::Workers)),
+    Field::Setting("room", Value::Number(NumberKind::Room)),
+];
+
+static ASK_FIELDS: [Field; 2] = [
+    Field::Argument("PORT", Value::Number(NumberKind::Port)),
+    Field::Several("WORDS"),
+];
+
 impl Verb {
     /// All commands.
-    pub const ALL: [Verb; 6] = [
+    pub const ALL: [Verb; 8] = [
         Verb::Path,
         Verb::Check,
         Verb::Scen,
         Verb::Made,
         Verb::Replay,
         Verb::Talk,
+        Verb::Serve,
+        Verb::Ask,
     ];
 
     /// The word that names the command.
@@ -115,6 +138,8 @@ impl Verb {
             Verb::Made => "made",
             Verb::Replay => "replay",
             Verb::Talk => "talk",
+            Verb::Serve => "serve",
+            Verb::Ask => "ask",
         }
     }
 
@@ -130,6 +155,8 @@ impl Verb {
             Verb::Made => MADE_FIELDS.as_slice(),
             Verb::Replay => REPLAY_FIELDS.as_slice(),
             Verb::Talk => TALK_FIELDS.as_slice(),
+            Verb::Serve => SERVE_FIELDS.as_slice(),
+            Verb::Ask => ASK_FIELDS.as_slice(),
         }
     }
 
@@ -173,8 +200,20 @@ impl Field {
         match self {
             Field::Argument(id, _) => Arg::new(alloc, id).required(true).action(ArgAction::Set),
             Field::Setting(id, _) => Arg::new(alloc, id).long(id).action(ArgAction::Set),
+            Field::Several(id) => several(alloc, id),
         }
     }
+}
+
+/// What clap is told of an argument that has one or more values.
+fn several<'a>(alloc: Global, id: &'a str) -> Arg<'a>
+    ensures rule { rule_of result ≡ several_rule id.entry.now }
+    ensures local { result.global ≡ false }
+{
+    Arg::new(alloc, id)
+        .required(true)
+        .num_args(1..)
+        .action(ArgAction::Set)
 }
 
 impl fmt::Display for Field {
@@ -186,6 +225,7 @@ impl fmt::Display for Field {
         match self {
             Field::Argument(id, _) => write!(f, " {id}"),
             Field::Setting(id, value) => write!(f, " [--{id} {value}]"),
+            Field::Several(id) => write!(f, " {id}.."),
         }
     }
 }

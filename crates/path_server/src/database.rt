@@ -1,16 +1,24 @@
-//! The first version of a map, from which its paths are read.
-ghost use Rattle.std.specs.Prelude.{IfOk};
+//! The first version of a map, from which its paths are read, and the board that begins with it.
+ghost use Rattle.std.specs.Prelude.{◌≡◌, ◌≤◌, IfErr, IfOk};
 ghost use Rattle.moves.specs.Maps.{IsSearchable};
-ghost use Rattle.path_server.specs.Runs.{IsFirstVersion};
+ghost use Rattle.path_core.specs.Boards.{new_board};
+ghost use Rattle.path_core.specs.declared.TheConstants.{MAX_ENTRIES};
+ghost use Rattle.path_server.specs.Runs.{IsFirstVersion, IsMapFileCause, file_over};
+ghost use Rattle.path_server.specs.Talks.{IsFirstBoard};
 ghost use Rattle.path_server.specs.Words.{AreWorkers};
 
+use crate::map_file::read_grid;
 use crate::request::BuildOptions;
+use crate::status::Status;
 use build_pool::Gate;
 use moves::Grid;
+use path_core::Board;
 use std::alloc::{AllocError, Global};
+use std::sync::Arc;
 use std::thread::Threads;
 use version_build::{build, plan};
 use versions::Version;
+use wire::Files;
 
 /// The version of a map that comes after no edit, built as the options say. It is the same one for
 /// any number of threads.
@@ -28,4 +36,36 @@ pub fn first_version<R: Threads + Sync, G: Gate>(
     let plan = plan(alloc, None, grid, 0, options.order)?;
     let (version, _) = build(rt, alloc, plan, options.workers, gate)?;
     Ok(version)
+}
+
+/// The board that begins with the map in the file of that name, with this room.
+pub fn first_board<R: Threads + Sync, F: Files, G: Gate>(
+    rt: &R,
+    alloc: Global,
+    files: &mut F,
+    name: &str,
+    room: u32,
+    options: BuildOptions,
+    gate: &G,
+) -> Result<Board, Status>
+    requires room { room ≤ MAX_ENTRIES }
+    requires workers { AreWorkers options.workers }
+    ensures board { IfOk result (IsFirstBoard
+        (file_over F.content F.faults files.old files.new name.now) options.order room) }
+    ensures refused { IfErr result
+        (IsMapFileCause (file_over F.content F.faults files.old files.new name.now)) }
+{
+    let grid = read_grid(alloc, files, name)?;
+    let version = first_version(rt, alloc, grid, options, gate)?;
+    Ok(board_with(alloc, version, room)?)
+}
+
+/// A board with no entries, whose first version this is, with this room.
+fn board_with(alloc: Global, version: Version, room: u32) -> Result<Board, AllocError>
+    requires unedited { version.prefix ≡ 0 }
+    requires room { room ≤ MAX_ENTRIES }
+    ensures { IfOk result (λ board. board ≡ new_board version.map version room) }
+{
+    let grid = version.grid().copy()?;
+    Board::start_with(alloc, grid, Arc::new(alloc, version)?, room)
 }

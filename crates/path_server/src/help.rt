@@ -18,6 +18,7 @@ use std::alloc::{AllocError, Global};
 use std::fmt::Write;
 use std::io::ErrorKind;
 use versions::{End, QueryRefusal};
+use wire::DoorsAsked;
 
 /// What to tell of a run over these words that ended so; `reason` is why the last file was not
 /// read. The text is empty where the work was done, and ends with a line feed where it is not.
@@ -34,6 +35,9 @@ pub fn advice(
         (Status::Done, _) => {}
         (Status::Usage, _) => push_usage(&mut text, alloc, words)?,
         (Status::NoMemory, _) => text.push_str("path_server: out of memory\n")?,
+        (Status::WriteFault, Ok(Request::Ask { .. })) => {
+            text.push_str("path_server ask: the output or the connection failed\n")?
+        }
         (Status::WriteFault, _) => text.push_str("path_server: the output failed\n")?,
         (Status::Broken(fault), _) => push_broken(&mut text, *fault)?,
         (_, Ok(request)) => push_on_file(&mut text, request, status, reason)?,
@@ -76,6 +80,16 @@ fn push_on_file(
         (Status::ReadFault, Request::Talk { .. }) if reason.is_none() => {
             text.push_str("path_server talk: the input failed\n")
         }
+        (Status::ReadFault, Request::Serve { doors, .. }) if reason.is_none() => {
+            push_door_fault(text, doors)
+        }
+        (Status::ReadFault, Request::Ask { port, .. }) => {
+            write!(
+                text,
+                "path_server ask: nobody answers at port {port}, or no longer\n"
+            )
+        }
+        (Status::BadAnswer, Request::Ask { port, .. }) => push_bad_answer(text, port),
         (Status::ReadFault, _) => push_read_fault(text, request, reason),
         (Status::TooLong { limit }, _) => push_too_long(text, request, *limit),
         (Status::Map(fault), Request::Made { .. }) => push_made_fault(text, *fault),
@@ -84,6 +98,7 @@ fn push_on_file(
         (Status::Map(fault), Request::Scen { map, .. }) => push_map_fault(text, map, *fault),
         (Status::Map(fault), Request::Replay { map, .. }) => push_map_fault(text, map, *fault),
         (Status::Map(fault), Request::Talk { map, .. }) => push_map_fault(text, map, *fault),
+        (Status::Map(fault), Request::Serve { map, .. }) => push_map_fault(text, map, *fault),
         (Status::Scen(fault), Request::Scen { scenarios, .. }) => {
             push_scenario_fault(text, scenarios, *fault)
         }
@@ -103,18 +118,33 @@ fn push_on_file(
     }
 }
 
+/// What is wrong with the doors of a port.
+fn push_door_fault(text: &mut String, doors: DoorsAsked) -> Result<(), AllocError> {
+    let port = doors.port;
+    text.push_str("path_server serve: port ")?;
+    write!(
+        text,
+        "{port} is taken or may not be opened, or a door of it failed\n"
+    )
+}
+
+/// What is wrong with what came in from a port.
+fn push_bad_answer(text: &mut String, port: u16) -> Result<(), AllocError> {
+    text.push_str("path_server ask: what came in is no answer, ")?;
+    write!(text, "or ended before it was whole, at port {port}\n")
+}
+
 // ---- files
 
 /// The names of the files that a request is about, where there are two the later one behind the
 /// other.
 fn push_files(text: &mut String, request: Request) -> Result<(), AllocError> {
     match request {
-        Request::Path { map, .. } | Request::Check { map, .. } | Request::Talk { map, .. } => {
-            text.push_str(map)
-        }
+        Request::Path { map, .. } | Request::Check { map, .. } => text.push_str(map),
+        Request::Talk { map, .. } | Request::Serve { map, .. } => text.push_str(map),
         Request::Scen { map, scenarios, .. } => write!(text, "{map} or {scenarios}"),
         Request::Replay { map, events, .. } => write!(text, "{map} or {events}"),
-        Request::Made { .. } => Ok(()),
+        Request::Made { .. } | Request::Ask { .. } => Ok(()),
     }
 }
 
@@ -366,7 +396,9 @@ fn push_wrong_value(
 ) -> Result<(), AllocError> {
     let name = verb.name();
     for field in verb.fields() {
-        let (Field::Argument(id, value) | Field::Setting(id, value)) = *field;
+        let (Field::Argument(id, value) | Field::Setting(id, value)) = *field else {
+            continue;
+        };
         if let Some(word) = matches.get_str(id) {
             if !value.takes(word) {
                 write!(text, "path_server {name}: ")?;
@@ -376,8 +408,19 @@ fn push_wrong_value(
             }
         }
     }
-    write!(
-        text,
-        "path_server {name}: W H: expected at most {MAX_CELLS} cells\n"
-    )
+    push_wrong_values(text, verb)
+}
+
+/// What the values of a command should be together, where each by itself is right.
+fn push_wrong_values(text: &mut String, verb: Verb) -> Result<(), AllocError> {
+    match verb {
+        Verb::Ask => {
+            text.push_str("path_server ask: WORDS: expected query SX SY GX GY, ")?;
+            text.push_str("change X Y 0, change X Y 1, build, status, bye or stop\n")
+        }
+        _ => {
+            text.push_str("path_server made: W H: ")?;
+            write!(text, "expected at most {MAX_CELLS} cells\n")
+        }
+    }
 }

@@ -2,10 +2,13 @@
 //! the printed answer.
 #![tactic(auto)]
 
+mod ask;
+mod asked;
 mod check;
 mod commands;
 mod database;
 mod file;
+mod heard;
 mod help;
 mod made;
 mod map_file;
@@ -15,6 +18,8 @@ mod request;
 mod request_laws;
 mod run;
 mod scen;
+mod serve;
+mod serving;
 mod status;
 mod system;
 mod talk;
@@ -28,7 +33,7 @@ use status::Status;
 use std::process::ExitCode;
 use std::{env, io};
 use system::{command_words, exit_code};
-use wire::{HostFiles, StdLink, StdSink};
+use wire::{HostBell, HostFiles, StdLink, StdSink, TcpHouse};
 
 /// Runs the command that the words ask for over the system's files, standard input and standard
 /// output, and tells on standard error what a person may do about an end other than `Done`.
@@ -38,6 +43,7 @@ fn main(rt: HostRuntime) -> ExitCode {
     let arguments = arguments(&rt);
     let status = match command_words(&arguments) {
         Ok(words) => {
+            let bell = HostBell::new();
             let status = run(
                 &rt,
                 rt.alloc(),
@@ -45,6 +51,9 @@ fn main(rt: HostRuntime) -> ExitCode {
                 &mut files,
                 &mut StdLink::new(&rt),
                 &mut out,
+                &mut TcpHouse::new(&rt),
+                &bell,
+                &mut bell.ear(),
                 &FreeGate,
             );
             if let Ok(text) = advice(rt.alloc(), words, &status, files.reason()) {

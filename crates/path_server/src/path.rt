@@ -50,7 +50,7 @@ fn path_text(alloc: Global, cost: Cost, walk: &mut Walk) -> Result<String, Alloc
 }
 
 /// The cost and the length of a path, a line each, and the word before its moves.
-fn head_text(alloc: Global, cost: Cost) -> Result<String, AllocError>
+pub fn head_text(alloc: Global, cost: Cost) -> Result<String, AllocError>
     requires straight { cost.straight ≤ MAX_STEPS }
     requires diagonal { cost.diagonal ≤ MAX_STEPS }
     ensures { IfOk result (λ text. TellsHead cost (string_bytes text)) }

@@ -8,13 +8,16 @@ ghost use Rattle.path_server.specs.Words.{AreWorkers, HasValues, is_taken, texts
 ghost use Rattle.moves.specs.Maps.{IsWithinLimits};
 ghost use Rattle.path_core.specs.declared.TheConstants.{MAX_ENTRIES};
 ghost use Rattle.path_server.specs.declared.commands.Verb.{Verb};
-ghost use Rattle.path_server.specs.Words.{IsOfKind};
-ghost use Rattle.path_server.specs.Requests.{HasLimits, IsPrinted, IsTalk, asked, asked_by, build_at};
+ghost use Rattle.path_server.specs.Words.{IsOfKind, every_value};
+ghost use Rattle.path_server.specs.SaidRequests.{said_of};
+ghost use Rattle.path_server.specs.declared.words.NumberKind.{NumberKind};
+ghost use Rattle.path_server.specs.Requests.{AreDoors, HasLimits, IsAsk, IsServe, IsTalk, doors_at, serve_by, ask_by, asked, asked_by, build_at, said_at};
 ghost use Rattle.path_server.specs.Requests.{build_of, cell_at};
 ghost use Rattle.path_server.specs.Requests.{check_by, coordinate_at, made_by, number_at, order_at};
 ghost use Rattle.path_server.specs.Requests.{path_at, path_by, replay_by, request_by, request_of};
 ghost use Rattle.path_server.specs.Requests.{room_at, scen_by, sides_at, talk_by, verb_asked, workers_at};
 
+use crate::asked::request_in;
 use crate::commands::{Verb, command};
 use crate::words::{NumberKind, STANDARD_ROOM, coordinate, file_name, order, workers};
 use cell_order::OrderKind;
@@ -22,6 +25,7 @@ use clap::error::ErrorKind;
 use clap::{ArgMatches, Error};
 use moves::{Cell, MAX_CELLS};
 use std::alloc::{AllocError, Global};
+use wire::DoorsAsked;
 
 /// What the words of a command line ask for.
 #[derive(Clone, Copy, Debug, PartialEq, Eq)]
@@ -81,6 +85,26 @@ pub enum Request<'a> {
         /// How a database of the map is built.
         build: BuildOptions,
     },
+    /// Sessions at the doors of a port, on a board that begins with a map.
+    Serve {
+        /// The name of the map's file, which is not empty.
+        map: &'a str,
+        /// The port, from 1 on, and how many doors it has, from 1 to
+        /// [`MAX_DOORS`](session::MAX_DOORS).
+        doors: DoorsAsked,
+        /// For how many entries the board takes memory first, at most
+        /// [`MAX_ENTRIES`](path_core::MAX_ENTRIES).
+        room: u32,
+        /// How a database of the map is built.
+        build: BuildOptions,
+    },
+    /// One request to the server at a port.
+    Ask {
+        /// The port, from 1 on.
+        port: u16,
+        /// The request.
+        request: query_proto::Request,
+    },
 }
 
 /// The sides of a map: each from 1 to [`MAX_SIDE`](moves::MAX_SIDE), with at most [`MAX_CELLS`]
@@ -101,6 +125,12 @@ pub struct BuildOptions {
     /// How many threads build, from 1 to 64; one where no other number is given.
     pub workers: u32,
 }
+
+/// How a database is built where no option is given.
+const STANDARD_BUILD: BuildOptions = BuildOptions {
+    order: OrderKind::Rows,
+    workers: 1,
+};
 
 /// Why the words of a command line ask for nothing.
 #[derive(Clone, Copy, Debug, PartialEq, Eq)]
@@ -131,7 +161,7 @@ impl From<Error> for RequestError {
 }
 
 impl<'a> Request<'a> {
-    /// How the first version of the map is built.
+    /// How the first version of the map is built; as without options where there is none.
     pub fn build(&self) -> BuildOptions
         ensures { result ≡ build_of (asked self.now) }
     {
@@ -142,6 +172,8 @@ impl<'a> Request<'a> {
             Request::Made { build, .. } => *build,
             Request::Replay { build, .. } => *build,
             Request::Talk { build, .. } => *build,
+            Request::Serve { build, .. } => *build,
+            Request::Ask { .. } => STANDARD_BUILD,
         }
     }
 }
@@ -175,9 +207,25 @@ pub fn first_verb(words: &[String]) -> Option<Verb>
 /// Whether the words name `talk`.
 pub fn is_talk(words: &[String]) -> bool
     ensures talk { IsTrue result → IsTalk words.now }
-    ensures printed { IsFalse result → IsPrinted words.now }
+    ensures other { IsFalse result → IsTalk words.now → ⊥ }
 {
     first_verb(words) == Some(Verb::Talk)
+}
+
+/// Whether the words name `serve`.
+pub fn is_serve(words: &[String]) -> bool
+    ensures serve { IsTrue result → IsServe words.now }
+    ensures other { IsFalse result → IsServe words.now → ⊥ }
+{
+    first_verb(words) == Some(Verb::Serve)
+}
+
+/// Whether the words name `ask`.
+pub fn is_ask(words: &[String]) -> bool
+    ensures ask { IsTrue result → IsAsk words.now }
+    ensures other { IsFalse result → IsAsk words.now → ⊥ }
+{
+    first_verb(words) == Some(Verb::Ask)
 }
 
 /// Reads the words of this command.
@@ -206,7 +254,8 @@ fn parse<'a>(alloc: Global, verb: Verb, words: &'a [String]) -> Result<ArgMatche
 
 /// What the command makes of its values, where each passes its reader.
 fn asked_of<'a>(verb: Verb, matches: &ArgMatches<'a>) -> Option<Request<'a>>
-    ensures asked { option_map asked result ≡ asked_by verb (first_value (found_of matches.now)) }
+    ensures asked { option_map asked result
+        ≡ asked_by verb (first_value (found_of matches.now)) (every_value (found_of matches.now)) }
     ensures verb { IfSome result (λ request. verb_asked (asked request) ≡ verb) }
     ensures workers { IfSome result (λ request. AreWorkers (build_of (asked request)).workers) }
     ensures limits { IfSome result (λ request. HasLimits (asked request)) }
@@ -218,6 +267,8 @@ fn asked_of<'a>(verb: Verb, matches: &ArgMatches<'a>) -> Option<Request<'a>>
         Verb::Made => made_asked(matches),
         Verb::Replay => replay_asked(matches),
         Verb::Talk => talk_asked(matches),
+        Verb::Serve => serve_asked(matches),
+        Verb::Ask => ask_asked(matches),
     }
 }
 
@@ -312,6 +363,65 @@ fn talk_asked<'a>(matches: &ArgMatches<'a>) -> Option<Request<'a>>
     let room = room_at(matches, "room")?;
     let build = build_at(matches)?;
     Some(Request::Talk { map, room, build })
+}
+
+/// What `serve` asks for.
+#[tactic(auto, unfolding(crate::specs::Requests::serve_by))]
+fn serve_asked<'a>(matches: &ArgMatches<'a>) -> Option<Request<'a>>
+    ensures asked { option_map asked result ≡ serve_by (first_value (found_of matches.now)) }
+    ensures verb { IfSome result (λ request. verb_asked (asked request) ≡ Verb.Serve) }
+    ensures workers { IfSome result (λ request. AreWorkers (build_of (asked request)).workers) }
+    ensures limits { IfSome result (λ request. HasLimits (asked request)) }
+{
+    let map = file_at(matches, "MAP")?;
+    let doors = doors_at(matches, "PORT", "DOORS")?;
+    let room = room_at(matches, "room")?;
+    let build = build_at(matches)?;
+    Some(Request::Serve {
+        map,
+        doors,
+        room,
+        build,
+    })
+}
+
+/// The doors of which the one argument names the port, and the other how many they are.
+#[tactic(auto, unfolding(crate::specs::Requests::doors_at))]
+fn doors_at(matches: &ArgMatches<'_>, port: &str, count: &str) -> Option<DoorsAsked>
+    ensures doors { result ≡ doors_at (first_value (found_of matches.now)) port.now count.now }
+    ensures limits { IfSome result (λ doors. AreDoors doors.count) }
+{
+    let port = port_at(matches, port)?;
+    let count = number_at(matches, NumberKind::Doors, count)?;
+    Some(DoorsAsked { port, count })
+}
+
+/// What `ask` asks for.
+#[tactic(auto, unfolding(crate::specs::Requests::ask_by))]
+fn ask_asked<'a>(matches: &ArgMatches<'a>) -> Option<Request<'a>>
+    ensures asked { option_map asked result
+        ≡ ask_by (first_value (found_of matches.now)) (every_value (found_of matches.now)) }
+    ensures verb { IfSome result (λ request. verb_asked (asked request) ≡ Verb.Ask) }
+    ensures workers { IfSome result (λ request. AreWorkers (build_of (asked request)).workers) }
+    ensures limits { IfSome result (λ request. HasLimits (asked request)) }
+{
+    let port = port_at(matches, "PORT")?;
+    let request = request_at(matches, "WORDS")?;
+    Some(Request::Ask { port, request })
+}
+
+/// The port that the argument `id` names.
+fn port_at(matches: &ArgMatches<'_>, id: &str) -> Option<u16>
+    ensures { result ≡ number_at NumberKind.Port (first_value (found_of matches.now)) id.now }
+{
+    Some(number_at(matches, NumberKind::Port, id)? as u16)
+}
+
+/// The request that the values of the argument `id` spell.
+fn request_at(matches: &ArgMatches<'_>, id: &str) -> Option<query_proto::Request>
+    ensures { option_map said_of result ≡ said_at (every_value (found_of matches.now)) id.now }
+{
+    request_in(matches.get_strs(id)?)
 }
 
 /// The file that the argument `id` names.

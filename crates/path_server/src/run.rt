@@ -1,28 +1,34 @@
-//! The top call: all that the program does, over the files, the input and the output that are handed
-//! in.
+//! The top call: all that the program does, over the files, the input, the output, the house and the
+//! ear that are handed in.
 
-ghost use Rattle.std.specs.Prelude.{◌≡◌, ◌≢◌, ◌≤◌, ◌⊎◌, IfErr, IfOk, string_bytes};
+ghost use Rattle.std.specs.Prelude.{◌≡◌, ◌≢◌, ◌≤◌, ◌⊎◌, [], false, IfErr, IfOk, None, string_bytes};
 ghost use Rattle.std.specs.Io.KnownBytes.{Appends};
 ghost use Rattle.wire.specs.Causes.{NoneFell, Rose};
 ghost use Rattle.wire.specs.Contents.{PutsPrefix, TellsTheSame};
 ghost use Rattle.moves.specs.Maps.{IsSearchable};
 ghost use Rattle.path_server.specs.declared.commands.Verb.{Verb};
 ghost use Rattle.path_server.specs.declared.status.Status.{Status};
-ghost use Rattle.path_server.specs.Requests.{HasLimits, IsPrinted, IsTalk, asked, verb_asked};
+ghost use Rattle.path_server.specs.Requests.{HasLimits, IsAsk, IsPrinted, IsServe, IsTalk, asked, verb_asked};
+ghost use Rattle.path_server.specs.AskEnds.{CallsNoMore, FallsShort, PutsHeard};
+ghost use Rattle.path_server.specs.Asks.{HasGivenNone, house_over};
+ghost use Rattle.path_server.specs.Words.{texts_of};
 ghost use Rattle.path_server.specs.Statuses.{status_text};
 ghost use Rattle.path_server.specs.Runs.{BreaksOff, GivesMap, GivesNoMap, IsAnswerOn, IsAnswerTo};
 ghost use Rattle.path_server.specs.Runs.{IsCause, IsVersionCause, MayBeDone, PutsAll, file_over};
 ghost use Rattle.path_server.specs.Runs.{run_over};
 ghost use Rattle.path_server.specs.Talks.{TalkEnds, input_over};
+ghost use Rattle.path_server.specs.Serving.{FailsToRead, Serves, doors_over, ear_over};
 
+use crate::ask::ask;
 use crate::check::answer_check;
 use crate::database::first_version;
 use crate::made::{answer_made, made_grid};
 use crate::map_file::read_grid;
 use crate::path::answer_path;
 use crate::replay::answer_replay;
-use crate::request::{Request, is_talk, read_request};
+use crate::request::{Request, is_ask, is_serve, is_talk, read_request};
 use crate::scen::answer_scen;
+use crate::serve::serve;
 use crate::status;
 use crate::status::Status;
 use crate::talk::talk;
@@ -34,24 +40,41 @@ use std::sync::Wait;
 use std::thread::Threads;
 use text_lines::Text;
 use versions::Version;
-use wire::{Files, Link, Sink, put_all};
+use wire::{Bell, Ear, Files, House, Link, Sink, put_all};
 
 /// Does what the words of a command line ask for, which are those after the program's own name, and
 /// says how it ended. Each piece of a build passes the gate.
 ///
-/// `talk` holds a session over the input, and puts nothing on the output. Any other command leaves
-/// the input alone, and the text that is right for the end was put: with `Done` the answer, with any
-/// other status its line. Only with `WriteFault` it is less than a whole text, and the output has
-/// failed.
-pub fn run<F: Files, O: Sink, L: Link, G: Gate, R: Threads + Wait + Sync>(
+/// `talk` holds a session over the input, and puts nothing on the output. `serve` holds sessions at
+/// doors of the house, and builds at each ring of the ear. `ask` calls once at the port of a server,
+/// over the house, and hangs up before it puts what it heard. Any other command leaves these alone,
+/// and the text that is right for the end was put: with `Done` the answer, with any other status its
+/// line. Only with `WriteFault` it is less than a whole text, and the output has failed.
+pub fn run<
+    F: Files,
+    O: Sink,
+    L: Link,
+    H: House,
+    B: Bell,
+    E: Ear,
+    G: Gate,
+    R: Threads + Wait + Sync,
+>(
     rt: &R,
     alloc: Global,
     words: &[String],
     files: &mut F,
     input: &mut L,
     out: &mut O,
+    house: &mut H,
+    bell: &B,
+    ear: &mut E,
     gate: &G,
 ) -> Status
+    requires unasked { H.asked house.old ≡ [] }
+    requires uncalled { H.called house.old ≡ None }
+    requires unlent { HasGivenNone (H.lent house.old) }
+    requires waiting { E.over ear.old ≡ false }
     ensures whole { IsPrinted words.now → result ≢ Status.WriteFault
         → PutsAll (run_over words.now F.content F.faults files.old files.new) result
         (O.bytes out.old) (O.bytes out.new) }
@@ -60,14 +83,48 @@ pub fn run<F: Files, O: Sink, L: Link, G: Gate, R: Threads + Wait + Sync>(
         (O.bytes out.old) (O.bytes out.new) }
     ensures fault { IsPrinted words.now → result ≡ Status.WriteFault
         → Rose (O.faults out.old) (O.faults out.new) }
-    ensures unheard { IsPrinted words.now → input.new ≡ input.old }
+    ensures unheard { (IsTalk words.now → ⊥) → input.new ≡ input.old }
+    ensures still { (IsServe words.now → ⊥) → (IsAsk words.now → ⊥) → house.new ≡ house.old }
+    ensures deaf { (IsServe words.now → ⊥) → ear.new ≡ ear.old }
     ensures silent { IsTalk words.now → out.new ≡ out.old }
     ensures talk { IsTalk words.now
         → TalkEnds (run_over words.now F.content F.faults files.old files.new)
         (input_over L.talk L.read_faults L.write_faults input.old input.new) result }
+    ensures serves { IsServe words.now → Serves H.Door H.Conn
+        (run_over words.now F.content F.faults files.old files.new)
+        (doors_over H.Door.talks H.Door.closed H.Door.faults H.Door.port H.lent H.door_faults house.old house.new)
+        (ear_over E.rung E.over ear.old ear.new) (H.asked house.new) (O.bytes out.old) (O.bytes out.new) result }
+    ensures reads { IsServe words.now → result ≡ Status.ReadFault → FailsToRead H.Door H.Conn
+        (run_over words.now F.content F.faults files.old files.new)
+        (doors_over H.Door.talks H.Door.closed H.Door.faults H.Door.port H.lent H.door_faults house.old house.new) }
+    ensures writes { IsServe words.now → result ≡ Status.WriteFault
+        → Rose (O.faults out.old) (O.faults out.new) }
+    ensures unread { IsAsk words.now → files.new ≡ files.old }
+    ensures calls { IsAsk words.now → CallsNoMore H.Door H.Conn (texts_of words.now)
+        (house_over H.Conn.talk H.lent H.called H.read_faults H.write_faults house.old house.new) }
+    ensures heard { IsAsk words.now → result ≢ Status.WriteFault
+        → PutsHeard H.Door H.Conn (texts_of words.now)
+        (house_over H.Conn.talk H.lent H.called H.read_faults H.write_faults house.old house.new)
+        result (O.bytes out.old) (O.bytes out.new) }
+    ensures short { IsAsk words.now → result ≡ Status.WriteFault
+        → FallsShort H.Door H.Conn (texts_of words.now)
+        (house_over H.Conn.talk H.lent H.called H.read_faults H.write_faults house.old house.new)
+        (O.bytes out.old) (O.bytes out.new) }
+    ensures fails { IsAsk words.now → result ≡ Status.WriteFault
+        → Rose (O.faults out.old) (O.faults out.new)
+        ⊎ Rose (H.write_faults house.old) (H.write_faults house.new) }
+    ensures doors { (IsServe words.now → ⊥) → H.asked house.new ≡ H.asked house.old }
+    ensures door_faults { (IsServe words.now → ⊥) → H.door_faults house.new ≡ H.door_faults house.old }
+    ensures called { (IsAsk words.now → ⊥) → H.called house.new ≡ H.called house.old }
+    ensures call_faults { (IsAsk words.now → ⊥) → H.read_faults house.new ≡ H.read_faults house.old }
+    ensures send_faults { (IsAsk words.now → ⊥) → H.write_faults house.new ≡ H.write_faults house.old }
 {
     if is_talk(words) {
         talk(rt, alloc, words, files, input, gate)
+    } else if is_serve(words) {
+        serve(rt, alloc, words, files, house, out, bell, ear, gate)
+    } else if is_ask(words) {
+        ask(alloc, words, out, house)
     } else {
         print(rt, alloc, words, files, out, gate)
     }
@@ -117,7 +174,7 @@ pub fn refuse<O: Sink>(alloc: Global, out: &mut O, status: Status) -> Status
 }
 
 /// Puts a text, and says that status where all of it was taken.
-fn put<O: Sink>(out: &mut O, text: &[u8], status: Status) -> Status
+pub fn put<O: Sink>(out: &mut O, text: &[u8], status: Status) -> Status
     requires { status ≢ Status.WriteFault }
     ensures whole { result ≢ Status.WriteFault
         → (result ≡ status) × Appends (O.bytes out.old) (O.bytes out.new) text.now }
@@ -155,6 +212,7 @@ fn answer<F: Files, G: Gate, R: Threads + Sync>(
 /// The map that was asked about.
 fn grid_for<F: Files>(alloc: Global, files: &mut F, request: Request) -> Result<Grid, Status>
     requires limits { HasLimits (asked request) }
+    requires ask { verb_asked (asked request) ≢ Verb.Ask }
     ensures grid { IfOk result
         (GivesMap (file_over F.content F.faults files.old files.new) (asked request.entry)) }
     ensures small { IfOk result IsSearchable }
@@ -170,6 +228,8 @@ fn grid_for<F: Files>(alloc: Global, files: &mut F, request: Request) -> Result<
         Request::Made { sides, seed, .. } => made_grid(alloc, sides, seed),
         Request::Replay { map, .. } => read_grid(alloc, files, map),
         Request::Talk { map, .. } => read_grid(alloc, files, map),
+        Request::Serve { map, .. } => read_grid(alloc, files, map),
+        Request::Ask { .. } => unreachable!(),
     }
 }
 

@@ -5,12 +5,14 @@ ghost use Rattle.path_server.specs.Statuses.{status_code, status_text};
 
 use crate::request::RequestError;
 use map_read::MapFault;
+use path_client::ClientFault;
 use scen_read::ScenFault;
 use session::SessionFault;
 use std::alloc::{AllocError, Global};
 use std::fmt;
 use std::fmt::Write;
 use versions::QueryRefusal;
+use wire::HouseError;
 
 /// How a run ends.
 #[derive(Clone, Copy, Debug, Drop, PartialEq, Eq)]
@@ -43,6 +45,8 @@ pub enum Status {
         /// The first line, from 1, that is neither blank nor an event.
         line: u32,
     },
+    /// What a server answered is no answer, or ended before it was whole.
+    BadAnswer,
 }
 
 impl Status {
@@ -61,6 +65,7 @@ impl Status {
             Status::NoMemory => 7,
             Status::TooLong { .. } => 8,
             Status::Broken(_) => 9,
+            Status::BadAnswer => 10,
             Status::Events { .. } => 11,
         }
     }
@@ -102,6 +107,20 @@ impl From<RequestError> for Status {
     }
 }
 
+impl From<HouseError> for Status {
+    ghost use Rattle.std.specs.Prelude.{◌≡◌};
+    ghost use Rattle.path_server.specs.Serving.{status_without_doors};
+
+    ghost from_gives = { λ error status. status ≡ status_without_doors error };
+
+    fn from(error: HouseError) -> Status {
+        match error {
+            HouseError::Failed => Status::ReadFault,
+            HouseError::NoMemory => Status::NoMemory,
+        }
+    }
+}
+
 impl From<SessionFault> for Status {
     ghost use Rattle.std.specs.Prelude.{◌≡◌};
     ghost use Rattle.path_server.specs.Statuses.{status_for};
@@ -113,6 +132,22 @@ impl From<SessionFault> for Status {
             SessionFault::Torn { .. } | SessionFault::TooLong { .. } => Status::Broken(fault),
             SessionFault::ReadFault => Status::ReadFault,
             SessionFault::WriteFault => Status::WriteFault,
+        }
+    }
+}
+
+impl From<ClientFault> for Status {
+    ghost use Rattle.std.specs.Prelude.{◌≡◌};
+    ghost use Rattle.path_server.specs.Statuses.{status_heard};
+
+    ghost from_gives = { λ fault status. status ≡ status_heard fault };
+
+    fn from(fault: ClientFault) -> Status {
+        match fault {
+            ClientFault::Malformed | ClientFault::Closed { .. } => Status::BadAnswer,
+            ClientFault::ReadFault => Status::ReadFault,
+            ClientFault::WriteFault => Status::WriteFault,
+            ClientFault::NoMemory => Status::NoMemory,
         }
     }
 }
@@ -136,6 +171,7 @@ impl fmt::Display for Status {
             Status::NoMemory => write!(f, "out of memory"),
             Status::TooLong { limit } => write!(f, "file too long: {limit}"),
             Status::Events { line } => write!(f, "events refused: line {line}"),
+            Status::BadAnswer => write!(f, "bad answer"),
         }
     }
 }

@@ -1,24 +1,20 @@
 //! `talk MAP`: a session over the input, on a board that begins with a map.
-ghost use Rattle.std.specs.Prelude.{◌≡◌, ◌≤◌, IfErr, IfOk};
+ghost use Rattle.std.specs.Prelude.{IfErr, IfOk};
 ghost use Rattle.session.specs.Conversations.{HasCause};
-ghost use Rattle.path_core.specs.declared.TheConstants.{MAX_ENTRIES};
-ghost use Rattle.path_core.specs.Boards.{new_board};
 ghost use Rattle.path_server.specs.Requests.{IsTalk};
 ghost use Rattle.path_server.specs.Runs.{IsCause, run_over};
 ghost use Rattle.path_server.specs.Talks.{AsksBoard, HoldsTalk, TalkEnds, input_over};
 ghost use Rattle.path_server.specs.Words.{AreWorkers};
 
-use crate::database::first_version;
-use crate::map_file::read_grid;
+use crate::database::first_board;
 use crate::request::{Request, read_request};
 use crate::status::Status;
 use build_pool::Gate;
 use path_core::Board;
 use session::{Ended, Lone, SessionFault, serve_link};
-use std::alloc::{AllocError, Global};
-use std::sync::{Arc, Wait};
+use std::alloc::Global;
+use std::sync::Wait;
 use std::thread::Threads;
-use versions::Version;
 use wire::{Files, Link};
 
 /// A board to hold a session on, and how many threads build its versions.
@@ -73,7 +69,10 @@ fn hold<L: Link, G: Gate, R: Threads + Wait + Sync>(
         board: begun.board,
         pass: 0,
     };
-    serve_link(rt, alloc, &mut desk, input, begun.workers, gate)
+    let ended = serve_link(rt, alloc, &mut desk, input, begun.workers, gate);
+    // That the history is legal is known from here.
+    let _entries = desk.board.entries();
+    ended
 }
 
 /// The board that the words ask for.
@@ -95,20 +94,8 @@ fn begin<F: Files, G: Gate, R: Threads + Sync>(
     let Request::Talk { map, room, build } = request else {
         unreachable!()
     };
-    let grid = read_grid(alloc, files, map)?;
-    let version = first_version(rt, alloc, grid, build, gate)?;
     Ok(Begun {
-        board: first_board(alloc, version, room)?,
+        board: first_board(rt, alloc, files, map, room, build, gate)?,
         workers: build.workers,
     })
-}
-
-/// A board with no entries, whose first version this is, with this room.
-fn first_board(alloc: Global, version: Version, room: u32) -> Result<Board, AllocError>
-    requires unedited { version.prefix ≡ 0 }
-    requires room { room ≤ MAX_ENTRIES }
-    ensures { IfOk result (λ board. board ≡ new_board version.map version room) }
-{
-    let grid = version.grid().copy()?;
-    Board::start_with(alloc, grid, Arc::new(alloc, version)?, room)
 }

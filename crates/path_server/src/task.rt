@@ -37,9 +37,12 @@ pub enum Task {
     Replay(Vec<Event>),
 }
 
-/// What is to be done, with what the second file says where there is one. A session is no task.
+/// What is to be done, with what the second file says where there is one. Sessions are no task, and a request
+/// to a server is none.
 pub fn task_for<F: Files>(alloc: Global, files: &mut F, request: Request) -> Result<Task, Status>
-    requires printed { verb_asked (asked request) ≢ Verb.Talk }
+    requires talk { verb_asked (asked request) ≢ Verb.Talk }
+    requires serve { verb_asked (asked request) ≢ Verb.Serve }
+    requires ask { verb_asked (asked request) ≢ Verb.Ask }
     ensures task { IfOk result
         (GivesTask (file_over F.content F.faults files.old files.new) (asked request.entry)) }
     ensures may { IfOk result MayBeDone }
@@ -52,6 +55,7 @@ pub fn task_for<F: Files>(alloc: Global, files: &mut F, request: Request) -> Res
         Request::Scen { scenarios, .. } => Ok(Task::Scen(read_scenarios(alloc, files, scenarios)?)),
         Request::Made { seed, .. } => Ok(Task::Made { seed }),
         Request::Replay { events, .. } => Ok(Task::Replay(read_event_file(alloc, files, events)?)),
-        Request::Talk { .. } => unreachable!(),
+        Request::Talk { .. } | Request::Serve { .. } => unreachable!(),
+        Request::Ask { .. } => unreachable!(),
     }
 }

@@ -9,6 +9,7 @@ use build_pool::MAX_WORKERS;
 use cell_order::OrderKind;
 use moves::MAX_SIDE;
 use path_core::MAX_ENTRIES;
+use session::MAX_DOORS;
 
 /// For how many entries a board takes memory first, where no other number is given.
 pub const STANDARD_ROOM: u32 = 65_536;
@@ -26,6 +27,10 @@ pub enum NumberKind {
     Workers,
     /// For how many entries a board takes memory first.
     Room,
+    /// A port of this machine.
+    Port,
+    /// How many doors a port has.
+    Doors,
 }
 
 impl NumberKind {
@@ -36,6 +41,7 @@ impl NumberKind {
         match self {
             NumberKind::Coordinate | NumberKind::Seed | NumberKind::Room => 0,
             NumberKind::Side | NumberKind::Workers => 1,
+            NumberKind::Port | NumberKind::Doors => 1,
         }
     }
 
@@ -44,11 +50,12 @@ impl NumberKind {
         ensures { result ≡ most self }
     {
         match self {
-            NumberKind::Coordinate => 65_535,
+            NumberKind::Coordinate | NumberKind::Port => 65_535,
             NumberKind::Side => MAX_SIDE,
             NumberKind::Seed => 4_294_967_295,
             NumberKind::Workers => MAX_WORKERS,
             NumberKind::Room => MAX_ENTRIES,
+            NumberKind::Doors => MAX_DOORS,
         }
     }
 

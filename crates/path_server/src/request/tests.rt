@@ -4,6 +4,7 @@ use cell_order::OrderKind;
 use moves::Cell;
 use std::alloc::{AllocError, Global};
 use std::test::Fail;
+use wire::DoorsAsked;
 
 /// The words of a line, each ended by a bar.
 fn words_of(alloc: Global, line: &str) -> Result<Vec<String>, AllocError> {
@@ -58,6 +59,20 @@ fn made<'a>(width: u32, height: u32, seed: u32, build: BuildOptions) -> Request<
 
 fn talk<'a>(map: &'a str, room: u32, build: BuildOptions) -> Request<'a> {
     Request::Talk { map, room, build }
+}
+
+fn serve<'a>(map: &'a str, port: u16, count: u32, room: u32, build: BuildOptions) -> Request<'a> {
+    let doors = DoorsAsked { port, count };
+    Request::Serve {
+        map,
+        doors,
+        room,
+        build,
+    }
+}
+
+fn ask<'a>(port: u16, request: query_proto::Request) -> Request<'a> {
+    Request::Ask { port, request }
 }
 
 fn replay<'a>(map: &'a str, events: &'a str, build: BuildOptions) -> Request<'a> {
@@ -133,6 +148,18 @@ fn takes_the_words(rt: HostRuntime) -> Result<(), Fail> {
             "talk|--room=0002097153|--workers|2|m.map|--order|dfs|",
             talk("m.map", 2_097_153, options(Dfs, 2)),
         ),
+        (
+            "serve|m.map|4000|1|",
+            serve("m.map", 4000, 1, 65_536, STANDARD),
+        ),
+        (
+            "serve|--room|0|m.map|65535|64|--workers=4|--order|dfs|",
+            serve("m.map", 65_535, 64, 0, options(Dfs, 4)),
+        ),
+        ("ask|4000|status|", ask(4000, query_proto::Request::Status)),
+        ("ask|1|build|", ask(1, query_proto::Request::Build)),
+        ("ask|65535|bye|", ask(65_535, query_proto::Request::Bye)),
+        ("ask|4000|stop|", ask(4000, query_proto::Request::Stop)),
     ];
     for (line, wanted) in cases {
         let words = words_of(rt.alloc(), line)?;
@@ -183,6 +210,25 @@ fn refuses_the_words(rt: HostRuntime) -> Result<(), Fail> {
         "talk|m.map|--room|00000000001|",
         "talk|m.map|--room|-1|",
         "talk|m.map|--room|1|--room|1|",
+        "serve|m.map|4000|",
+        "serve|m.map|4000|1|1|",
+        "serve|m.map|0|1|",
+        "serve|m.map|65536|1|",
+        "serve|m.map|4000|0|",
+        "serve|m.map|4000|65|",
+        "serve||4000|1|",
+        "serve|m.map|4000|1|--room|2097154|",
+        "ask|",
+        "ask|4000|",
+        "ask|0|status|",
+        "ask|65536|status|",
+        "ask|4000|statuses|",
+        "ask|4000|status|0|",
+        "ask|4000|query|0|0|0|",
+        "ask|4000|query|0|0|0|65536|",
+        "ask|4000|change|0|0|2|",
+        "ask|4000|change|0|0|",
+        "ask|4000|build|--workers|2|",
         // numbers
         "path|m.map|00000000007|0|1|1|",
         "path|m.map|65536|0|1|1|",

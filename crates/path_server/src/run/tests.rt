@@ -1,5 +1,10 @@
 //! Whole runs, over files in memory and output in memory.
+mod asks;
+mod serves;
 mod talks;
+
+ghost use Rattle.std.specs.Prelude.{◌≡◌, [], IfOk, None};
+ghost use Rattle.wire.specs.Houses.{no_lendings};
 
 use crate::run::run;
 use crate::status::Status;
@@ -11,7 +16,7 @@ use std::sync::Wait;
 use std::sync::atomic::{AtomicU64, Ordering};
 use std::test::Fail;
 use std::thread::Threads;
-use wire::{MemFiles, MemSink, SteadyLink};
+use wire::{MemFiles, MemHouse, MemLink, MemSink, SteadyLink, StillBell, TurnEar};
 
 /// The text of a map, given by its sides and its rows with `/` between them.
 pub fn map_text(alloc: Global, sides: &str, rows: &str) -> Result<Vec<u8>, AllocError> {
@@ -48,6 +53,15 @@ fn two_files(
     MemFiles::new(alloc, files, fails.to_vec(alloc)?)
 }
 
+/// A house that gives nothing.
+pub fn empty_house(alloc: Global) -> Result<MemHouse, AllocError>
+    ensures asked { IfOk result (λ house. house.asked ≡ []) }
+    ensures called { IfOk result (λ house. house.called ≡ None) }
+    ensures lent { IfOk result (λ house. house.lent ≡ no_lendings) }
+{
+    MemHouse::new(alloc, Vec::new(alloc), None, Vec::new(alloc))
+}
+
 /// How a run over files ends, and what it has put.
 fn run_over<R: Threads + Wait + Sync>(
     rt: &R,
@@ -62,19 +76,40 @@ fn run_over<R: Threads + Wait + Sync>(
     }
     let cuts: [usize; 4] = [1, 2, 3, 4];
     let mut out = MemSink::cut(alloc, 400, cuts.to_vec(alloc)?, fails.to_vec(alloc)?)?;
+    let mut house = empty_house(alloc)?;
     let mut input = SteadyLink::new(Vec::new(alloc));
     let words = words.as_slice();
-    let status = run(rt, alloc, words, files, &mut input, &mut out, &FreeGate);
+    let status = run(
+        rt,
+        alloc,
+        words,
+        files,
+        &mut input,
+        &mut out,
+        &mut house,
+        &StillBell,
+        &mut TurnEar::new(0),
+        &FreeGate,
+    );
     Ok((status, out))
 }
 
 /// Lines that end with a line feed each, from a text with a semicolon after each.
-fn lines_of(alloc: Global, text: &str) -> Result<Vec<u8>, AllocError> {
+pub fn lines_of(alloc: Global, text: &str) -> Result<Vec<u8>, AllocError> {
     let mut lines = Vec::with_capacity(alloc, text.len())?;
     for byte in text.bytes() {
         lines.push(if byte == b';' { b'\n' } else { byte })?;
     }
     Ok(lines)
+}
+
+/// The bytes of pairs of hexadecimal digits, with a space between them.
+pub fn bytes_of(alloc: Global, pairs: &str) -> Result<Vec<u8>, AllocError> {
+    let mut bytes = Vec::new(alloc);
+    for pair in pairs.split_terminator(' ') {
+        bytes.push(u8::from_str_radix(pair, 16).unwrap_or(0))?;
+    }
+    Ok(bytes)
 }
 
 /// The sides and rows of `M`, the words, the exit status, and the text.
@@ -195,32 +230,80 @@ impl Gate for CountGate {
     }
 }
 
+/// How a run over files and this input ends, and how many pieces were built.
+fn pieces_of<R: Threads + Wait + Sync>(
+    rt: &R,
+    alloc: Global,
+    line: &str,
+    files: &mut MemFiles,
+    pairs: &str,
+) -> Result<(Status, u64), AllocError> {
+    let mut words = Vec::new(alloc);
+    for word in line.split_terminator(' ') {
+        words.push(String::from_str(alloc, word)?)?;
+    }
+    let gate = CountGate {
+        entered: AtomicU64::new(0),
+    };
+    let mut out = MemSink::new(alloc, 400, Vec::new(alloc))?;
+    let mut house = empty_house(alloc)?;
+    let (cuts, none) = (Vec::new(alloc), Vec::new(alloc));
+    let mut input = MemLink::new(
+        alloc,
+        bytes_of(alloc, pairs)?,
+        cuts,
+        400,
+        none,
+        Vec::new(alloc),
+    )?;
+    let status = run(
+        rt,
+        alloc,
+        words.as_slice(),
+        files,
+        &mut input,
+        &mut out,
+        &mut house,
+        &StillBell,
+        &mut TurnEar::new(0),
+        &gate,
+    );
+    Ok((status, gate.entered.load(Ordering::SeqCst)))
+}
+
 #[test]
 fn second_files_are_judged_before_the_build(rt: HostRuntime) -> Result<(), Fail> {
     let alloc = rt.alloc();
     for (second, code, built) in [("version 2", 3, 0), ("version 1", 0, 1)] {
         let map = map_text(alloc, "height 1,width 3", "...")?;
         let mut files = two_files(alloc, map, second.as_bytes().to_vec(alloc)?, &[])?;
-        let mut words = Vec::new(alloc);
-        for word in ["scen", "M", "S"] {
-            words.push(String::from_str(alloc, word)?)?;
-        }
-        let mut out = MemSink::new(alloc, 400, Vec::new(alloc))?;
-        let gate = CountGate {
-            entered: AtomicU64::new(0),
-        };
-        let mut input = SteadyLink::new(Vec::new(alloc));
-        let status = run(
-            &rt,
-            alloc,
-            words.as_slice(),
-            &mut files,
-            &mut input,
-            &mut out,
-            &gate,
-        );
+        let (status, pieces) = pieces_of(&rt, alloc, "scen M S", &mut files, "")?;
         assert_eq!(rt; status.code(), code);
-        assert_eq!(rt; gate.entered.load(Ordering::SeqCst), built);
+        assert_eq!(rt; pieces, built);
+    }
+    Ok(())
+}
+
+#[test]
+fn so_many_threads_build_as_are_asked_for(rt: HostRuntime) -> Result<(), Fail> {
+    let alloc = rt.alloc();
+    // 300 cells; in a session the first of them is blocked, and a version is built.
+    let row = "....................";
+    let rows = [row; 15].join(alloc, "/")?;
+    let edited = "00 06 02 00 00 00 00 00 00 01 03";
+    let table = [
+        ("check M", "", 1),
+        ("check M --workers 2", "", 2),
+        ("check M --workers 5", "", 5),
+        ("talk M", edited, 2),
+        ("talk M --workers 3", edited, 6),
+    ];
+    for (line, pairs, built) in table {
+        let map = map_text(alloc, "height 15,width 20", rows.as_str())?;
+        let mut files = one_file(alloc, map, &[])?;
+        let (status, pieces) = pieces_of(&rt, alloc, line, &mut files, pairs)?;
+        assert_eq!(rt; status, Status::Done, "{line}");
+        assert_eq!(rt; pieces, built, "{line}");
     }
     Ok(())
 }

@@ -1,6 +1,6 @@
 //! Sessions of `talk`, over a file, an input and an output in memory.
 use crate::run::run;
-use crate::run::tests::{map_text, one_file};
+use crate::run::tests::{bytes_of, empty_house, map_text, one_file};
 use crate::status::Status;
 use build_pool::FreeGate;
 use session::SessionFault;
@@ -8,16 +8,7 @@ use std::alloc::{AllocError, Global};
 use std::sync::Wait;
 use std::test::Fail;
 use std::thread::Threads;
-use wire::{MemLink, MemSink};
-
-/// The bytes of pairs of hexadecimal digits, with a space between them.
-fn bytes_of(alloc: Global, pairs: &str) -> Result<Vec<u8>, AllocError> {
-    let mut bytes = Vec::new(alloc);
-    for pair in pairs.split_terminator(' ') {
-        bytes.push(u8::from_str_radix(pair, 16).unwrap_or(0))?;
-    }
-    Ok(bytes)
-}
+use wire::{MemLink, MemSink, StillBell, TurnEar};
 
 /// A link on which these bytes come in, of which the recvs and sends with these numbers fail.
 fn link_of(
@@ -45,6 +36,7 @@ fn run_over<R: Threads + Wait + Sync>(
     }
     let mut files = one_file(alloc, map_text(alloc, "height 1,width 3", row)?, &[])?;
     let mut out = MemSink::new(alloc, 400, Vec::new(alloc))?;
+    let mut house = empty_house(alloc)?;
     let status = run(
         rt,
         alloc,
@@ -52,6 +44,9 @@ fn run_over<R: Threads + Wait + Sync>(
         &mut files,
         input,
         &mut out,
+        &mut house,
+        &StillBell,
+        &mut TurnEar::new(0),
         &FreeGate,
     );
     Ok((status, out.bytes().is_empty()))
