@@ -4,3 +4,5 @@ pub mod Databases
 pub mod BestWalks
 pub mod Homes
 pub mod Answering
+pub mod OneRow
+pub mod OneRowComps

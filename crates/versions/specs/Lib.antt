@@ -4,3 +4,4 @@ pub mod Queries
 pub mod Answers
 pub mod Stored
 pub mod Counts
+pub mod OneRow

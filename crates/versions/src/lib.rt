@@ -6,6 +6,8 @@
 
 pub mod laws;
 pub mod query;
+#[cfg(test)]
+mod tests;
 pub mod version;
 
 pub use query::{End, QueryRefusal, judge};
