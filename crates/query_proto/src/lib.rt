@@ -5,6 +5,7 @@
 #![tactic(auto)]
 
 mod kinds;
+pub mod laws;
 pub mod malformed;
 mod reading;
 pub mod replies;

@@ -13,6 +13,7 @@ mod files;
 mod host_bell;
 mod host_files;
 mod house;
+pub mod laws;
 mod link;
 mod mem_door;
 mod mem_files;

@@ -1,8 +1,8 @@
 //! A house in memory, with planned faults.
-ghost use Rattle.std.specs.Prelude.{◌≡◌, ◌≤◌, ◌<◌, ◌+◌, ◌∷◌, ◌++◌, ◌↔◌, ◌==◌, not, length, vec_len, position, IfOk, OnOk, OnErr, IsErr, IsErrOf, IsTrue, Some, None};
+ghost use Rattle.std.specs.Prelude.{◌≡◌, ◌≤◌, ◌<◌, ◌+◌, ◌∷◌, ◌++◌, ◌↔◌, ◌==◌, not, length, map, vec_len, position, IfOk, OnOk, OnErr, IsErr, IsErrOf, IsTrue, Some, None};
 ghost use Rattle.wire.specs.Causes.{one_more, Rose};
 ghost use Rattle.wire.specs.DoorInMemory.{IsNewLink};
-ghost use Rattle.wire.specs.Houses.{HasLentDoors, HasLentLink, IsNewPort, rose_once};
+ghost use Rattle.wire.specs.Houses.{HasLentDoors, HasLentLink, IsNewPort, link_back, rose_once};
 ghost use Rattle.wire.specs.HouseInMemory.{AreGivenDoors, AreGone, AreNewDoors, IsNewDoor, IsNewLinkAt};
 ghost use Rattle.wire.specs.HouseInMemory.{call_fails, count_at, doors_at, doors_fail, first_at};
 ghost use Rattle.wire.specs.HouseInMemory.{with_asked, with_call, with_call_fault, with_doors, with_doors_fault, with_hung_up, with_shut};
@@ -103,7 +103,9 @@ impl MemHouse {
     }
 
     /// The links that were handed back, each with the port of its call.
-    pub fn links_back(&self) -> &[(Option<u16>, MemLink)] {
+    pub fn links_back(&self) -> &[(Option<u16>, MemLink)]
+        ensures { map link_back result.now ≡ self.now.lent.links_back }
+    {
         &self.links_back
     }
 
