@@ -12,14 +12,15 @@ use Rattle.path_core.specs.declared.board.Job.{Job}
 use Rattle.path_core.specs.declared.board.Look.{Look}
 use Rattle.path_core.specs.Boards.{MayBePublished}
 use Rattle.path_core.specs.Histories.{accepted_count, map_at, map_now, published_prefix, IsLegal, IsVersionAt}
-use Rattle.path_core.specs.Passes.{BeginsWith, OthersAdd}
+use Rattle.path_core.specs.Passes.{BeginsWith}
 use Rattle.path_core.proofs.Bounds.{legal_histories_are_bounded}
 use Rattle.path_core.proofs.Growing.{map_at_all, prefix_goes_on}
-use Rattle.path_core.proofs.Passing.{begins_then, count_grows, own_begins, job_inside, job_leads, map_now_searchable, others_begin, others_then}
+use Rattle.path_core.proofs.Passing.{begins_then, count_grows, job_inside, job_leads, map_now_searchable}
 use Rattle.session.specs.Building.{IsBuiltAfter, IsTaken, TakesNone}
 use Rattle.session.specs.Desks.{IsPublished, Looks}
 use Rattle.session.specs.Served.{BuildsVersion, HasNothingNew, IsOvertaken}
-use Rattle.session.specs.Standing.{IsSound, Place}
+use Rattle.session.specs.Standing.{IsSound, Meanwhile, Place}
+use Rattle.session.proofs.Meanwhile.{enters_begin, meanwhile_begin, meanwhile_then}
 
 -- the edits of a job lie inside the held map, and the map after them may be searched
 pub taken_inside : (place : Place) (before seen : List Entry) (held : Versioned) (job : Job) → IsSound place seen held → IsTaken place before seen held job
@@ -41,10 +42,10 @@ taken_searchable place before seen held job sound taken =
 pub nothing_new : (place : Place) (before seen : List Entry) (held : Versioned) (job : Job) → IsTaken place before seen held job
     → job.prefix ≡ held.prefix → HasNothingNew place before seen job.prefix
 nothing_new place before seen held job taken same = record {
-  others = others_then place.pass before taken.looked seen taken.to_look taken.to_job;
+  others = meanwhile_then place before taken.looked seen taken.to_look taken.to_job;
   at = taken.looked;
-  later = others_begin place.pass before taken.looked taken.to_look;
-  earlier = others_begin place.pass taken.looked seen taken.to_job;
+  later = meanwhile_begin place before taken.looked taken.to_look;
+  earlier = meanwhile_begin place taken.looked seen taken.to_job;
   published = same ∙ taken.held_is;
   accepted = taken.edits.prefix;
 }
@@ -92,7 +93,7 @@ module _ (place : Place) (before seen : List Entry) (held next : Versioned) (job
         (subst (λ m. AreCounts m next.map report.built report.kept) (sound.is.map ∙ ap (map_at place.start seen) taken.held_is) made.counts);
   }
 
-  pub is_overtaken : (job.prefix ≡ held.prefix → ⊥) → (after : List Entry) (by : ℕ) → OthersAdd place.pass seen after × (by ≡ published_prefix after) × (next.prefix ≤ by)
+  pub is_overtaken : (job.prefix ≡ held.prefix → ⊥) → (after : List Entry) (by : ℕ) → Meanwhile place seen after × (by ≡ published_prefix after) × (next.prefix ≤ by)
       → IsOvertaken place before after by
   is_overtaken other after by (others, by_is, enough) = record {
     looked = taken.looked;
@@ -107,11 +108,11 @@ module _ (place : Place) (before seen : List Entry) (held next : Versioned) (job
 
 -- no version was built or published
 pub no_memory : (place : Place) (before seen after : List Entry) (held : Versioned) (job : Job) → IsSound place seen held → IsTaken place before seen held job
-    → (job.prefix ≡ held.prefix → ⊥) → OthersAdd place.pass seen after → OthersAdd place.pass before after × (held.prefix < accepted_count after)
+    → (job.prefix ≡ held.prefix → ⊥) → Meanwhile place seen after → Meanwhile place before after × (held.prefix < accepted_count after)
 no_memory place before seen after held job sound taken other others =
     let more = taken_more place before seen held job sound taken other in
-    let grown = count_grows seen after (others_begin place.pass seen after others) in
-    (others_then place.pass before seen after (others_then place.pass before taken.looked seen taken.to_look taken.to_job) others, omega (arith, more, grown))
+    let grown = count_grows seen after (meanwhile_begin place seen after others) in
+    (meanwhile_then place before seen after (meanwhile_then place before taken.looked seen taken.to_look taken.to_job) others, omega (arith, more, grown))
 
 -- the version that was published is the one that is held
 pub published_held : (place : Place) (prefix : ℕ) (before after : List Entry) → IsPublished place prefix before after → prefix ≡ published_prefix after
@@ -120,11 +121,11 @@ published_held place prefix before after p =
 
 pub taken_begins : (place : Place) (before seen : List Entry) (held : Versioned) (job : Job) → IsTaken place before seen held job → BeginsWith seen before
 taken_begins place before seen held job taken =
-    begins_then before taken.looked seen (others_begin place.pass before taken.looked taken.to_look) (others_begin place.pass taken.looked seen taken.to_job)
+    begins_then before taken.looked seen (meanwhile_begin place before taken.looked taken.to_look) (meanwhile_begin place taken.looked seen taken.to_job)
 
 pub published_begins : (place : Place) (prefix : ℕ) (before after : List Entry) → IsPublished place prefix before after → BeginsWith after before
 published_begins place prefix before after p =
-    own_begins place.pass (Publish place.pass prefix) before after (record { between = p.between; others = p.others; own = p.own })
+    enters_begin place (Publish place.pass prefix) before after (record { between = p.between; others = p.others; own = p.own })
 
 -- a version that could not be taken
 pub look_none : (place : Place) (before after : List Entry) (old new : Versioned) (look : Look) → Looks place before after old new look

@@ -4,11 +4,12 @@ use Rattle.versions.specs.Databases.{Versioned}
 use Rattle.path_core.specs.declared.entry.Entry.{Entry}
 use Rattle.path_core.specs.declared.board.Look.{Look}
 use Rattle.path_core.specs.Histories.{published_prefix}
-use Rattle.path_core.specs.Passes.{BeginsWith, OthersAdd}
-use Rattle.path_core.proofs.Passing.{begins_itself, begins_then, others_begin, others_then}
+use Rattle.path_core.specs.Passes.{BeginsWith}
+use Rattle.path_core.proofs.Passing.{begins_itself, begins_then}
 use Rattle.session.specs.Answering.{Freshens}
 use Rattle.session.specs.Desks.{Looks}
-use Rattle.session.specs.Standing.{IsHeldSince, Place, Raises}
+use Rattle.session.specs.Standing.{IsHeldSince, Meanwhile, Place, Raises}
+use Rattle.session.proofs.Meanwhile.{meanwhile_begin, meanwhile_then}
 
 pub by_cases : {P : Type 0} (b : Bool) → (IsTrue b → P) → (IsFalse b → P) → P
 by_cases true f g = f refl
@@ -61,19 +62,19 @@ pub look_holds : (place : Place) (before after : List Entry) (old new : Versione
     → IsHeldSince before old.prefix after new.prefix
 look_holds place before after old new look p =
     by_cases look.held
-    (λ yes'. holds_published before after old new (others_begin place.pass before after p.others) (ap (λ (v : Versioned). v.prefix) (p.held yes') ∙ p.is.after))
+    (λ yes'. holds_published before after old new (meanwhile_begin place before after p.others) (ap (λ (v : Versioned). v.prefix) (p.held yes') ∙ p.is.after))
     (λ no'. holds_still before after old new (p.kept no').0)
 
 -- what a look leaves known
 pub look_freshens : (place : Place) (before mid after : List Entry) (old held new : Versioned) (look : Look)
-    → OthersAdd place.pass before mid → held ≡ old → Looks place mid after held new look → Freshens place before old look.held after new
+    → Meanwhile place before mid → held ≡ old → Looks place mid after held new look → Freshens place before old look.held after new
 look_freshens place before mid after old held new look first same p =
-    let others = others_then place.pass before mid after first p.others in
+    let others = meanwhile_then place before mid after first p.others in
     let prefix : held.prefix ≡ old.prefix = ap (λ (v : Versioned). v.prefix) same in
     record {
       others = others;
       holds = by_cases look.held
-          (λ yes'. holds_published before after old new (others_begin place.pass before after others) (ap (λ (v : Versioned). v.prefix) (p.held yes') ∙ p.is.after))
+          (λ yes'. holds_published before after old new (meanwhile_begin place before after others) (ap (λ (v : Versioned). v.prefix) (p.held yes') ∙ p.is.after))
           (λ no'. holds_still before after old new ((p.kept no').0 ∙ same));
       published = λ yes'. ap (λ (v : Versioned). v.prefix) (p.held yes') ∙ p.is.after;
       newer = λ no'. (ap (λ (v : Versioned). v.prefix) ((p.kept no').0 ∙ same), rw (sym prefix) (p.kept no').1);

@@ -4,8 +4,7 @@ use Rattle.std.specs.Io.KnownBytes.{append_known}
 use Rattle.std.proofs.lemmas.List.{append-nil, append_assoc}
 use Rattle.path_core.specs.declared.entry.Entry.{Entry}
 use Rattle.path_core.specs.declared.entry.Entry.TheVariants.{Accept, Halt}
-use Rattle.path_core.specs.Passes.{BeginsWith}
-use Rattle.path_core.proofs.Passing.{begins_itself, begins_then, others_begin, own_begins}
+use Rattle.path_core.proofs.Passing.{begins_then}
 use Rattle.query_proto.specs.declared.replies.Reply.TheVariants as reply
 use Rattle.query_proto.specs.declared.replies.Reply.{Reply}
 use Rattle.query_proto.specs.declared.requests.Request.{Request}
@@ -19,92 +18,98 @@ use Rattle.session.specs.declared.sessions.SessionFault.{SessionFault}
 use Rattle.session.specs.Conversations.{Conversed, Exchange, HasCause, Rests, ServesFrame, ServesRun, bytes_taken}
 use Rattle.session.specs.Doors.{HasServed, Lead, LeadsOn, SameWhereTold, as_begun}
 use Rattle.session.specs.Served.{Serves, ServesChange, ServesStatus, ServesStop}
-use Rattle.session.specs.Standing.{HoldsSince, Place, Standing}
-use Rattle.session.proofs.Ringing.{build_begins, held_then, rests_none, rests_then}
+use Rattle.session.specs.Standing.{AddsOnlyOwn, HoldsSince, Place, Standing}
+use Rattle.session.proofs.Meanwhile.{Grows, enters_grows, grows_itself, grows_then, meanwhile_grows}
+use Rattle.session.proofs.Ringing.{build_grows, held_then, rests_none, rests_then}
 
--- ---- what is seen after a request begins with what was seen before it
+-- ---- what is seen after a request goes on from what was seen before it
 
-change_begins : (place : Place) (edit : Edit) (before : List Entry) (told : Reply) (after : List Entry) → ServesChange place edit before told after → BeginsWith after before
-change_begins place edit before (reply.Path version cost) after s = absurd s
-change_begins place edit before (reply.Unreachable version) after s = absurd s
-change_begins place edit before (reply.Refused version why) after s = absurd s
-change_begins place edit before (reply.Accepted number) after s = own_begins place.pass (Accept place.pass edit) before after s.0
-change_begins place edit before (reply.EditRefused why) after s = others_begin place.pass before after s.0
-change_begins place edit before (reply.Published prefix built kept) after s = absurd s
-change_begins place edit before (reply.NothingNew prefix) after s = absurd s
-change_begins place edit before (reply.Overtaken by) after s = absurd s
-change_begins place edit before (reply.Status version accepted cells comps runs) after s = absurd s
-change_begins place edit before reply.Done after s = absurd s
-change_begins place edit before (reply.Malformed kind length) after s = absurd s
-change_begins place edit before reply.NoMemory after s = others_begin place.pass before after s.0
+change_grows : (place : Place) (edit : Edit) (before : List Entry) (told : Reply) (after : List Entry) → ServesChange place edit before told after → Grows place before after
+change_grows place edit before (reply.Path version cost) after s = absurd s
+change_grows place edit before (reply.Unreachable version) after s = absurd s
+change_grows place edit before (reply.Refused version why) after s = absurd s
+change_grows place edit before (reply.Accepted number) after s = enters_grows place (Accept place.pass edit) before after refl s.own
+change_grows place edit before (reply.EditRefused why) after s = meanwhile_grows place before after s.0
+change_grows place edit before (reply.Published prefix built kept) after s = absurd s
+change_grows place edit before (reply.NothingNew prefix) after s = absurd s
+change_grows place edit before (reply.Overtaken by) after s = absurd s
+change_grows place edit before (reply.Status version accepted cells comps runs) after s = absurd s
+change_grows place edit before reply.Done after s = absurd s
+change_grows place edit before (reply.Malformed kind length) after s = absurd s
+change_grows place edit before reply.NoMemory after s = meanwhile_grows place before after s.0
 
-status_begins : (place : Place) (before : List Entry) (told : Reply) (after : List Entry) → ServesStatus place before told after → BeginsWith after before
-status_begins place before (reply.Path version cost) after s = absurd s
-status_begins place before (reply.Unreachable version) after s = absurd s
-status_begins place before (reply.Refused version why) after s = absurd s
-status_begins place before (reply.Accepted number) after s = absurd s
-status_begins place before (reply.EditRefused why) after s = absurd s
-status_begins place before (reply.Published prefix built kept) after s = absurd s
-status_begins place before (reply.NothingNew prefix) after s = absurd s
-status_begins place before (reply.Overtaken by) after s = absurd s
-status_begins place before (reply.Status version accepted cells comps runs) after s = others_begin place.pass before after s.others
-status_begins place before reply.Done after s = absurd s
-status_begins place before (reply.Malformed kind length) after s = absurd s
-status_begins place before reply.NoMemory after s = absurd s
+status_grows : (place : Place) (before : List Entry) (told : Reply) (after : List Entry) → ServesStatus place before told after → Grows place before after
+status_grows place before (reply.Path version cost) after s = absurd s
+status_grows place before (reply.Unreachable version) after s = absurd s
+status_grows place before (reply.Refused version why) after s = absurd s
+status_grows place before (reply.Accepted number) after s = absurd s
+status_grows place before (reply.EditRefused why) after s = absurd s
+status_grows place before (reply.Published prefix built kept) after s = absurd s
+status_grows place before (reply.NothingNew prefix) after s = absurd s
+status_grows place before (reply.Overtaken by) after s = absurd s
+status_grows place before (reply.Status version accepted cells comps runs) after s = meanwhile_grows place before after s.others
+status_grows place before reply.Done after s = absurd s
+status_grows place before (reply.Malformed kind length) after s = absurd s
+status_grows place before reply.NoMemory after s = absurd s
 
-stop_begins : (place : Place) (before : List Entry) (told : Reply) (after : List Entry) → ServesStop place before told after → BeginsWith after before
-stop_begins place before (reply.Path version cost) after s = absurd s
-stop_begins place before (reply.Unreachable version) after s = absurd s
-stop_begins place before (reply.Refused version why) after s = absurd s
-stop_begins place before (reply.Accepted number) after s = absurd s
-stop_begins place before (reply.EditRefused why) after s = absurd s
-stop_begins place before (reply.Published prefix built kept) after s = absurd s
-stop_begins place before (reply.NothingNew prefix) after s = absurd s
-stop_begins place before (reply.Overtaken by) after s = absurd s
-stop_begins place before (reply.Status version accepted cells comps runs) after s = absurd s
-stop_begins place before reply.Done after s = elim s [
-  | inl first ↦ own_begins place.pass (Halt place.pass) before after (record { between = first.between; others = first.others; own = first.own })
-  | inr there ↦ others_begin place.pass before after there.0
+stop_grows : (place : Place) (before : List Entry) (told : Reply) (after : List Entry) → ServesStop place before told after → Grows place before after
+stop_grows place before (reply.Path version cost) after s = absurd s
+stop_grows place before (reply.Unreachable version) after s = absurd s
+stop_grows place before (reply.Refused version why) after s = absurd s
+stop_grows place before (reply.Accepted number) after s = absurd s
+stop_grows place before (reply.EditRefused why) after s = absurd s
+stop_grows place before (reply.Published prefix built kept) after s = absurd s
+stop_grows place before (reply.NothingNew prefix) after s = absurd s
+stop_grows place before (reply.Overtaken by) after s = absurd s
+stop_grows place before (reply.Status version accepted cells comps runs) after s = absurd s
+stop_grows place before reply.Done after s = elim s [
+  | inl first ↦ enters_grows place (Halt place.pass) before after refl (record { between = first.between; others = first.others; own = first.own })
+  | inr there ↦ meanwhile_grows place before after there.0
 ]
-stop_begins place before (reply.Malformed kind length) after s = absurd s
-stop_begins place before reply.NoMemory after s = others_begin place.pass before after s.0
+stop_grows place before (reply.Malformed kind length) after s = absurd s
+stop_grows place before reply.NoMemory after s = meanwhile_grows place before after s.0
 
-serves_begins : (place : Place) (asked : Request) (old : Standing) (told : Reply) (moves : List Move) (new : Standing) → Serves place asked old told moves new
-    → BeginsWith new.seen old.seen
-serves_begins place (request.Query start goal) old told moves new s = others_begin place.pass old.seen new.seen s.others
-serves_begins place (request.Change edit) old told moves new s = change_begins place edit old.seen told new.seen s.0
-serves_begins place request.Build old told moves new s = build_begins place old.seen told new s.0
-serves_begins place request.Status old told moves new s = status_begins place old.seen told new.seen s.0
-serves_begins place request.Bye old told moves new s = subst (λ (to : Standing). BeginsWith to.seen old.seen) (sym s.2) (begins_itself old.seen)
-serves_begins place request.Stop old told moves new s = stop_begins place old.seen told new.seen s.0
+serves_grows : (place : Place) (asked : Request) (old : Standing) (told : Reply) (moves : List Move) (new : Standing) → Serves place asked old told moves new
+    → Grows place old.seen new.seen
+serves_grows place (request.Query start goal) old told moves new s = meanwhile_grows place old.seen new.seen s.others
+serves_grows place (request.Change edit) old told moves new s = change_grows place edit old.seen told new.seen s.0
+serves_grows place request.Build old told moves new s = build_grows place old.seen told new s.0
+serves_grows place request.Status old told moves new s = status_grows place old.seen told new.seen s.0
+serves_grows place request.Bye old told moves new s = subst (λ (to : Standing). Grows place old.seen to.seen) (sym s.2) (grows_itself place old.seen)
+serves_grows place request.Stop old told moves new s = stop_grows place old.seen told new.seen s.0
 
 -- the history goes on, and the version that is held is the one from before or was published since
-record Onward (old new : Standing) : Type 0 where
-  pub extends : BeginsWith new.seen old.seen
+record Onward (place : Place) (old new : Standing) : Type 0 where
+  pub extends : Grows place old.seen new.seen
   pub holds : HoldsSince old new
 
-onward_itself : (standing : Standing) → Onward standing standing
-onward_itself standing = record { extends = begins_itself standing.seen; holds = inl refl }
+onward_itself : (place : Place) (standing : Standing) → Onward place standing standing
+onward_itself place standing = record { extends = grows_itself place standing.seen; holds = inl refl }
 
-onward_then : (old mid new : Standing) → Onward old mid → Onward mid new → Onward old new
-onward_then old mid new p q = record {
-  extends = begins_then old.seen mid.seen new.seen p.extends q.extends;
-  holds = held_then old.seen mid.seen new.seen old.held mid.held new.held p.extends q.extends p.holds q.holds;
+onward_then : (place : Place) (old mid new : Standing) → Onward place old mid → Onward place mid new → Onward place old new
+onward_then place old mid new p q = record {
+  extends = grows_then place old.seen mid.seen new.seen p.extends q.extends;
+  holds = held_then old.seen mid.seen new.seen old.held mid.held new.held p.extends.begins q.extends.begins p.holds q.holds;
 }
 
-rests_onward : (place : Place) (old new : Standing) → Rests place old new → Onward old new
-rests_onward place old new p = record { extends = others_begin place.pass old.seen new.seen p.others; holds = p.holds }
+rests_onward : (place : Place) (old new : Standing) → Rests place old new → Onward place old new
+rests_onward place old new p = record { extends = meanwhile_grows place old.seen new.seen p.others; holds = p.holds }
 
-frame_onward : (place : Place) (exchange : Exchange) (old new : Standing) → ServesFrame place exchange old new → Onward old new
+frame_onward : (place : Place) (exchange : Exchange) (old new : Standing) → ServesFrame place exchange old new → Onward place old new
 frame_onward place exchange old new frame = elim frame [
-  | inl s ↦ record { extends = serves_begins place s.asked old exchange.told exchange.moves new s.serves.served; holds = s.serves.holds }
-  | inr s ↦ subst (Onward old) (sym s.same) (onward_itself old)
+  | inl s ↦ record { extends = serves_grows place s.asked old exchange.told exchange.moves new s.serves.served; holds = s.serves.holds }
+  | inr s ↦ subst (Onward place old) (sym s.same) (onward_itself place old)
 ]
 
-run_onward : (place : Place) (old : Standing) (exchanges : List Exchange) (new : Standing) → ServesRun place old exchanges new → Onward old new
+run_onward : (place : Place) (old : Standing) (exchanges : List Exchange) (new : Standing) → ServesRun place old exchanges new → Onward place old new
 run_onward place old [] new run = rests_onward place old new run
 run_onward place old (exchange ∷ rest) new (point, frame, run) =
-    onward_then old point new (frame_onward place exchange old point frame) (run_onward place point rest new run)
+    onward_then place old point new (frame_onward place exchange old point frame) (run_onward place point rest new run)
+
+-- on a board of one's own, a conversation adds entries of its pass alone
+pub talks_are_own : (place : Place) (old : Standing) (before : Option Talk) (result : Result Ended SessionFault) (new : Standing) (after : Option Talk)
+    → Conversed place old before result new after → place.shared ≡ None → AddsOnlyOwn place.pass old.seen new.seen
+talks_are_own place old before result new after c alone = (run_onward place old c.exchanges new c.serves).extends.own alone
 
 -- ---- talks
 
@@ -119,9 +124,9 @@ lead_then place old (talk ∷ rest) mid more new (from, to, rests, served, lead)
 
 -- nothing came, and others may have added entries
 pub served_none : (place : Place) (old new : Standing) (told : Option (List EndedTalk)) → Rests place old new → HasServed place old told new told
-served_none place old new None rests = let onward = rests_onward place old new rests in record { extends = onward.extends; holds = onward.holds; told = tt }
+served_none place old new None rests = let onward = rests_onward place old new rests in record { extends = onward.extends.begins; holds = onward.holds; told = tt }
 served_none place old new (Some talks) rests = let onward = rests_onward place old new rests in record {
-  extends = onward.extends;
+  extends = onward.extends.begins;
   holds = onward.holds;
   told = record { more = []; after_is = ap Some (sym (append-nil talks)); lead = rests };
 }
@@ -141,8 +146,11 @@ leads_then place old mid new (Some talks) between after p q =
 pub served_then : (place : Place) (old mid new : Standing) (before between after : Option (List EndedTalk)) → HasServed place old before mid between
     → HasServed place mid between new after → HasServed place old before new after
 served_then place old mid new before between after p q =
-    let onward = onward_then old mid new (record { extends = p.extends; holds = p.holds }) (record { extends = q.extends; holds = q.holds }) in
-    record { extends = onward.extends; holds = onward.holds; told = leads_then place old mid new before between after p.told q.told }
+    record {
+      extends = begins_then old.seen mid.seen new.seen p.extends q.extends;
+      holds = held_then old.seen mid.seen new.seen old.held mid.held new.held p.extends q.extends p.holds q.holds;
+      told = leads_then place old mid new before between after p.told q.told;
+    }
 
 -- ---- a talk from its first byte on
 
@@ -186,13 +194,13 @@ pub served_talk : (place : Place) (from to : Standing) (before : Option (List En
     → Conversed place from fresh result to told → IfErr result (HasCause reads_before reads writes_before writes) → reads_before ≡ 0 → writes_before ≡ 0
     → after ≡ with_ended before told reads writes → HasServed place from before to after
 served_talk place from to None fresh told result reads_before reads writes_before writes after new tells c cause r w is =
-    let onward = run_onward place from c.exchanges to c.serves in record { extends = onward.extends; holds = onward.holds; told = tt }
+    let onward = run_onward place from c.exchanges to c.serves in record { extends = onward.extends.begins; holds = onward.holds; told = tt }
 served_talk place from to (Some talks) None told result reads_before reads writes_before writes after new tells c cause r w is =
     let clash : false ≡ true = tells in absurd (cc)
 served_talk place from to (Some talks) (Some talk) told result reads_before reads writes_before writes after new tells c cause r w is =
     let onward = run_onward place from c.exchanges to c.serves in
     record {
-      extends = onward.extends;
+      extends = onward.extends.begins;
       holds = onward.holds;
       told = subst (LeadsOn place from talks to) (sym is)
           (talk_ended place from talks talk told result to reads writes new c

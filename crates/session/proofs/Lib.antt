@@ -1,3 +1,4 @@
+pub mod Meanwhile
 pub mod Holding
 pub mod Queried
 pub mod Builds

@@ -18,7 +18,7 @@ use Rattle.query_proto.specs.declared.requests.Request.TheVariants as request
 use Rattle.versions.specs.declared.query.QueryRefusal.{QueryRefusal}
 use Rattle.path_core.specs.declared.entry.Entry.{Entry}
 use Rattle.path_core.specs.Histories.{IsVersionAt}
-use Rattle.session.specs.Answering.{Answers, AnswersBy, Freshens}
+use Rattle.session.specs.Answering.{Answers, AnswersBy, Freshens, ends_of}
 use Rattle.session.specs.Served.{ServesRequest, TellsAnswer, why_of}
 use Rattle.session.specs.Standing.{IsSound, Place, Raises, Standing, standing}
 
@@ -33,10 +33,12 @@ no_walk version told none =
 
 -- a reply that is no path
 pub told_alone : (place : Place) (asked : Request) (old new : Standing) (version : Versioned) (told : Reply) (answered : Answered)
-    → answered.reply ≡ told → answered.path ≡ None → ServesRequest place asked old told [] new → Answers place asked old version answered new
-told_alone place asked old new version told answered is none serves = record {
+    → answered.reply ≡ told → answered.path ≡ None → ends_of asked told ≡ None → ServesRequest place asked old told [] new
+    → Answers place asked old version answered new
+told_alone place asked old new version told answered is none no_ends serves = record {
   moves = [];
   serves = subst (λ t. ServesRequest place asked old t [] new) (sym is) serves;
+  path = none ∙ sym (ap (ends_of asked) is ∙ no_ends);
   walk = no_walk version answered.path none;
 }
 
@@ -53,6 +55,7 @@ path_answered version start goal cost whole ends (best, is_best, costs) =
       moves = found.0;
       is = (ends, walk);
       tells = (ap (reply.Path version.prefix) same, refl);
+      path = refl;
       walk = walk;
     }
 
@@ -64,6 +67,7 @@ refused_answered version start goal why answered is told none = record {
   moves = [];
   is = is;
   tells = (told, refl);
+  path = none ∙ sym (ap (ends_of (request.Query start goal)) told);
   walk = no_walk version answered.path none;
 }
 
@@ -81,6 +85,7 @@ lacking_answered place before after old new fresh told told_then start goal answ
     holds = p.holds;
     looks = rise;
   };
+  path = none ∙ sym (ap (ends_of (request.Query start goal)) is);
   walk = no_walk new answered.path none;
 }
 
@@ -107,5 +112,6 @@ query_answered place before after old new fresh told told_then start goal answer
     holds = p.holds;
     looks = rise;
   };
+  path = by.path;
   walk = by.walk;
 }

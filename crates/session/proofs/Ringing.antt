@@ -1,8 +1,8 @@
 -- Builds at rings, one after the other.
 use Rattle.std.proofs.Common.{◌≡◌, ℕ, List, [], ◌∷◌, ◌++◌, None, Option, Some, inl, inr, refl, sym, subst, ap, ◌∙◌, arith}
 use Rattle.std.proofs.lemmas.List.Sums.{fold_push}
-use Rattle.path_core.specs.Passes.{BeginsWith, OthersAdd}
-use Rattle.path_core.proofs.Passing.{begins_then, others_begin, others_none, others_then, own_begins}
+use Rattle.path_core.specs.Passes.{BeginsWith}
+use Rattle.path_core.proofs.Passing.{begins_then}
 use Rattle.path_core.specs.declared.entry.Entry.TheVariants.{Publish}
 use Rattle.query_proto.specs.declared.replies.Reply.{Reply}
 use Rattle.query_proto.specs.declared.replies.Reply.TheVariants as reply
@@ -13,7 +13,8 @@ use Rattle.session.specs.declared.builder.BuildTotals.{BuildTotals}
 use Rattle.session.specs.Builders.{BuildRun, HasBuilt, count_reply, no_totals}
 use Rattle.session.specs.Conversations.{NoFewer, Rests}
 use Rattle.session.specs.Served.{ServesBuild, ServesRequest}
-use Rattle.session.specs.Standing.{IsHeldSince, Place, Raises, Standing}
+use Rattle.session.specs.Standing.{IsHeldSince, Meanwhile, Place, Raises, Standing}
+use Rattle.session.proofs.Meanwhile.{Grows, enters_grows, meanwhile_begin, meanwhile_grows, meanwhile_none, meanwhile_then}
 
 -- ---- a while in which nothing was entered
 
@@ -51,22 +52,22 @@ held_then before mid after old held new first second h k = elim k [
 
 pub rests_none : (place : Place) (standing : Standing) → Rests place standing standing
 rests_none place standing = record {
-  others = others_none place.pass standing.seen;
+  others = meanwhile_none place standing.seen;
   holds = inl refl;
   looks = no_fewer_itself standing.looks;
 }
 
 pub rests_then : (place : Place) (old mid new : Standing) → Rests place old mid → Rests place mid new → Rests place old new
 rests_then place old mid new p q = record {
-  others = others_then place.pass old.seen mid.seen new.seen p.others q.others;
-  holds = held_then old.seen mid.seen new.seen old.held mid.held new.held (others_begin place.pass old.seen mid.seen p.others)
-      (others_begin place.pass mid.seen new.seen q.others) p.holds q.holds;
+  others = meanwhile_then place old.seen mid.seen new.seen p.others q.others;
+  holds = held_then old.seen mid.seen new.seen old.held mid.held new.held (meanwhile_begin place old.seen mid.seen p.others)
+      (meanwhile_begin place mid.seen new.seen q.others) p.holds q.holds;
   looks = no_fewer_then old.looks mid.looks new.looks p.looks q.looks;
 }
 
 -- ---- a build after such a while
 
-pub build_behind : (place : Place) (before mid : List Entry) (told : Reply) (new : Standing) → OthersAdd place.pass before mid
+pub build_behind : (place : Place) (before mid : List Entry) (told : Reply) (new : Standing) → Meanwhile place before mid
     → ServesBuild place mid told new → ServesBuild place before told new
 build_behind place before mid (reply.Path version cost) new first s = absurd s
 build_behind place before mid (reply.Unreachable version) new first s = absurd s
@@ -77,7 +78,7 @@ build_behind place before mid (reply.Published prefix built kept) new first s = 
   looked = s.looked;
   taken = s.taken;
   between = s.between;
-  to_look = others_then place.pass before mid s.looked first s.to_look;
+  to_look = meanwhile_then place before mid s.looked first s.to_look;
   to_job = s.to_job;
   to_publish = s.to_publish;
   own = s.own;
@@ -87,9 +88,9 @@ build_behind place before mid (reply.Published prefix built kept) new first s = 
   counts = s.counts;
 }
 build_behind place before mid (reply.NothingNew prefix) new first s = record {
-  others = others_then place.pass before mid new.seen first s.others;
+  others = meanwhile_then place before mid new.seen first s.others;
   at = s.at;
-  later = begins_then before mid s.at (others_begin place.pass before mid first) s.later;
+  later = begins_then before mid s.at (meanwhile_begin place before mid first) s.later;
   earlier = s.earlier;
   published = s.published;
   accepted = s.accepted;
@@ -97,7 +98,7 @@ build_behind place before mid (reply.NothingNew prefix) new first s = record {
 build_behind place before mid (reply.Overtaken by) new first s = record {
   looked = s.looked;
   taken = s.taken;
-  to_look = others_then place.pass before mid s.looked first s.to_look;
+  to_look = meanwhile_then place before mid s.looked first s.to_look;
   to_job = s.to_job;
   to_publish = s.to_publish;
   newer = s.newer;
@@ -107,36 +108,36 @@ build_behind place before mid (reply.Overtaken by) new first s = record {
 build_behind place before mid (reply.Status version accepted cells comps runs) new first s = absurd s
 build_behind place before mid reply.Done new first s = absurd s
 build_behind place before mid (reply.Malformed kind length) new first s = absurd s
-build_behind place before mid reply.NoMemory new first s = (others_then place.pass before mid new.seen first s.0, s.1)
+build_behind place before mid reply.NoMemory new first s = (meanwhile_then place before mid new.seen first s.0, s.1)
 
--- what a build sees begins with what was seen before it
-pub build_begins : (place : Place) (before : List Entry) (told : Reply) (new : Standing) → ServesBuild place before told new → BeginsWith new.seen before
-build_begins place before (reply.Path version cost) new s = absurd s
-build_begins place before (reply.Unreachable version) new s = absurd s
-build_begins place before (reply.Refused version why) new s = absurd s
-build_begins place before (reply.Accepted number) new s = absurd s
-build_begins place before (reply.EditRefused why) new s = absurd s
-build_begins place before (reply.Published prefix built kept) new s =
-    own_begins place.pass (Publish place.pass prefix) before new.seen (record {
+-- what a build sees goes on from what was seen before it
+pub build_grows : (place : Place) (before : List Entry) (told : Reply) (new : Standing) → ServesBuild place before told new → Grows place before new.seen
+build_grows place before (reply.Path version cost) new s = absurd s
+build_grows place before (reply.Unreachable version) new s = absurd s
+build_grows place before (reply.Refused version why) new s = absurd s
+build_grows place before (reply.Accepted number) new s = absurd s
+build_grows place before (reply.EditRefused why) new s = absurd s
+build_grows place before (reply.Published prefix built kept) new s =
+    enters_grows place (Publish place.pass prefix) before new.seen refl (record {
       between = s.between;
-      others = others_then place.pass before s.taken s.between (others_then place.pass before s.looked s.taken s.to_look s.to_job) s.to_publish;
+      others = meanwhile_then place before s.taken s.between (meanwhile_then place before s.looked s.taken s.to_look s.to_job) s.to_publish;
       own = s.own;
     })
-build_begins place before (reply.NothingNew prefix) new s = others_begin place.pass before new.seen s.others
-build_begins place before (reply.Overtaken by) new s =
-    others_begin place.pass before new.seen
-    (others_then place.pass before s.taken new.seen (others_then place.pass before s.looked s.taken s.to_look s.to_job) s.to_publish)
-build_begins place before (reply.Status version accepted cells comps runs) new s = absurd s
-build_begins place before reply.Done new s = absurd s
-build_begins place before (reply.Malformed kind length) new s = absurd s
-build_begins place before reply.NoMemory new s = others_begin place.pass before new.seen s.0
+build_grows place before (reply.NothingNew prefix) new s = meanwhile_grows place before new.seen s.others
+build_grows place before (reply.Overtaken by) new s =
+    meanwhile_grows place before new.seen
+    (meanwhile_then place before s.taken new.seen (meanwhile_then place before s.looked s.taken s.to_look s.to_job) s.to_publish)
+build_grows place before (reply.Status version accepted cells comps runs) new s = absurd s
+build_grows place before reply.Done new s = absurd s
+build_grows place before (reply.Malformed kind length) new s = absurd s
+build_grows place before reply.NoMemory new s = meanwhile_grows place before new.seen s.0
 
 pub request_behind : (place : Place) (old mid : Standing) (told : Reply) (new : Standing) → Rests place old mid
     → ServesRequest place request.Build mid told [] new → ServesRequest place request.Build old told [] new
 request_behind place old mid told new first s = record {
   served = (build_behind place old.seen mid.seen told new first.others s.served.0, refl);
-  holds = held_then old.seen mid.seen new.seen old.held mid.held new.held (others_begin place.pass old.seen mid.seen first.others)
-      (build_begins place mid.seen told new s.served.0) first.holds s.holds;
+  holds = held_then old.seen mid.seen new.seen old.held mid.held new.held (meanwhile_begin place old.seen mid.seen first.others)
+      (build_grows place mid.seen told new s.served.0).begins first.holds s.holds;
   looks = no_fewer_raises old.looks mid.looks new.looks first.looks s.looks;
 }
 

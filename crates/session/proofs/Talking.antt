@@ -5,7 +5,6 @@ use Rattle.std.proofs.Math.Seq.{take-add}
 use Rattle.std.proofs.lemmas.Grind.{flat_map-append}
 use Rattle.std.proofs.lemmas.List.{append-nil, append_assoc, drop-drop, take-append-drop, length-drop}
 use Rattle.std.proofs.lemmas.List.Elements.{All-push}
-use Rattle.path_core.proofs.Passing.{others_none}
 use Rattle.query_proto.specs.declared.TheConstants.{MAX_REQUEST}
 use Rattle.query_proto.specs.Frames.{sent_reply, sent_request}
 use Rattle.wire.specs.Talks.{Talk, with_sent, with_taken}
@@ -18,6 +17,7 @@ use Rattle.session.specs.declared.sessions.SessionFault.TheVariants as fault
 use Rattle.session.specs.Conversations.{Conversed, EndsSo, Exchange, GoesOn, NoFewer, Passes, Rests, ServesRun, bytes_sent, bytes_taken}
 use Rattle.session.specs.Standing.{Place, Standing}
 use Rattle.session.specs.Turns.{Exchanges, HoldsMore, Steps, StepsNot, StepsOver, Takes}
+use Rattle.session.proofs.Meanwhile.{meanwhile_none}
 
 -- ---- bytes
 
@@ -109,7 +109,7 @@ no_fewer None = refl
 
 rests_none : (place : Place) (standing : Standing) → Rests place standing standing
 rests_none place standing = record {
-  others = others_none place.pass standing.seen;
+  others = meanwhile_none place standing.seen;
   holds = inl refl;
   looks = no_fewer standing.looks;
 }

@@ -1,35 +1,48 @@
 -- What one request gets.
-use Rattle.std.specs.Prelude.{◌≡◌, ◌<◌, Bool, IsTrue, IsFalse, List, [], MatchOption}
+use Rattle.std.specs.Prelude.{◌≡◌, ◌<◌, Bool, IsTrue, IsFalse, List, [], MatchOption, None, Option, Some}
 use Rattle.moves.specs.declared.Cell.{Cell}
 use Rattle.moves.specs.declared.Move.{Move}
 use Rattle.versions.specs.Answers.{Answer, IsAnswer, IsWalk}
 use Rattle.versions.specs.Databases.{Versioned}
 use Rattle.path_core.specs.declared.entry.Entry.{Entry}
 use Rattle.path_core.specs.Histories.{published_prefix}
-use Rattle.path_core.specs.Passes.{OthersAdd}
+use Rattle.query_proto.specs.declared.replies.Reply.{Reply}
+use Rattle.query_proto.specs.declared.replies.Reply.TheVariants as reply
 use Rattle.query_proto.specs.declared.requests.Request.{Request}
+use Rattle.query_proto.specs.declared.requests.Request.TheVariants as request
 use Rattle.session.specs.declared.answers.Answered.{Answered}
-use Rattle.session.specs.Standing.{IsHeldSince, Place, Standing}
+use Rattle.session.specs.declared.answers.PathAt.{PathAt}
+use Rattle.session.specs.Standing.{IsHeldSince, Meanwhile, Place, Standing}
 use Rattle.session.specs.Served.{ServesRequest, TellsAnswer}
 
--- The request is served by that reply. Where it is a path, the moves behind it are the walk of the held version between the
--- two cells, and else there are none.
-pub record Answers (place : Place) (asked : Request) (old : Standing) (version : Versioned) (answered : Answered) (new : Standing) : Type 0 where
+-- the two ends of a query whose reply is a path
+abbrev pub ends_of : Request → Reply → Option PathAt
+ends_of (request.Query start goal) (reply.Path version cost) = Some (record { start = start; goal = goal })
+ends_of _ _ = None
+
+-- The request is served by that reply. Where it is a path, its ends are told, and the moves behind it are the walk of the held
+-- version between them, and else there are none.
+pub record Answers (place : Place) (asked : Request) (old : Standing) (version : Versioned) (answered : Answered)
+    (new : Standing) : Type 0 where
   pub moves : List Move
   pub serves : ServesRequest place asked old answered.reply moves new
+  pub path : answered.path ≡ ends_of asked answered.reply
   pub walk : MatchOption answered.path (moves ≡ []) (λ at. IsWalk version.map version.comps at.start at.goal moves)
 
 -- Entries of others apart, the published version is held then, or a newer one than the held one was published.
-pub record Freshens (place : Place) (before : List Entry) (old : Versioned) (fresh : Bool) (after : List Entry) (new : Versioned) : Type 0 where
-  pub others : OthersAdd place.pass before after
+pub record Freshens (place : Place) (before : List Entry) (old : Versioned) (fresh : Bool) (after : List Entry)
+    (new : Versioned) : Type 0 where
+  pub others : Meanwhile place before after
   pub holds : IsHeldSince before old.prefix after new.prefix
   pub published : IsTrue fresh → new.prefix ≡ published_prefix after
   pub newer : IsFalse fresh → (new.prefix ≡ old.prefix) × (old.prefix < published_prefix after)
 
--- The reply tells the answer of a version. Where it is a path, the moves behind it are the walk between the two cells.
+-- The reply tells the answer of a version. Where it is a path, its ends are told, and the moves behind it are the walk between
+-- them.
 pub record AnswersBy (version : Versioned) (start goal : Cell) (answered : Answered) : Type 0 where
   pub answer : Answer
   pub moves : List Move
   pub is : IsAnswer version start goal answer
   pub tells : TellsAnswer version.prefix answer answered.reply moves
+  pub path : answered.path ≡ ends_of (request.Query start goal) answered.reply
   pub walk : MatchOption answered.path (moves ≡ []) (λ at. IsWalk version.map version.comps at.start at.goal moves)

@@ -37,7 +37,8 @@ BuildRun place old (told ∷ rest) new =
     (point : Standing) × ServesRequest place request.Build old told [] point × BuildRun place point rest new
 
 -- WHAT A BUILDER DID: one build for each ring, and the totals count what they were answered
-pub record HasBuilt (place : Place) (old : Standing) (totals : BuildTotals) (rung_before : ℕ) (new : Standing) (rung_after : ℕ) : Type 0 where
+pub record HasBuilt (place : Place) (old : Standing) (totals : BuildTotals) (rung_before : ℕ) (new : Standing)
+    (rung_after : ℕ) : Type 0 where
   pub replies : List Reply
   pub run : BuildRun place old replies new
   pub totals_are : totals ≡ totals_of replies

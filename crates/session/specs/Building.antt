@@ -7,21 +7,20 @@ use Rattle.version_build.specs.declared.plans.BuildReport.{BuildReport}
 use Rattle.path_core.specs.declared.entry.Entry.{Entry}
 use Rattle.path_core.specs.declared.board.Job.{Job}
 use Rattle.path_core.specs.Histories.{accepted_count, published_prefix}
-use Rattle.path_core.specs.Passes.{OthersAdd}
 use Rattle.session.specs.Desks.{IsJobAt}
-use Rattle.session.specs.Standing.{Place}
+use Rattle.session.specs.Standing.{Meanwhile, Place}
 
 -- the pass looked, and holds the version that was published then; the job has the edits past those of this version
 pub record IsTaken (place : Place) (before after : List Entry) (held : Versioned) (job : Job) : Type 0 where
   pub looked : List Entry
-  pub to_look : OthersAdd place.pass before looked
-  pub to_job : OthersAdd place.pass looked after
+  pub to_look : Meanwhile place before looked
+  pub to_job : Meanwhile place looked after
   pub held_is : held.prefix ≡ published_prefix looked
   pub edits : IsJobAt place after held.prefix job
 
 -- no job was taken, though there are accepted edits past those of the held version
 pub record TakesNone (place : Place) (before after : List Entry) (held : Versioned) : Type 0 where
-  pub others : OthersAdd place.pass before after
+  pub others : Meanwhile place before after
   pub more : held.prefix < accepted_count after
 
 -- the version after the edits of a job, in the order of the held one, and what was built and kept of it

@@ -4,7 +4,6 @@ use Rattle.std.specs.Io.{StartsWith}
 use Rattle.std.specs.List.{flat_map}
 use Rattle.byteorder.specs.Endian.{big_bytes}
 use Rattle.moves.specs.declared.Move.{Move}
-use Rattle.path_core.specs.Passes.{OthersAdd}
 use Rattle.query_proto.specs.declared.TheConstants.{MAX_REQUEST}
 use Rattle.query_proto.specs.declared.malformed.Malformed.{Malformed}
 use Rattle.query_proto.specs.declared.replies.Reply.{Reply}
@@ -20,7 +19,7 @@ use Rattle.session.specs.declared.sessions.Ended.TheVariants as ended
 use Rattle.session.specs.declared.sessions.SessionFault.{SessionFault}
 use Rattle.session.specs.declared.sessions.SessionFault.TheVariants as fault
 use Rattle.session.specs.Served.{ServesRequest}
-use Rattle.session.specs.Standing.{HoldsSince, Place, Standing}
+use Rattle.session.specs.Standing.{HoldsSince, Meanwhile, Place, Standing}
 
 -- ---- what frames get
 
@@ -54,7 +53,7 @@ NoFewer before after = MatchOption before (after ≡ None) (λ count. (more : �
 
 -- nothing more was asked: others may have added entries, and the pass may have looked
 pub record Rests (place : Place) (old new : Standing) : Type 0 where
-  pub others : OthersAdd place.pass old.seen new.seen
+  pub others : Meanwhile place old.seen new.seen
   pub holds : HoldsSince old new
   pub looks : NoFewer old.looks new.looks
 
@@ -86,7 +85,8 @@ HasNone told = IfSome told (λ talk. talk.left ≡ [])
 -- a part of a frame, which wants so many bytes: one byte of its length, or its length and fewer bytes than that says
 abbrev pub IsPart : List ℕ → ℕ → Type 0
 IsPart last want = ((length last ≡ 1) × (want ≡ 2))
-    ⊎ ((size : ℕ) × (size ≤ MAX_REQUEST) × (take 2 last ≡ big_bytes 2 size) × (2 ≤ length last) × (want ≡ 2 + size) × (length last < want))
+    ⊎ ((size : ℕ) × (size ≤ MAX_REQUEST) × (take 2 last ≡ big_bytes 2 size) × (2 ≤ length last)
+    × (want ≡ 2 + size) × (length last < want))
 
 -- nothing, or a part of a frame
 abbrev pub IsBegun : List ℕ → Type 0
@@ -146,7 +146,8 @@ pub record EndsByStop (exchanges : List Exchange) (last sent : List ℕ) : Type 
 
 -- The input ended inside a frame, of which these bytes were taken; so many are held and so many wanted, both with those of
 -- the length.
-pub record EndsTorn (exchanges : List Exchange) (last sent : List ℕ) (after : Option Talk) (have want : ℕ) : Type 0 where
+pub record EndsTorn (exchanges : List Exchange) (last sent : List ℕ) (after : Option Talk)
+    (have want : ℕ) : Type 0 where
   pub on : GoOn exchanges
   pub have_is : have ≡ length last
   pub part : IsPart last want
@@ -190,8 +191,8 @@ EndsSo exchanges last sent after (Err fault.ReadFault) = EndsUnread exchanges la
 EndsSo exchanges last sent after (Err fault.WriteFault) = EndsUnsent exchanges last sent
 
 -- A CONVERSATION: the frames that were taken, each served, the bytes that were taken and sent, and the end
-pub record Conversed (place : Place) (old : Standing) (before : Option Talk) (result : Result Ended SessionFault) (new : Standing)
-    (after : Option Talk) : Type 0 where
+pub record Conversed (place : Place) (old : Standing) (before : Option Talk) (result : Result Ended SessionFault)
+    (new : Standing) (after : Option Talk) : Type 0 where
   pub exchanges : List Exchange
   pub last : List ℕ
   pub sent : List ℕ

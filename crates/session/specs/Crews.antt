@@ -27,9 +27,11 @@ has_failed (Some Halting) = false
 has_failed (Some Closed) = false
 has_failed (Some Failed) = true
 
-module _ {D : Type 0} (talks : D → Option (List EndedTalk)) (closed : D → Bool) (faults : D → ℕ) (port : D → Option ℕ) where
+module _ {D : Type 0} (talks : D → Option (List EndedTalk)) (closed : D → Bool) (faults : D → ℕ)
+    (port : D → Option ℕ) where
   -- a worker with that pass served that door, and its loop has ended so
-  pub record HasRun (pass_before : Pass) (before : D) (pass_after : Pass) (after : D) (ended : Option DoorEnded) : Type 0 where
+  pub record HasRun (pass_before : Pass) (before : D) (pass_after : Pass) (after : D)
+      (ended : Option DoorEnded) : Type 0 where
     pub same : place_of pass_after ≡ place_of pass_before
     pub served : HasServed (place_of pass_before) (standing_of pass_before) (talks before) (standing_of pass_after) (talks after)
     pub how : DoorEnded
@@ -61,13 +63,17 @@ module _ {D : Type 0} (closed : D → Bool) (faults : D → ℕ) where
     pub faults_are : faults after ≡ faults before
     pub why : (closed after ≡ true) ⊎ IsHalting (seen_of pass_after)
 
-module _ {D : Type 0} (talks : D → Option (List EndedTalk)) (closed : D → Bool) (faults : D → ℕ) (port : D → Option ℕ) where
+module _ {D : Type 0} (talks : D → Option (List EndedTalk)) (closed : D → Bool) (faults : D → ℕ)
+    (port : D → Option ℕ) where
   -- each door was served by the worker with the pass at its place; and whether a knock failed somewhere
-  pub record HaveRun (doors : List D) (passes : List Pass) (doors_after : List D) (passes_after : List Pass) (failed : Bool) : Type 0 where
+  pub record HaveRun (doors : List D) (passes : List Pass) (doors_after : List D) (passes_after : List Pass)
+      (failed : Bool) : Type 0 where
     pub doors_long : length doors_after ≡ length doors
     pub passes_long : length passes_after ≡ length doors
     pub each : (i : ℕ) (door : D) (pass : Pass) → i < length doors
-        → HasEnded talks closed faults port (slice_index_or passes i pass) (slice_index_or doors i door) (slice_index_or passes_after i pass) (slice_index_or doors_after i door)
+        → HasEnded talks closed faults port (slice_index_or passes i pass) (slice_index_or doors i door)
+        (slice_index_or passes_after i pass) (slice_index_or doors_after i door)
     pub some : IsTrue failed → SomeRose closed faults doors doors_after
     pub none : IsFalse failed → (i : ℕ) (door : D) (pass : Pass) → i < length doors
-        → EndsWell closed faults (slice_index_or doors i door) (slice_index_or doors_after i door) (slice_index_or passes_after i pass)
+        → EndsWell closed faults (slice_index_or doors i door) (slice_index_or doors_after i door)
+        (slice_index_or passes_after i pass)

@@ -30,13 +30,15 @@ Lead place old (talk ∷ rest) new =
     (from : Standing) × (to : Standing) × Rests place old from × IsServedTalk place from talk to × Lead place to rest new
 
 -- these talks were told before; those that were added since lead from the one standing to the other
-pub record LeadsOn (place : Place) (old : Standing) (talks : List EndedTalk) (new : Standing) (after : Option (List EndedTalk)) : Type 0 where
+pub record LeadsOn (place : Place) (old : Standing) (talks : List EndedTalk) (new : Standing)
+    (after : Option (List EndedTalk)) : Type 0 where
   pub more : List EndedTalk
   pub after_is : after ≡ Some (talks ++ more)
   pub lead : Lead place old more new
 
 -- WHAT A LOOP AT A DOOR DID: the history went on, and where the door tells its talks, those that were added were served
-pub record HasServed (place : Place) (old : Standing) (before : Option (List EndedTalk)) (new : Standing) (after : Option (List EndedTalk)) : Type 0 where
+pub record HasServed (place : Place) (old : Standing) (before : Option (List EndedTalk)) (new : Standing)
+    (after : Option (List EndedTalk)) : Type 0 where
   pub extends : BeginsWith new.seen old.seen
   pub holds : HoldsSince old new
   pub told : IfSome before (λ talks. LeadsOn place old talks new after)

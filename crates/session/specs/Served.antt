@@ -13,16 +13,16 @@ use Rattle.versions.specs.Answers.{Answer, path, refused, unreachable}
 use Rattle.versions.specs.Counts.{AreCounts}
 use Rattle.versions.specs.Databases.{Versioned, runs_of}
 use Rattle.path_core.specs.declared.entry.Entry.{Entry}
-use Rattle.path_core.specs.declared.entry.Entry.TheVariants.{Accept, Publish}
+use Rattle.path_core.specs.declared.entry.Entry.TheVariants.{Publish}
 use Rattle.path_core.specs.Histories.{accepted_count, map_at, map_now, published_prefix, IsAnswerAt, IsHalting, IsVersionAt}
-use Rattle.path_core.specs.Passes.{AddsOwn, BeginsWith, OthersAdd}
+use Rattle.path_core.specs.Passes.{BeginsWith}
 use Rattle.query_proto.specs.declared.replies.QueryWhy.{QueryWhy}
 use Rattle.query_proto.specs.declared.replies.Reply.{Reply}
 use Rattle.query_proto.specs.declared.replies.Reply.TheVariants as reply
 use Rattle.query_proto.specs.declared.requests.Request.{Request}
 use Rattle.query_proto.specs.declared.requests.Request.TheVariants as request
-use Rattle.session.specs.Standing.{Place, Standing, HoldsSince, Raises}
-use Rattle.session.specs.Desks.{HaltsFirst, IsRoomUsed, MayBeEntered}
+use Rattle.session.specs.Standing.{HoldsSince, Meanwhile, Place, Raises, Standing}
+use Rattle.session.specs.Desks.{HaltsFirst, IsEntered, IsRoomUsed, MayBeEntered}
 
 -- why a query was refused, as a reply tells it
 abbrev pub why_of : QueryRefusal → QueryWhy
@@ -45,30 +45,31 @@ pub record LacksVersion (old new : Standing) (told : Reply) (moves : List Move) 
   pub kept : new.held ≡ old.held
 
 -- the answer at the history that is seen, by its published version, which is held
-pub record TellsPath (place : Place) (start goal : Cell) (new : Standing) (told : Reply) (moves : List Move) : Type 0 where
+pub record TellsPath (place : Place) (start goal : Cell) (new : Standing) (told : Reply)
+    (moves : List Move) : Type 0 where
   pub answer : Answer
   pub is : IsAnswerAt place.start place.order new.seen (published_prefix new.seen) start goal answer
   pub tells : TellsAnswer (published_prefix new.seen) answer told moves
   pub holds : new.held ≡ published_prefix new.seen
 
 -- a query
-pub record ServesQuery (place : Place) (start goal : Cell) (old : Standing) (told : Reply) (moves : List Move) (new : Standing) : Type 0 where
-  pub others : OthersAdd place.pass old.seen new.seen
+pub record ServesQuery (place : Place) (start goal : Cell) (old : Standing) (told : Reply) (moves : List Move)
+    (new : Standing) : Type 0 where
+  pub others : Meanwhile place old.seen new.seen
   pub answers : TellsPath place start goal new told moves ⊎ LacksVersion old new told moves
 
 -- a change
 abbrev pub ServesChange : Place → Edit → List Entry → Reply → List Entry → Type 0
-ServesChange place edit before (reply.Accepted number) after =
-    AddsOwn place.pass (Accept place.pass edit) before after × (number ≡ accepted_count after)
+ServesChange place edit before (reply.Accepted number) after = IsEntered place edit before after number
 ServesChange place edit before (reply.EditRefused why) after =
-    OthersAdd place.pass before after × IsRefusal (map_now place.start after) (accepted_count after) edit why
+    Meanwhile place before after × IsRefusal (map_now place.start after) (accepted_count after) edit why
 ServesChange place edit before reply.NoMemory after =
-    OthersAdd place.pass before after × MayBeEntered place after edit × IsRoomUsed place after
+    Meanwhile place before after × MayBeEntered place after edit × IsRoomUsed place after
 ServesChange place edit before _ after = ⊥
 
 -- nothing was new: at some history between, the published version had all edits that are accepted then
 pub record HasNothingNew (place : Place) (before after : List Entry) (prefix : ℕ) : Type 0 where
-  pub others : OthersAdd place.pass before after
+  pub others : Meanwhile place before after
   pub at : List Entry
   pub later : BeginsWith at before
   pub earlier : BeginsWith after at
@@ -81,9 +82,9 @@ pub record BuildsVersion (place : Place) (before after : List Entry) (prefix bui
   pub looked : List Entry
   pub taken : List Entry
   pub between : List Entry
-  pub to_look : OthersAdd place.pass before looked
-  pub to_job : OthersAdd place.pass looked taken
-  pub to_publish : OthersAdd place.pass taken between
+  pub to_look : Meanwhile place before looked
+  pub to_job : Meanwhile place looked taken
+  pub to_publish : Meanwhile place taken between
   pub own : after ≡ between ++ Publish place.pass prefix ∷ []
   pub all : prefix ≡ accepted_count taken
   pub newer : published_prefix looked < prefix
@@ -94,9 +95,9 @@ pub record BuildsVersion (place : Place) (before after : List Entry) (prefix bui
 pub record IsOvertaken (place : Place) (before after : List Entry) (by : ℕ) : Type 0 where
   pub looked : List Entry
   pub taken : List Entry
-  pub to_look : OthersAdd place.pass before looked
-  pub to_job : OthersAdd place.pass looked taken
-  pub to_publish : OthersAdd place.pass taken after
+  pub to_look : Meanwhile place before looked
+  pub to_job : Meanwhile place looked taken
+  pub to_publish : Meanwhile place taken after
   pub newer : published_prefix looked < accepted_count taken
   pub published : by ≡ published_prefix after
   pub enough : accepted_count taken ≤ by
@@ -106,12 +107,12 @@ abbrev pub ServesBuild : Place → List Entry → Reply → Standing → Type 0
 ServesBuild place before (reply.NothingNew prefix) new = HasNothingNew place before new.seen prefix
 ServesBuild place before (reply.Published prefix built kept) new = BuildsVersion place before new.seen prefix built kept
 ServesBuild place before (reply.Overtaken by) new = IsOvertaken place before new.seen by
-ServesBuild place before reply.NoMemory new = OthersAdd place.pass before new.seen × (new.held < accepted_count new.seen)
+ServesBuild place before reply.NoMemory new = Meanwhile place before new.seen × (new.held < accepted_count new.seen)
 ServesBuild place before _ new = ⊥
 
 -- the state of the board
 pub record TellsState (place : Place) (before after : List Entry) (version accepted cells comps runs : ℕ) : Type 0 where
-  pub others : OthersAdd place.pass before after
+  pub others : Meanwhile place before after
   pub published : Versioned
   pub is : IsVersionAt place.start place.order after (published_prefix after) published
   pub version_is : version ≡ published_prefix after
@@ -128,9 +129,9 @@ ServesStatus place before _ after = ⊥
 -- the end of the server: a halt was entered, or there was one
 abbrev pub ServesStop : Place → List Entry → Reply → List Entry → Type 0
 ServesStop place before reply.Done after =
-    HaltsFirst place before after ⊎ (OthersAdd place.pass before after × IsHalting after)
+    HaltsFirst place before after ⊎ (Meanwhile place before after × IsHalting after)
 ServesStop place before reply.NoMemory after =
-    OthersAdd place.pass before after × (IsHalting after → ⊥) × IsRoomUsed place after
+    Meanwhile place before after × (IsHalting after → ⊥) × IsRoomUsed place after
 ServesStop place before _ after = ⊥
 
 -- what is asked for is answered by that reply and those moves
@@ -149,7 +150,8 @@ LooksFor _ old new = Raises old.looks new.looks
 
 -- THE SERVED STEP: a request is answered so, the version that is held then is the one from before or was published since, and
 -- the looks rise
-pub record ServesRequest (place : Place) (asked : Request) (old : Standing) (told : Reply) (moves : List Move) (new : Standing) : Type 0 where
+pub record ServesRequest (place : Place) (asked : Request) (old : Standing) (told : Reply) (moves : List Move)
+    (new : Standing) : Type 0 where
   pub served : Serves place asked old told moves new
   pub holds : HoldsSince old new
   pub looks : LooksFor asked old new

@@ -25,7 +25,8 @@ pub record IsPlaceAt (board : Boarded) (number : ℕ) (place : Place) : Type 0 w
   pub order : place.order ≡ board.order
   pub room : place.room ≡ board.room
 
-module _ {D : Type 0} (talks : D → Option (List EndedTalk)) (closed : D → Bool) (faults : D → ℕ) (port : D → Option ℕ) where
+module _ {D : Type 0} (talks : D → Option (List EndedTalk)) (closed : D → Bool) (faults : D → ℕ)
+    (port : D → Option ℕ) where
   -- The pass with that number served the door from its first look on, up to what it saw last; the history goes on from there
   -- with no entry of its own.
   pub record IsServed (board : Boarded) (number : ℕ) (before after : D) (history : List Entry) : Type 0 where
@@ -61,7 +62,8 @@ module _ {D : Type 0} (closed : D → Bool) (faults : D → ℕ) where
 
 -- THE BUILDER, the pass with that number, built at each ring up to what it saw last; the history goes on from there with no
 -- entry of its own.
-pub record IsBuiltBy (board : Boarded) (number : ℕ) (totals : BuildTotals) (rung_before rung_after : ℕ) (history : List Entry) : Type 0 where
+pub record IsBuiltBy (board : Boarded) (number : ℕ) (totals : BuildTotals) (rung_before rung_after : ℕ)
+    (history : List Entry) : Type 0 where
   pub place : Place
   pub place_is : IsPlaceAt board number place
   pub last : Standing
@@ -70,9 +72,11 @@ pub record IsBuiltBy (board : Boarded) (number : ℕ) (totals : BuildTotals) (ru
 
 -- ---- before the board is closed
 
-module _ {D : Type 0} (talks : D → Option (List EndedTalk)) (closed : D → Bool) (faults : D → ℕ) (port : D → Option ℕ) where
+module _ {D : Type 0} (talks : D → Option (List EndedTalk)) (closed : D → Bool) (faults : D → ℕ)
+    (port : D → Option ℕ) where
   -- all passes but the last served the doors, and the last built
-  pub record IsParted (doors : List D) (passes : List Pass) (doors_after : List D) (passes_after : List Pass) (builds : BuildTotals) (failed : Bool)
+  pub record IsParted (doors : List D) (passes : List Pass) (doors_after : List D) (passes_after : List Pass)
+      (builds : BuildTotals) (failed : Bool)
       (rung_before rung_after : ℕ) : Type 0 where
     pub first : List Pass
     pub builder : Pass

@@ -1,12 +1,12 @@
 -- How a pass stands at a board.
-use Rattle.std.specs.Prelude.{◌≡◌, ◌⊎◌, ℕ, ◌<◌, ◌≤◌, List, MatchOption, None, Option, Some}
+use Rattle.std.specs.Prelude.{◌≡◌, ◌⊎◌, ℕ, ◌<◌, ◌≤◌, All, List, [], ◌∷◌, ◌++◌, MatchOption, None, Option, Some}
 use Rattle.atomic_table.specs.Seated.{TableId}
 use Rattle.moves.specs.Maps.{Map}
 use Rattle.cell_order.specs.declared.OrderKind.{OrderKind}
 use Rattle.versions.specs.Databases.{Versioned}
 use Rattle.path_core.specs.declared.entry.Entry.{Entry}
 use Rattle.path_core.specs.Histories.{accepted_count, published_prefix, IsVersionAt}
-use Rattle.path_core.specs.Passes.{BeginsWith}
+use Rattle.path_core.specs.Passes.{pass_of, BeginsWith, OthersAdd}
 
 -- which board it is that passes share, and how many passes it has, where the pass knows that
 pub record Shared : Type 0 where
@@ -32,6 +32,27 @@ pub record Standing : Type 0 where
 -- how a pass stands that has seen this, holds that version and has looked so often
 abbrev pub standing : List Entry → Versioned → Option ℕ → Standing
 standing seen version looks = record { seen = seen; held = version.prefix; looks = looks }
+
+-- how a desk stands, by what it tells of its history, its version and its looks
+abbrev pub stands : {K : Type 0} → (K → List Entry) → (K → Versioned) → (K → Option ℕ) → K → Standing
+stands seen version looks desk = standing (seen desk) (version desk) (looks desk)
+
+-- Meanwhile others may have added entries, where passes share the board. On a board of one's own nothing was added.
+pub record Meanwhile (place : Place) (old new : List Entry) : Type 0 where
+  pub others : OthersAdd place.pass old new
+  pub alone : place.shared ≡ None → new ≡ old
+
+-- meanwhile others may have added entries, and then the pass added this one
+pub record Enters (place : Place) (entry : Entry) (old new : List Entry) : Type 0 where
+  pub between : List Entry
+  pub others : Meanwhile place old between
+  pub own : new ≡ between ++ entry ∷ []
+
+-- entries were added, all of them by the pass
+pub record AddsOnlyOwn (pass : ℕ) (old new : List Entry) : Type 0 where
+  pub more : List Entry
+  pub grown : new ≡ old ++ more
+  pub own : All (λ entry. pass_of entry ≡ pass) more
 
 -- told looks are more than before
 abbrev pub Raises : Option ℕ → Option ℕ → Type 0

@@ -67,7 +67,8 @@ pub record IsHeldOf (before now : Option Talk) (text held : List ℕ) : Type 0 w
 
 -- whatever text was held so is held so then
 abbrev pub HoldsStill : Option Talk → Option Talk → List ℕ → List ℕ → Type 0
-HoldsStill old new held now = (before : Option Talk) (text : List ℕ) → IsHeldOf before old text held → IsHeldOf before new text now
+HoldsStill old new held now =
+    (before : Option Talk) (text : List ℕ) → IsHeldOf before old text held → IsHeldOf before new text now
 
 -- whatever text was held so, that text with these bytes behind it is held so then
 abbrev pub HoldsAlso : List ℕ → Option Talk → Option Talk → List ℕ → List ℕ → Type 0
@@ -99,8 +100,8 @@ EndsBehind exchange (Some ended.Spent) = ⊥
 EndsBehind exchange None = GoesOn exchange
 
 -- The frame is answered so. Where it is a path, the moves behind the reply are the walk of the held version.
-pub record AnswersSo (place : Place) (frame : List ℕ) (old : Standing) (version : Versioned) (answered : Answered) (ended : Option Ended)
-    (new : Standing) : Type 0 where
+pub record AnswersSo (place : Place) (frame : List ℕ) (old : Standing) (version : Versioned) (answered : Answered)
+    (ended : Option Ended) (new : Standing) : Type 0 where
   pub moves : List Move
   pub serves : ServesFrame place (record { frame = frame; told = answered.reply; moves = moves }) old new
   pub walk : MatchOption answered.path (moves ≡ []) (λ at. IsWalk version.map version.comps at.start at.goal moves)
@@ -113,7 +114,8 @@ SendsSo exchange before after (Ok ended) =
 SendsSo exchange before after (Err _) = SendsPrefix before after (sent_reply exchange.told exchange.moves)
 
 -- the frame is answered, and the reply sent
-pub record TellsBack (place : Place) (frame : List ℕ) (old : Standing) (before : Option Talk) (result : Result (Option Ended) Failed)
+pub record TellsBack (place : Place) (frame : List ℕ) (old : Standing) (before : Option Talk)
+    (result : Result (Option Ended) Failed)
     (new : Standing) (after : Option Talk) : Type 0 where
   pub exchange : Exchange
   pub frame_is : exchange.frame ≡ frame
@@ -123,7 +125,8 @@ pub record TellsBack (place : Place) (frame : List ℕ) (old : Standing) (before
 -- ---- turns
 
 -- a frame was cut from what was held and what came in
-pub record Exchanges (place : Place) (exchange : Exchange) (old new : Standing) (before mid : Option Talk) (held now : List ℕ) : Type 0 where
+pub record Exchanges (place : Place) (exchange : Exchange) (old new : Standing) (before mid : Option Talk)
+    (held now : List ℕ) : Type 0 where
   pub serves : ServesFrame place exchange old new
   pub fits : length exchange.frame ≤ MAX_REQUEST
   pub more : List ℕ
@@ -136,8 +139,8 @@ LeavesSo ahead now None = (length now ≤ 2) × (IsFalse ahead → now ≡ [])
 LeavesSo ahead now (Some _) = now ≡ []
 
 -- a frame was taken and answered
-pub record StepsOver (place : Place) (ahead : Bool) (old : Standing) (before : Option Talk) (held : List ℕ) (ended : Option Ended)
-    (new : Standing) (after : Option Talk) (now : List ℕ) : Type 0 where
+pub record StepsOver (place : Place) (ahead : Bool) (old : Standing) (before : Option Talk) (held : List ℕ)
+    (ended : Option Ended) (new : Standing) (after : Option Talk) (now : List ℕ) : Type 0 where
   pub exchange : Exchange
   pub mid : Option Talk
   pub exchanges : Exchanges place exchange old new before mid held now
@@ -146,8 +149,8 @@ pub record StepsOver (place : Place) (ahead : Bool) (old : Standing) (before : O
   pub leaves : LeavesSo ahead now ended
 
 -- a frame was taken, and less than the whole reply was sent
-pub record StepsUnsent (place : Place) (old : Standing) (before : Option Talk) (held : List ℕ) (new : Standing) (after : Option Talk)
-    (now : List ℕ) : Type 0 where
+pub record StepsUnsent (place : Place) (old : Standing) (before : Option Talk) (held : List ℕ) (new : Standing)
+    (after : Option Talk) (now : List ℕ) : Type 0 where
   pub exchange : Exchange
   pub mid : Option Talk
   pub exchanges : Exchanges place exchange old new before mid held now
@@ -155,13 +158,14 @@ pub record StepsUnsent (place : Place) (old : Standing) (before : Option Talk) (
   pub begun : length now ≤ 2
 
 -- no frame came
-pub record StepsNot (old : Standing) (before : Option Talk) (held : List ℕ) (new : Standing) (after : Option Talk) (now : List ℕ) : Type 0 where
+pub record StepsNot (old : Standing) (before : Option Talk) (held : List ℕ) (new : Standing) (after : Option Talk)
+    (now : List ℕ) : Type 0 where
   pub same : new ≡ old
   pub more : HoldsMore before after held now
 
 -- a turn, and how the session ends with it, if it does
-abbrev pub Steps : Place → Bool → Standing → Option Talk → List ℕ → Result (Option Ended) SessionFault → Standing → Option Talk → List ℕ
-    → Type 0
+abbrev pub Steps : Place → Bool → Standing → Option Talk → List ℕ → Result (Option Ended) SessionFault → Standing
+    → Option Talk → List ℕ → Type 0
 Steps place ahead old before held (Ok None) new after now = StepsOver place ahead old before held None new after now
 Steps place ahead old before held (Ok (Some ended.Bye)) new after now =
     StepsOver place ahead old before held (Some ended.Bye) new after now

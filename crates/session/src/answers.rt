@@ -5,7 +5,7 @@ ghost use Rattle.build_pool.specs.declared.TheConstants.{MAX_WORKERS};
 ghost use Rattle.query_proto.specs.declared.requests.Request.TheVariants.{Query};
 ghost use Rattle.session.specs.Answering.{Answers, AnswersBy, Freshens};
 ghost use Rattle.session.specs.Served.{ServesChange, ServesStatus, ServesStop, why_of};
-ghost use Rattle.session.specs.Standing.{IsHeldSince, Raises, standing};
+ghost use Rattle.session.specs.Standing.{IsHeldSince, Raises, stands};
 
 use crate::building::answer_build;
 use crate::desk::Desk;
@@ -60,8 +60,8 @@ pub fn answer<K: Desk, R: Threads + Wait + Sync, G: Gate>(
     requires worker { 0 < workers }
     requires workers { workers ≤ MAX_WORKERS }
     ensures place { K.place desk.new ≡ K.place desk.old }
-    ensures answers { Answers (K.place desk.old) request (standing (K.seen desk.old) (K.version desk.old) (K.looks desk.old))
-        (K.version desk.new) result (standing (K.seen desk.new) (K.version desk.new) (K.looks desk.new)) }
+    ensures answers { Answers (K.place desk.old) request (stands K.seen K.version K.looks desk.old)
+        (K.version desk.new) result (stands K.seen K.version K.looks desk.new) }
 {
     match request {
         Request::Query { start, goal } => answer_query(rt, desk, start, goal),
@@ -76,8 +76,9 @@ pub fn answer<K: Desk, R: Threads + Wait + Sync, G: Gate>(
 /// Answers a query from the published version.
 fn answer_query<K: Desk, R: Wait>(rt: &R, desk: &mut K, start: Cell, goal: Cell) -> Answered
     ensures place { K.place desk.new ≡ K.place desk.old }
-    ensures answers { Answers (K.place desk.old) (Query start goal) (standing (K.seen desk.old) (K.version desk.old) (K.looks desk.old))
-        (K.version desk.new) result (standing (K.seen desk.new) (K.version desk.new) (K.looks desk.new)) }
+    ensures answers { Answers (K.place desk.old) (Query start goal)
+        (stands K.seen K.version K.looks desk.old)
+        (K.version desk.new) result (stands K.seen K.version K.looks desk.new) }
 {
     if !holds_published(rt, desk) {
         return Answered::of(Reply::NoMemory);
@@ -142,7 +143,8 @@ fn answer_change<K: Desk, R: Wait>(rt: &R, desk: &mut K, edit: Edit) -> Reply
     ensures place { K.place desk.new ≡ K.place desk.old }
     ensures looks { Raises (K.looks desk.old) (K.looks desk.new) }
     ensures version { K.version desk.new ≡ K.version desk.old }
-    ensures served { ServesChange (K.place desk.old) edit (K.seen desk.old) result (K.seen desk.new) }
+    ensures served { ServesChange (K.place desk.old) edit (K.seen desk.old) result
+        (K.seen desk.new) }
 {
     match desk.submit(rt, edit) {
         Ok(number) => Reply::Accepted { number },
@@ -155,7 +157,8 @@ fn answer_change<K: Desk, R: Wait>(rt: &R, desk: &mut K, edit: Edit) -> Reply
 fn answer_status<K: Desk, R: Wait>(rt: &R, desk: &mut K) -> Reply
     ensures place { K.place desk.new ≡ K.place desk.old }
     ensures looks { Raises (K.looks desk.old) (K.looks desk.new) }
-    ensures holds { IsHeldSince (K.seen desk.old) (K.version desk.old).prefix (K.seen desk.new) (K.version desk.new).prefix }
+    ensures holds { IsHeldSince (K.seen desk.old) (K.version desk.old).prefix (K.seen desk.new)
+        (K.version desk.new).prefix }
     ensures served { ServesStatus (K.place desk.old) (K.seen desk.old) result (K.seen desk.new) }
 {
     let look = desk.look(rt);

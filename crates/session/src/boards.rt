@@ -78,7 +78,8 @@ pub fn serve_board<D: Door, B: Bell, E: Ear, R: Threads + Wait + Sync, G: Gate>(
     requires waiting { E.over ear.old ≡ false }
     ensures base { IfOk result (λ served. foundation_of served.board ≡ foundation_of board) }
     ensures legal { IfOk result (λ served. IsLegal served.board.start served.board.history) }
-    ensures named { IfOk result (λ served. All (λ entry. pass_of entry < length doors.items + 1) served.board.history) }
+    ensures named { IfOk result (λ served. All (λ entry. pass_of entry < length doors.items + 1)
+        served.board.history) }
     ensures served { IfOk result (λ served. AreServed D.talks D.closed D.faults D.port board
         doors.items served.doors.items served.board.history) }
     ensures built { IfOk result (λ served. IsBuiltBy board (length doors.items) served.builds
@@ -131,7 +132,8 @@ fn serve_shared<'a, D: Door, B: Bell, E: Ear, R: Threads + Wait + Sync, G: Gate>
     requires none { room.items ≡ [] }
     requires room { length doors.items ≤ vec_capacity room }
     requires waiting { E.over ear.old ≡ false }
-    ensures parted { IsParted D.talks D.closed D.faults D.port doors.items passes.items result.doors.items result.passes.items
+    ensures parted { IsParted D.talks D.closed D.faults D.port doors.items passes.items
+        result.doors.items result.passes.items
         result.builds result.failed (E.rung ear.old) (E.rung ear.new) }
     ensures over { E.over ear.new ≡ true }
 {

@@ -3,7 +3,7 @@
 ghost use Rattle.std.specs.Prelude.{◌≡◌, ◌<◌, ◌≤◌, false, true};
 ghost use Rattle.build_pool.specs.declared.TheConstants.{MAX_WORKERS};
 ghost use Rattle.session.specs.Builders.{HasBuilt, count_reply, no_totals};
-ghost use Rattle.session.specs.Standing.{standing};
+ghost use Rattle.session.specs.Standing.{stands};
 
 use crate::building::answer_build;
 use crate::desk::Desk;
@@ -79,8 +79,8 @@ pub fn build_loop<K: Desk, E: Ear, R: Threads + Wait + Sync, G: Gate>(
     requires workers { workers ≤ MAX_WORKERS }
     requires waiting { E.over ear.old ≡ false }
     ensures place { K.place desk.new ≡ K.place desk.old }
-    ensures built { HasBuilt (K.place desk.old) (standing (K.seen desk.old) (K.version desk.old) (K.looks desk.old))
-        result (E.rung ear.old) (standing (K.seen desk.new) (K.version desk.new) (K.looks desk.new)) (E.rung ear.new) }
+    ensures built { HasBuilt (K.place desk.old) (stands K.seen K.version K.looks desk.old)
+        result (E.rung ear.old) (stands K.seen K.version K.looks desk.new) (E.rung ear.new) }
     ensures over { E.over ear.new ≡ true }
 {
     let mut totals = BuildTotals::none();

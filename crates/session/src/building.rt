@@ -7,7 +7,7 @@ ghost use Rattle.edit_log.specs.Edits.{EditsInside, map_after};
 ghost use Rattle.build_pool.specs.declared.TheConstants.{MAX_WORKERS};
 ghost use Rattle.session.specs.Building.{IsBuiltAfter, IsTaken, TakesNone};
 ghost use Rattle.session.specs.Served.{ServesBuild};
-ghost use Rattle.session.specs.Standing.{IsHeldSince, Raises, standing};
+ghost use Rattle.session.specs.Standing.{IsHeldSince, Raises, stands};
 
 use crate::desk::Desk;
 use build_pool::Gate;
@@ -32,9 +32,10 @@ pub(crate) fn answer_build<K: Desk, R: Threads + Wait + Sync, G: Gate>(
     requires workers { workers ≤ MAX_WORKERS }
     ensures place { K.place desk.new ≡ K.place desk.old }
     ensures looks { Raises (K.looks desk.old) (K.looks desk.new) }
-    ensures holds { IsHeldSince (K.seen desk.old) (K.version desk.old).prefix (K.seen desk.new) (K.version desk.new).prefix }
+    ensures holds { IsHeldSince (K.seen desk.old) (K.version desk.old).prefix (K.seen desk.new)
+        (K.version desk.new).prefix }
     ensures served { ServesBuild (K.place desk.old) (K.seen desk.old) result
-        (standing (K.seen desk.new) (K.version desk.new) (K.looks desk.new)) }
+        (stands K.seen K.version K.looks desk.new) }
 {
     let Ok(job) = take_job(rt, desk) else {
         return Reply::NoMemory;
@@ -65,9 +66,12 @@ pub(crate) fn answer_build<K: Desk, R: Threads + Wait + Sync, G: Gate>(
 fn take_job<K: Desk, R: Wait>(rt: &R, desk: &mut K) -> Result<Job, AllocError>
     ensures place { K.place desk.new ≡ K.place desk.old }
     ensures looks { Raises (K.looks desk.old) (K.looks desk.new) }
-    ensures holds { IsHeldSince (K.seen desk.old) (K.version desk.old).prefix (K.seen desk.new) (K.version desk.new).prefix }
-    ensures taken { IfOk result (IsTaken (K.place desk.old) (K.seen desk.old) (K.seen desk.new) (K.version desk.new)) }
-    ensures none { OnErr result (TakesNone (K.place desk.old) (K.seen desk.old) (K.seen desk.new) (K.version desk.new)) }
+    ensures holds { IsHeldSince (K.seen desk.old) (K.version desk.old).prefix (K.seen desk.new)
+        (K.version desk.new).prefix }
+    ensures taken { IfOk result (IsTaken (K.place desk.old) (K.seen desk.old) (K.seen desk.new)
+        (K.version desk.new)) }
+    ensures none { OnErr result (TakesNone (K.place desk.old) (K.seen desk.old) (K.seen desk.new)
+        (K.version desk.new)) }
 {
     let look = desk.look(rt);
     let known = desk.held().prefix();

@@ -143,11 +143,13 @@ fn serve_crew<D: Door, B: Bell, R: Threads + Wait + Sync, G: Gate>(
 )
     requires worker { 0 < workers }
     requires workers { workers ≤ MAX_WORKERS }
-    requires open { (i : ℕ) (d : _) → i < length crew.old → D.closed (slice_index_or crew.old i d).door ≡ false }
+    requires open { (i : ℕ) (d : _) → i < length crew.old →
+        D.closed (slice_index_or crew.old i d).door ≡ false }
     ensures long { length crew.new ≡ length crew.old }
     ensures each { (i : ℕ) (d : _) → i < length crew.old → HasRun D.talks D.closed D.faults D.port
         (slice_index_or crew.old i d).seat.pass (slice_index_or crew.old i d).door
-        (slice_index_or crew.new i d).seat.pass (slice_index_or crew.new i d).door (slice_index_or crew.new i d).ended }
+        (slice_index_or crew.new i d).seat.pass (slice_index_or crew.new i d).door
+        (slice_index_or crew.new i d).ended }
 {
     let threads = crew.len().max(1);
     for_each_mut(
@@ -155,7 +157,8 @@ fn serve_crew<D: Door, B: Bell, R: Threads + Wait + Sync, G: Gate>(
         crew,
         threads,
         &|_: usize, worker: &mut Worker<'_, D, B>|
-            requires { (0 < workers) × (workers ≤ MAX_WORKERS) × (D.closed worker.now.door ≡ false) }
+            requires { (0 < workers) × (workers ≤ MAX_WORKERS)
+                × (D.closed worker.now.door ≡ false) }
         { work(rt, alloc, workers, gate, worker) },
     );
     bell.shut(rt);
@@ -172,7 +175,8 @@ fn serve_list<'a, D: Door, B: Bell, R: Threads + Wait + Sync, G: Gate>(
 ) -> Vec<Worker<'a, D, B>>
     requires worker { 0 < workers }
     requires workers { workers ≤ MAX_WORKERS }
-    requires open { (i : ℕ) (d : _) → i < length crew.items → D.closed (slice_index_or crew.items i d).door ≡ false }
+    requires open { (i : ℕ) (d : _) → i < length crew.items →
+        D.closed (slice_index_or crew.items i d).door ≡ false }
     ensures ran { HaveAllRun D.talks D.closed D.faults D.port crew.entry.items result.items }
 {
     let mut crew = crew;
@@ -222,7 +226,8 @@ pub(crate) fn serve_beside<'a, D: Door, B: Bell, E: Ear, R: Threads + Wait + Syn
     requires worker { 0 < workers }
     requires workers { workers ≤ MAX_WORKERS }
     requires waiting { E.over ear.old ≡ false }
-    requires open { (i : ℕ) (d : _) → i < length crew.items → D.closed (slice_index_or crew.items i d).door ≡ false }
+    requires open { (i : ℕ) (d : _) → i < length crew.items →
+        D.closed (slice_index_or crew.items i d).door ≡ false }
     ensures over { E.over ear.new ≡ true }
     ensures same { place_of result.0.pass ≡ place_of builder.entry.pass }
     ensures built { HasBuilt (place_of builder.entry.pass) (standing_of builder.entry.pass) result.2
@@ -236,7 +241,9 @@ pub(crate) fn serve_beside<'a, D: Door, B: Bell, E: Ear, R: Threads + Wait + Syn
             requires { (0 < workers) × (workers ≤ MAX_WORKERS) × (E.over ear.now ≡ false) }
         { build(rt, alloc, workers, gate, builder, ear) },
         ||
-            requires { (0 < workers) × (workers ≤ MAX_WORKERS) × ((i : ℕ) (d : _) → i < length crew.items → D.closed (slice_index_or crew.items i d).door ≡ false) }
+            requires { (0 < workers) × (workers ≤ MAX_WORKERS)
+                × ((i : ℕ) (d : _) → i < length crew.items →
+                D.closed (slice_index_or crew.items i d).door ≡ false) }
         { serve_list(rt, alloc, workers, gate, bell, crew) },
     );
     take_back(ear);

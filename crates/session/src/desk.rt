@@ -6,8 +6,7 @@ ghost use Rattle.versions.specs.Databases.{Versioned};
 ghost use Rattle.path_core.specs.declared.entry.Entry.{Entry};
 ghost use Rattle.path_core.specs.Boards.{MayBePublished};
 ghost use Rattle.path_core.specs.Histories.{accepted_count, published_prefix};
-ghost use Rattle.path_core.specs.Passes.{OthersAdd};
-ghost use Rattle.session.specs.Standing.{IsSound, Place, Raises};
+ghost use Rattle.session.specs.Standing.{IsSound, Meanwhile, Place, Raises};
 ghost use Rattle.session.specs.Desks.{IsEntered, IsHalted, IsJobAt, IsNotEntered, IsNotHalted, IsNotPublished, IsPublished, Looks};
 
 use edit_log::Edit;
@@ -35,15 +34,17 @@ pub trait Desk {
     fn look<R: Wait>(&mut self, rt: &R) -> Look
         ensures place { place self.new ≡ place self.old }
         ensures looks { Raises (looks self.old) (looks self.new) }
-        ensures look { Looks (place self.old) (seen self.old) (seen self.new) (version self.old) (version self.new) result };
+        ensures look { Looks (place self.old) (seen self.old) (seen self.new) (version self.old)
+            (version self.new) result };
 
     /// Whether the held version is the published one, as far as is known at no cost.
     fn recent<R: Wait>(&mut self, rt: &R) -> bool
         ensures place { place self.new ≡ place self.old }
         ensures looks { Raises (looks self.old) (looks self.new) }
-        ensures others { OthersAdd (place self.old).pass (seen self.old) (seen self.new) }
+        ensures others { Meanwhile (place self.old) (seen self.old) (seen self.new) }
         ensures version { version self.new ≡ version self.old }
-        ensures recent { IsTrue result → (version self.new).prefix ≡ published_prefix (seen self.new) };
+        ensures recent { IsTrue result →
+            (version self.new).prefix ≡ published_prefix (seen self.new) };
 
     /// Enters an edit, and gives how many edits are accepted then.
     ///
@@ -54,8 +55,10 @@ pub trait Desk {
         ensures place { place self.new ≡ place self.old }
         ensures looks { Raises (looks self.old) (looks self.new) }
         ensures version { version self.new ≡ version self.old }
-        ensures entered { IfOk result (IsEntered (place self.old) edit (seen self.old) (seen self.new)) }
-        ensures refused { IfErr result (IsNotEntered (place self.old) edit (seen self.old) (seen self.new)) };
+        ensures entered { IfOk result (IsEntered (place self.old) edit (seen self.old)
+            (seen self.new)) }
+        ensures refused { IfErr result (IsNotEntered (place self.old) edit (seen self.old)
+            (seen self.new)) };
 
     /// The accepted edits past the known ones.
     ///
@@ -66,7 +69,7 @@ pub trait Desk {
         requires { known ≤ accepted_count (seen self.old) }
         ensures place { place self.new ≡ place self.old }
         ensures looks { Raises (looks self.old) (looks self.new) }
-        ensures others { OthersAdd (place self.old).pass (seen self.old) (seen self.new) }
+        ensures others { Meanwhile (place self.old) (seen self.old) (seen self.new) }
         ensures version { version self.new ≡ version self.old }
         ensures job { IfOk result (IsJobAt (place self.old) (seen self.new) known) }
         ensures some { OnErr result (known ≢ accepted_count (seen self.new)) };
@@ -77,13 +80,17 @@ pub trait Desk {
     ///
     /// `Overtaken` where the published version comes after as many edits or more, and else want of memory.
     fn publish<R: Wait>(&mut self, rt: &R, next: Arc<Version>) -> Result<u32, PublishError>
-        requires may { MayBePublished (place self.old).start (place self.old).order (seen self.old) (arc_value next) }
+        requires may { MayBePublished (place self.old).start (place self.old).order (seen self.old)
+            (arc_value next) }
         ensures place { place self.new ≡ place self.old }
         ensures looks { Raises (looks self.old) (looks self.new) }
         ensures prefix { IfOk result (λ prefix. prefix ≡ (arc_value next).prefix) }
-        ensures published { IfOk result (λ prefix. IsPublished (place self.old) prefix (seen self.old) (seen self.new)) }
-        ensures held { OnOk result ((version self.new ≡ version self.old) ⊎ (version self.new ≡ arc_value next)) }
-        ensures refused { IfErr result (IsNotPublished (place self.old) (arc_value next).prefix (seen self.old) (seen self.new)) }
+        ensures published { IfOk result (λ prefix. IsPublished (place self.old) prefix
+            (seen self.old) (seen self.new)) }
+        ensures held { OnOk result ((version self.new ≡ version self.old)
+            ⊎ (version self.new ≡ arc_value next)) }
+        ensures refused { IfErr result (IsNotPublished (place self.old) (arc_value next).prefix
+            (seen self.old) (seen self.new)) }
         ensures kept { OnErr result (version self.new ≡ version self.old) };
 
     /// Enters a halt, and gives whether it did: a board that halts already stays as it is.
@@ -96,7 +103,8 @@ pub trait Desk {
         ensures looks { Raises (looks self.old) (looks self.new) }
         ensures version { version self.new ≡ version self.old }
         ensures halted { IfOk result (IsHalted (place self.old) (seen self.old) (seen self.new)) }
-        ensures refused { OnErr result (IsNotHalted (place self.old) (seen self.old) (seen self.new)) };
+        ensures refused { OnErr result (IsNotHalted (place self.old) (seen self.old)
+            (seen self.new)) };
 
     /// The version that is held.
     fn held(&self) -> &Version

@@ -8,7 +8,7 @@ ghost use Rattle.wire.specs.Talks.{IsFresh};
 ghost use Rattle.session.specs.declared.doors.DoorEnded.TheVariants.{Halting};
 ghost use Rattle.session.specs.Conversations.{Rests};
 ghost use Rattle.session.specs.Doors.{DoorEndsSo, GoesOnOrEnds, HasServed, SameWhereTold};
-ghost use Rattle.session.specs.Standing.{standing};
+ghost use Rattle.session.specs.Standing.{stands};
 
 use crate::desk::Desk;
 use crate::sessions::serve_link;
@@ -43,9 +43,10 @@ pub fn door_loop<K: Desk, D: Door, R: Threads + Wait + Sync, G: Gate>(
     requires workers { workers ≤ MAX_WORKERS }
     requires open { D.closed door.old ≡ false }
     ensures place { K.place desk.new ≡ K.place desk.old }
-    ensures served { HasServed (K.place desk.old) (standing (K.seen desk.old) (K.version desk.old) (K.looks desk.old))
-        (D.talks door.old) (standing (K.seen desk.new) (K.version desk.new) (K.looks desk.new)) (D.talks door.new) }
-    ensures ended { DoorEndsSo result (K.seen desk.new) (D.closed door.new) (D.faults door.old) (D.faults door.new) }
+    ensures served { HasServed (K.place desk.old) (stands K.seen K.version K.looks desk.old)
+        (D.talks door.old) (stands K.seen K.version K.looks desk.new) (D.talks door.new) }
+    ensures ended { DoorEndsSo result (K.seen desk.new) (D.closed door.new) (D.faults door.old)
+        (D.faults door.new) }
     ensures lent { SameWhereTold (D.talks door.old) (D.lent door.old) (D.lent door.new) }
     ensures port { D.port door.new ≡ D.port door.old }
 {
@@ -71,9 +72,10 @@ fn serve_knock<K: Desk, D: Door, R: Threads + Wait + Sync, G: Gate>(
     requires workers { workers ≤ MAX_WORKERS }
     requires open { D.closed door.old ≡ false }
     ensures place { K.place desk.new ≡ K.place desk.old }
-    ensures served { HasServed (K.place desk.old) (standing (K.seen desk.old) (K.version desk.old) (K.looks desk.old))
-        (D.talks door.old) (standing (K.seen desk.new) (K.version desk.new) (K.looks desk.new)) (D.talks door.new) }
-    ensures ended { GoesOnOrEnds result (K.seen desk.new) (D.closed door.new) (D.faults door.old) (D.faults door.new) }
+    ensures served { HasServed (K.place desk.old) (stands K.seen K.version K.looks desk.old)
+        (D.talks door.old) (stands K.seen K.version K.looks desk.new) (D.talks door.new) }
+    ensures ended { GoesOnOrEnds result (K.seen desk.new) (D.closed door.new) (D.faults door.old)
+        (D.faults door.new) }
     ensures lent { SameWhereTold (D.talks door.old) (D.lent door.old) (D.lent door.new) }
     ensures port { D.port door.new ≡ D.port door.old }
 {
@@ -106,8 +108,8 @@ fn serve_conn<K: Desk, D: Door, R: Threads + Wait + Sync, G: Gate>(
     requires no_write_fault { D.Conn.write_faults conn ≡ 0 }
     requires lent { HasLent (D.talks door.old) (D.lent door.old) }
     ensures place { K.place desk.new ≡ K.place desk.old }
-    ensures served { HasServed (K.place desk.old) (standing (K.seen desk.old) (K.version desk.old) (K.looks desk.old))
-        (D.talks door.old) (standing (K.seen desk.new) (K.version desk.new) (K.looks desk.new)) (D.talks door.new) }
+    ensures served { HasServed (K.place desk.old) (stands K.seen K.version K.looks desk.old)
+        (D.talks door.old) (stands K.seen K.version K.looks desk.new) (D.talks door.new) }
     ensures back { IfSome (D.talks door.old) (λ _. D.lent door.new ≡ D.lent door.old - 1) }
     ensures closed { D.closed door.new ≡ D.closed door.old }
     ensures faults { D.faults door.new ≡ D.faults door.old }
@@ -121,8 +123,8 @@ fn serve_conn<K: Desk, D: Door, R: Threads + Wait + Sync, G: Gate>(
 /// Looks at the board, and ends the loop where it halts.
 fn pause<K: Desk, R: Wait>(rt: &R, desk: &mut K) -> Option<DoorEnded>
     ensures place { K.place desk.new ≡ K.place desk.old }
-    ensures rests { Rests (K.place desk.old) (standing (K.seen desk.old) (K.version desk.old) (K.looks desk.old))
-        (standing (K.seen desk.new) (K.version desk.new) (K.looks desk.new)) }
+    ensures rests { Rests (K.place desk.old) (stands K.seen K.version K.looks desk.old)
+        (stands K.seen K.version K.looks desk.new) }
     ensures halts { IfSome result (λ ended. (ended ≡ Halting) × IsHalting (K.seen desk.new)) }
 {
     if desk.look(rt).halting {

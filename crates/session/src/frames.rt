@@ -148,7 +148,8 @@ impl Held {
     /// `Torn` where one byte of a length is held.
     fn without_length(&self) -> Result<Option<usize>, SessionFault>
         requires { length self.now < 2 }
-        ensures next { (ahead : Bool) (told : Option Talk) → HasNone told → IsNext ahead self.now told result }
+        ensures next { (ahead : Bool) (told : Option Talk) → HasNone told →
+            IsNext ahead self.now told result }
         ensures cause { (a b c d : ℕ) → IfErr result (HasCause a b c d) }
     {
         if self.have == 0 {

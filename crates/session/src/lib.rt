@@ -12,6 +12,7 @@ mod crews;
 pub mod desk;
 pub mod doors;
 mod frames;
+pub mod laws;
 pub mod lone;
 pub mod seated;
 mod sending;

@@ -35,7 +35,8 @@ pub(crate) fn send_reply<L: Link>(
     requires { (moves : List Move) × AreMovesBehind version.now answered.now moves }
     ensures sent { OnOk result ((moves : List Move) → AreMovesBehind version.now answered.now moves
         → L.talk link.new ≡ with_sent (L.talk link.old) (sent_reply answered.now.reply moves)) }
-    ensures prefix { OnErr result ((moves : List Move) → AreMovesBehind version.now answered.now moves
+    ensures prefix { OnErr result ((moves : List Move) →
+        AreMovesBehind version.now answered.now moves
         → SendsPrefix (L.talk link.old) (L.talk link.new) (sent_reply answered.now.reply moves)) }
     ensures cause { OnErr result (Rose (L.write_faults link.old) (L.write_faults link.new)) }
     ensures writes { L.write_faults link.old ≤ L.write_faults link.new }
@@ -61,10 +62,13 @@ fn send_path<L: Link>(
     at: PathAt,
 ) -> Result<(), Failed>
     requires head { length head.now ≤ HEAD_ROOM }
-    requires walk { (moves : List Move) × IsWalk version.now.map version.now.comps at.start at.goal moves }
-    ensures sent { OnOk result ((moves : List Move) → IsWalk version.now.map version.now.comps at.start at.goal moves
+    requires walk { (moves : List Move) × IsWalk version.now.map version.now.comps at.start at.goal
+        moves }
+    ensures sent { OnOk result ((moves : List Move) →
+        IsWalk version.now.map version.now.comps at.start at.goal moves
         → L.talk link.new ≡ with_sent (L.talk link.old) (head.now ++ map number_of moves)) }
-    ensures prefix { OnErr result ((moves : List Move) → IsWalk version.now.map version.now.comps at.start at.goal moves
+    ensures prefix { OnErr result ((moves : List Move) →
+        IsWalk version.now.map version.now.comps at.start at.goal moves
         → SendsPrefix (L.talk link.old) (L.talk link.new) (head.now ++ map number_of moves)) }
     ensures cause { OnErr result (Rose (L.write_faults link.old) (L.write_faults link.new)) }
     ensures writes { L.write_faults link.old ≤ L.write_faults link.new }
@@ -137,7 +141,8 @@ impl Piece {
     ///
     /// `Failed` where the link failed.
     fn put<L: Link>(&mut self, link: &mut L, byte: u8) -> Result<(), Failed>
-        ensures more { OnOk result (HoldsAlso (byte ∷ []) (L.talk link.old) (L.talk link.new) self.old self.new) }
+        ensures more { OnOk result (HoldsAlso (byte ∷ []) (L.talk link.old) (L.talk link.new)
+            self.old self.new) }
         ensures prefix { OnErr result (SendsPrefix (L.talk link.old) (L.talk link.new) self.old) }
         ensures cause { OnErr result (Rose (L.write_faults link.old) (L.write_faults link.new)) }
         ensures writes { L.write_faults link.old ≤ L.write_faults link.new }
@@ -155,7 +160,8 @@ impl Piece {
     ///
     /// `Failed` where the link failed.
     fn make_room<L: Link>(&mut self, link: &mut L) -> Result<(), Failed>
-        ensures more { OnOk result (HoldsStill (L.talk link.old) (L.talk link.new) self.old self.new) }
+        ensures more { OnOk result (HoldsStill (L.talk link.old) (L.talk link.new) self.old
+            self.new) }
         ensures room { OnOk result (length self.new < PIECE) }
         ensures prefix { OnErr result (SendsPrefix (L.talk link.old) (L.talk link.new) self.old) }
         ensures cause { OnErr result (Rose (L.write_faults link.old) (L.write_faults link.new)) }

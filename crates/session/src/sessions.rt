@@ -5,7 +5,7 @@ ghost use Rattle.build_pool.specs.declared.TheConstants.{MAX_WORKERS};
 ghost use Rattle.query_proto.specs.declared.TheConstants.{MAX_REQUEST};
 ghost use Rattle.wire.specs.Causes.{Rose};
 ghost use Rattle.session.specs.Conversations.{Conversed, HasCause};
-ghost use Rattle.session.specs.Standing.{standing};
+ghost use Rattle.session.specs.Standing.{stands};
 ghost use Rattle.session.specs.Turns.{AnswersSo, EndsBy, Steps, TellsBack};
 
 use crate::answers::{Answered, answer};
@@ -73,8 +73,8 @@ pub fn serve_link<K: Desk, L: Link, R: Threads + Wait + Sync, G: Gate>(
     requires worker { 0 < workers }
     requires workers { workers ≤ MAX_WORKERS }
     ensures place { K.place desk.new ≡ K.place desk.old }
-    ensures talk { Conversed (K.place desk.old) (standing (K.seen desk.old) (K.version desk.old) (K.looks desk.old))
-        (L.talk link.old) result (standing (K.seen desk.new) (K.version desk.new) (K.looks desk.new)) (L.talk link.new) }
+    ensures talk { Conversed (K.place desk.old) (stands K.seen K.version K.looks desk.old)
+        (L.talk link.old) result (stands K.seen K.version K.looks desk.new) (L.talk link.new) }
     ensures cause { IfErr result (HasCause (L.read_faults link.old) (L.read_faults link.new)
         (L.write_faults link.old) (L.write_faults link.new)) }
     ensures reads { L.read_faults link.old ≤ L.read_faults link.new }
@@ -98,8 +98,8 @@ fn serve_frames<K: Desk, L: Link, R: Threads + Wait + Sync, G: Gate>(
     requires workers { workers ≤ MAX_WORKERS }
     requires none { held.old ≡ [] }
     ensures place { K.place desk.new ≡ K.place desk.old }
-    ensures talk { Conversed (K.place desk.old) (standing (K.seen desk.old) (K.version desk.old) (K.looks desk.old))
-        (L.talk link.old) result (standing (K.seen desk.new) (K.version desk.new) (K.looks desk.new)) (L.talk link.new) }
+    ensures talk { Conversed (K.place desk.old) (stands K.seen K.version K.looks desk.old)
+        (L.talk link.old) result (stands K.seen K.version K.looks desk.new) (L.talk link.new) }
     ensures cause { IfErr result (HasCause (L.read_faults link.old) (L.read_faults link.new)
         (L.write_faults link.old) (L.write_faults link.new)) }
     ensures reads { L.read_faults link.old ≤ L.read_faults link.new }
@@ -131,9 +131,9 @@ fn serve_next<K: Desk, L: Link, R: Threads + Wait + Sync, G: Gate>(
     requires workers { workers ≤ MAX_WORKERS }
     requires begun { length held.old ≤ 2 }
     ensures place { K.place desk.new ≡ K.place desk.old }
-    ensures steps { Steps (K.place desk.old) ahead (standing (K.seen desk.old) (K.version desk.old) (K.looks desk.old))
+    ensures steps { Steps (K.place desk.old) ahead (stands K.seen K.version K.looks desk.old)
         (L.talk link.old) held.old result
-        (standing (K.seen desk.new) (K.version desk.new) (K.looks desk.new)) (L.talk link.new) held.new }
+        (stands K.seen K.version K.looks desk.new) (L.talk link.new) held.new }
     ensures cause { IfErr result (HasCause (L.read_faults link.old) (L.read_faults link.new)
         (L.write_faults link.old) (L.write_faults link.new)) }
     ensures reads { L.read_faults link.old ≤ L.read_faults link.new }
@@ -169,8 +169,8 @@ fn serve_frame<K: Desk, L: Link, R: Threads + Wait + Sync, G: Gate>(
     requires fits { length frame.now ≤ MAX_REQUEST }
     ensures place { K.place desk.new ≡ K.place desk.old }
     ensures tells { TellsBack (K.place desk.old) frame.now
-        (standing (K.seen desk.old) (K.version desk.old) (K.looks desk.old)) (L.talk link.old) result
-        (standing (K.seen desk.new) (K.version desk.new) (K.looks desk.new)) (L.talk link.new) }
+        (stands K.seen K.version K.looks desk.old) (L.talk link.old) result
+        (stands K.seen K.version K.looks desk.new) (L.talk link.new) }
     ensures cause { OnErr result (Rose (L.write_faults link.old) (L.write_faults link.new)) }
     ensures writes { L.write_faults link.old ≤ L.write_faults link.new }
     ensures reads { L.read_faults link.new ≡ L.read_faults link.old }
@@ -196,8 +196,8 @@ fn answer_frame<K: Desk, R: Threads + Wait + Sync, G: Gate>(
     requires fits { length frame.now ≤ MAX_REQUEST }
     ensures place { K.place desk.new ≡ K.place desk.old }
     ensures answers { AnswersSo (K.place desk.old) frame.now
-        (standing (K.seen desk.old) (K.version desk.old) (K.looks desk.old)) (K.version desk.new) result.0 result.1
-        (standing (K.seen desk.new) (K.version desk.new) (K.looks desk.new)) }
+        (stands K.seen K.version K.looks desk.old) (K.version desk.new) result.0 result.1
+        (stands K.seen K.version K.looks desk.new) }
 {
     match decode_request(frame) {
         Ok(request) => {

@@ -5,14 +5,14 @@ use Rattle.edit_log.specs.Edits.{EditsInside, map_after}
 use Rattle.versions.specs.Databases.{Versioned}
 use Rattle.path_core.specs.Boards.{MayBePublished}
 use Rattle.path_core.specs.Histories.{accepted_count}
-use Rattle.path_core.specs.Passes.{OthersAdd}
-use Rattle.path_core.proofs.Passing.{begins_then, others_begin, others_none}
+use Rattle.path_core.proofs.Passing.{begins_then}
 use Rattle.session.specs.Building.{IsBuiltAfter}
 use Rattle.session.specs.Desks.{IsPublished, IsNotPublished}
 use Rattle.session.specs.Served.{BuildsVersion}
-use Rattle.session.specs.Standing.{IsSound}
+use Rattle.session.specs.Standing.{IsSound, Meanwhile}
 use Rattle.session.proofs.Builds.{builds_version, may_publish, no_memory, nothing_new, published_begins, published_held, taken_begins, taken_inside, taken_searchable}
 use Rattle.session.proofs.Holding.{holds_either, holds_later}
+use Rattle.session.proofs.Meanwhile.{meanwhile_begin, meanwhile_none}
 use Rattle.session.proofs.building.answer_build.Goals as goal
 
 pub returns-then-job-prefix-clause-served : goal.returns-then-job-prefix-clause-served
@@ -61,7 +61,7 @@ returns-in_default-build_after-clause-served g c =
     let taken = c.in-Ok.ensures.taken in
     let same = c.prefix.ensures ∙ ap (λ (v : Versioned). v.prefix) c.held-held.ensures.version in
     let other = λ (e : c.in-Ok.job.prefix ≡ held.prefix). c.if-job-prefix.false (e ∙ sym same) in
-    no_memory place before seen seen held c.in-Ok.job sound taken other (others_none place.pass seen)
+    no_memory place before seen seen held c.in-Ok.job sound taken other (meanwhile_none place seen)
 
 pub publish-requires : goal.publish-requires
 publish-requires g c =
@@ -129,8 +129,8 @@ returns-clause-holds g c =
     let new = g.K.Desk.version c.publish.new.self in
     let next = arc_value c.in-Ok-build_after.next in
     let refused = subst (IsNotPublished (g.K.Desk.place c.take_job.new.desk) next.prefix seen after) c.in-Err-NoMemory.field-0-is c.in-Err-NoMemory.ensures.refused in
-    let others = subst (λ p. OthersAdd p.pass seen after) c.take_job.ensures.place refused in
-    holds_later before seen after (g.K.Desk.version c.args.desk.now) held new c.take_job.ensures.holds c.in-Err-NoMemory.ensures.kept (others_begin place.pass seen after others)
+    let others = subst (λ p. Meanwhile p seen after) c.take_job.ensures.place refused in
+    holds_later before seen after (g.K.Desk.version c.args.desk.now) held new c.take_job.ensures.holds c.in-Err-NoMemory.ensures.kept (meanwhile_begin place seen after others)
 
 pub returns-clause-served : goal.returns-clause-served
 returns-clause-served g c =
@@ -146,6 +146,6 @@ returns-clause-served g c =
     let new = g.K.Desk.version c.publish.new.self in
     let next = arc_value c.in-Ok-build_after.next in
     let refused = subst (IsNotPublished (g.K.Desk.place c.take_job.new.desk) next.prefix seen after) c.in-Err-NoMemory.field-0-is c.in-Err-NoMemory.ensures.refused in
-    let others = subst (λ p. OthersAdd p.pass seen after) c.take_job.ensures.place refused in
+    let others = subst (λ p. Meanwhile p seen after) c.take_job.ensures.place refused in
     let none = no_memory place before seen after held c.in-Ok.job sound taken other others in
     (none.0, subst (λ (v : Versioned). v.prefix < accepted_count after) (sym c.in-Err-NoMemory.ensures.kept) none.1)
