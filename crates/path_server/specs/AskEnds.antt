@@ -66,20 +66,23 @@ IsAskRight D C words house status.WriteFault text = ⊥
 IsAskRight D C words house status text = IsAskCause D C words house status × (text ≡ status_text status)
 
 -- the output grew by the whole text that is right with this status
-pub record PutsHeard (D C : Type 0) (words : List Text) (house : RunHouse D C) (ended : Status) (old new : Option (List ℕ)) : Type 0 where
+pub record PutsHeard (D C : Type 0) (words : List Text) (house : RunHouse D C) (ended : Status)
+    (old new : Option (List ℕ)) : Type 0 where
   pub text : List ℕ
   pub right : IsAskRight D C words house ended text
   pub put : Appends old new text
 
 -- the output grew by a first part, less than the whole, of a text that is right with some status
-pub record BreaksOffHeard (D C : Type 0) (words : List Text) (house : RunHouse D C) (old new : Option (List ℕ)) : Type 0 where
+pub record BreaksOffHeard (D C : Type 0) (words : List Text) (house : RunHouse D C)
+    (old new : Option (List ℕ)) : Type 0 where
   pub ended : Status
   pub text : List ℕ
   pub right : IsAskRight D C words house ended text
   pub put : PutsPrefix old new text
 
 -- the link took less than the whole request, and nothing was put
-pub record SendsShort (D C : Type 0) (words : List Text) (house : RunHouse D C) (old new : Option (List ℕ)) : Type 0 where
+pub record SendsShort (D C : Type 0) (words : List Text) (house : RunHouse D C)
+    (old new : Option (List ℕ)) : Type 0 where
   pub unanswered : IsUnanswered D C words house status.WriteFault
   pub silent : new ≡ old
 

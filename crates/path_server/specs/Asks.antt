@@ -45,7 +45,8 @@ HasGivenNone told = IfSome told (λ lent. lent ≡ no_lendings)
 
 -- The house was called at the port. Over the link that it gave the request was asked, with this result, and
 -- then that link was handed back, and no other.
-pub record CallsOnce (D C : Type 0) (house : RunHouse D C) (port : ℕ) (request : Request) (result : Result Heard ClientFault) : Type 0 where
+pub record CallsOnce (D C : Type 0) (house : RunHouse D C) (port : ℕ) (request : Request)
+    (result : Result Heard ClientFault) : Type 0 where
   pub called : house.called ≡ Some port
   pub begun : Option Talk
   pub fresh : IsFresh begun

@@ -133,7 +133,8 @@ pub record IsUnrung (ear : RunEar) : Type 0 where
 
 -- the board was served at these doors, and was such in the end; its last pass built at each ring until the
 -- bell was shut
-pub record IsServedAt (D C : Type 0) (house : RunDoors D C) (ear : RunEar) (board : Boarded) (doors doors_after : List D) (last : Boarded)
+pub record IsServedAt (D C : Type 0) (house : RunDoors D C) (ear : RunEar) (board : Boarded)
+    (doors doors_after : List D) (last : Boarded)
     (builds : BuildTotals) (failed : Bool) : Type 0 where
   pub same_start : last.start ≡ board.start
   pub same_order : last.order ≡ board.order
@@ -146,7 +147,8 @@ pub record IsServedAt (D C : Type 0) (house : RunDoors D C) (ear : RunEar) (boar
   pub over : ear.over ≡ true
 
 -- it was served; the doors were handed back as their loops left them, and its last lines were put
-pub record ServesBoard (D C : Type 0) (house : RunDoors D C) (ear : RunEar) (board : Boarded) (doors : List D) (before after : Option (List ℕ))
+pub record ServesBoard (D C : Type 0) (house : RunDoors D C) (ear : RunEar) (board : Boarded) (doors : List D)
+    (before after : Option (List ℕ))
     (ended : Status) : Type 0 where
   pub doors_after : List D
   pub last : Boarded
@@ -157,31 +159,36 @@ pub record ServesBoard (D C : Type 0) (house : RunDoors D C) (ear : RunEar) (boa
   pub put : PutsClosing before after last.history failed ended
 
 -- there was no memory to serve it: the doors were handed back as they were, and the line of that was put
-pub record LeavesBoard (D C : Type 0) (house : RunDoors D C) (ear : RunEar) (doors : List D) (before after : Option (List ℕ)) (ended : Status) : Type 0 where
+pub record LeavesBoard (D C : Type 0) (house : RunDoors D C) (ear : RunEar) (doors : List D)
+    (before after : Option (List ℕ)) (ended : Status) : Type 0 where
   pub back : house.after ≡ with_doors_back house.before doors
   pub heard : IsUnrung ear
   pub put : PutsLine before after status.NoMemory ended
 
 -- one of both
-abbrev pub EndsBegun : (D C : Type 0) → RunDoors D C → RunEar → Boarded → List D → Option (List ℕ) → Option (List ℕ) → Status → Type 0
+abbrev pub EndsBegun : (D C : Type 0) → RunDoors D C → RunEar → Boarded → List D → Option (List ℕ)
+    → Option (List ℕ) → Status → Type 0
 EndsBegun D C house ear board doors before after ended =
     ServesBoard D C house ear board doors before after ended ⊎ LeavesBoard D C house ear doors before after ended
 
 -- The first line was put. What is put then stands behind it.
-pub record Begins (D C : Type 0) (house : RunDoors D C) (ear : RunEar) (board : Boarded) (doors : List D) (port : ℕ) (before after : Option (List ℕ))
+pub record Begins (D C : Type 0) (house : RunDoors D C) (ear : RunEar) (board : Boarded) (doors : List D)
+    (port : ℕ) (before after : Option (List ℕ))
     (ended : Status) : Type 0 where
   pub begun : Option (List ℕ)
   pub first : Appends before begun (serving_text port)
   pub ends : EndsBegun D C house ear board doors begun after ended
 
 -- The first line was not put: no door was served, and the doors were handed back as they were.
-pub record FailsAtOnce (D C : Type 0) (house : RunDoors D C) (ear : RunEar) (doors : List D) (port : ℕ) (before after : Option (List ℕ)) (ended : Status) : Type 0 where
+pub record FailsAtOnce (D C : Type 0) (house : RunDoors D C) (ear : RunEar) (doors : List D) (port : ℕ)
+    (before after : Option (List ℕ)) (ended : Status) : Type 0 where
   pub back : house.after ≡ with_doors_back house.before doors
   pub heard : IsUnrung ear
   pub put : FailsToBegin before after port ended
 
 -- one of both
-abbrev pub EndsAt : (D C : Type 0) → RunDoors D C → RunEar → Boarded → List D → ℕ → Option (List ℕ) → Option (List ℕ) → Status → Type 0
+abbrev pub EndsAt : (D C : Type 0) → RunDoors D C → RunEar → Boarded → List D → ℕ → Option (List ℕ)
+    → Option (List ℕ) → Status → Type 0
 EndsAt D C house ear board doors port before after ended =
     Begins D C house ear board doors port before after ended ⊎ FailsAtOnce D C house ear doors port before after ended
 
@@ -200,7 +207,8 @@ abbrev pub with_given : {D C : Type 0} → RunDoors D C → ℕ → RunDoors D C
 with_given house count = record house { before = with_doors_given house.before count }
 
 -- the house gave the doors, the board was served at them or not, and they were handed back
-pub record ServesDoors (D C : Type 0) (house : RunDoors D C) (ear : RunEar) (board : Boarded) (asked : DoorsAsked) (before after : Option (List ℕ))
+pub record ServesDoors (D C : Type 0) (house : RunDoors D C) (ear : RunEar) (board : Boarded) (asked : DoorsAsked)
+    (before after : Option (List ℕ))
     (ended : Status) : Type 0 where
   pub doors : List D
   pub opened : AreOpened D C house asked doors
@@ -213,7 +221,8 @@ IsDoorsCause D C house status.NoMemory = Unit {0}
 IsDoorsCause D C house _ = ⊥
 
 -- the house gave none, and the line of the cause was put
-pub record OpensNone (D C : Type 0) (house : RunDoors D C) (ear : RunEar) (before after : Option (List ℕ)) (ended : Status) : Type 0 where
+pub record OpensNone (D C : Type 0) (house : RunDoors D C) (ear : RunEar) (before after : Option (List ℕ))
+    (ended : Status) : Type 0 where
   pub cause : Status
   pub is : IsDoorsCause D C house cause
   pub kept : house.after ≡ house.before
@@ -221,7 +230,8 @@ pub record OpensNone (D C : Type 0) (house : RunDoors D C) (ear : RunEar) (befor
   pub put : PutsCause before after cause ended
 
 -- HOW A BOARD IS SERVED AT THE DOORS OF A HOUSE
-abbrev pub ServeEnds : (D C : Type 0) → RunDoors D C → RunEar → Boarded → DoorsAsked → Option (List ℕ) → Option (List ℕ) → Status → Type 0
+abbrev pub ServeEnds : (D C : Type 0) → RunDoors D C → RunEar → Boarded → DoorsAsked → Option (List ℕ)
+    → Option (List ℕ) → Status → Type 0
 ServeEnds D C house ear board asked before after ended =
     ServesDoors D C house ear board asked before after ended ⊎ OpensNone D C house ear before after ended
 
@@ -256,7 +266,8 @@ pub record HasNoBoard (D C : Type 0) (run : Run) (house : RunDoors D C) (ear : R
   pub put : PutsCause before after cause ended
 
 -- HOW THE COMMAND ENDS
-abbrev pub Serves : (D C : Type 0) → Run → RunDoors D C → RunEar → List DoorsAsked → Option (List ℕ) → Option (List ℕ) → Status
+abbrev pub Serves : (D C : Type 0) → Run → RunDoors D C → RunEar → List DoorsAsked → Option (List ℕ)
+    → Option (List ℕ) → Status
     → Type 0
 Serves D C run house ear requests before after ended =
     ServesAsked D C run house ear requests before after ended

@@ -12,7 +12,7 @@ use Rattle.session.specs.declared.sessions.Ended.{Ended}
 use Rattle.session.specs.declared.sessions.SessionFault.{SessionFault}
 use Rattle.session.specs.declared.sessions.SessionFault.TheVariants as fault
 use Rattle.session.specs.Conversations.{Conversed}
-use Rattle.session.specs.Standing.{Place, Standing, standing}
+use Rattle.session.specs.Standing.{AddsOnlyOwn, Place, Standing, standing}
 use Rattle.path_server.specs.declared.request.BuildOptions.{BuildOptions}
 use Rattle.path_server.specs.declared.status.Status.{Status}
 use Rattle.path_server.specs.declared.status.Status.TheVariants as status
@@ -69,12 +69,13 @@ place_for map order room =
     record { pass = 0; start = map; order = order; room = room; shared = None }
 
 -- a session was held over the input as the one pass of this board, and ended so; the history that it
--- leaves is legal
+-- leaves is legal, and all entries behind those of the board are its own
 pub record HoldsTalk (board : Boarded) (input : RunInput) (ended : Result Ended SessionFault) : Type 0 where
   pub last : Standing
   pub conversed : Conversed (place_for board.start board.order board.room)
       (standing board.history board.version None) input.before ended last input.after
   pub legal : IsLegal board.start last.seen
+  pub own : AddsOnlyOwn 0 board.history last.seen
 
 -- the words ask for a session on a board, and it was held over the input, and ended so
 pub record HasTalked (run : Run) (input : RunInput) (ended : Result Ended SessionFault) : Type 0 where

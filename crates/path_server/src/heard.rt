@@ -105,7 +105,8 @@ fn push_reply(text: &mut String, reply: Reply) -> Result<(), AllocError>
 
 /// Writes a version, which its number of edits tells.
 fn push_version(text: &mut String, version: u32) -> Result<(), AllocError>
-    ensures { IfOk result (λ _. string_bytes text.new ≡ string_bytes text.old ++ version_line version) }
+    ensures { IfOk result (λ _.
+        string_bytes text.new ≡ string_bytes text.old ++ version_line version) }
 {
     write!(text, "version {version}\n")
 }
@@ -113,7 +114,8 @@ fn push_version(text: &mut String, version: u32) -> Result<(), AllocError>
 /// Writes that a version has no path.
 fn push_unreachable(text: &mut String, version: u32) -> Result<(), AllocError>
     ensures { IfOk result (λ _.
-        string_bytes text.new ≡ string_bytes text.old ++ (version_line version ++ unreachable_text)) }
+        string_bytes text.new
+        ≡ string_bytes text.old ++ (version_line version ++ unreachable_text)) }
 {
     write!(text, "version {version}\nunreachable\n")
 }
@@ -130,7 +132,8 @@ fn push_refused(text: &mut String, version: u32, why: QueryWhy) -> Result<(), Al
 /// Writes that a version was published, and how many rows were built and kept.
 fn push_published(text: &mut String, prefix: u32, built: u32, kept: u32) -> Result<(), AllocError>
     ensures { IfOk result (λ _.
-        string_bytes text.new ≡ string_bytes text.old ++ reply_text (Reply.Published prefix built kept)) }
+        string_bytes text.new
+        ≡ string_bytes text.old ++ reply_text (Reply.Published prefix built kept)) }
 {
     write!(text, "published {prefix} built {built}")?;
     write!(text, " kept {kept}\n")
@@ -147,7 +150,8 @@ fn push_board(
     runs: u64,
 ) -> Result<(), AllocError>
     ensures { IfOk result (λ _.
-        string_bytes text.new ≡ string_bytes text.old ++ reply_text (Reply.Status version accepted cells comps runs)) }
+        string_bytes text.new
+        ≡ string_bytes text.old ++ reply_text (Reply.Status version accepted cells comps runs)) }
 {
     write!(text, "version {version} accepted {accepted}")?;
     write!(text, " cells {cells} components {comps}")?;

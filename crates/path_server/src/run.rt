@@ -92,11 +92,14 @@ pub fn run<
         (input_over L.talk L.read_faults L.write_faults input.old input.new) result }
     ensures serves { IsServe words.now → Serves H.Door H.Conn
         (run_over words.now F.content F.faults files.old files.new)
-        (doors_over H.Door.talks H.Door.closed H.Door.faults H.Door.port H.lent H.door_faults house.old house.new)
-        (ear_over E.rung E.over ear.old ear.new) (H.asked house.new) (O.bytes out.old) (O.bytes out.new) result }
+        (doors_over H.Door.talks H.Door.closed H.Door.faults H.Door.port H.lent H.door_faults
+        house.old house.new)
+        (ear_over E.rung E.over ear.old ear.new) (H.asked house.new) (O.bytes out.old)
+        (O.bytes out.new) result }
     ensures reads { IsServe words.now → result ≡ Status.ReadFault → FailsToRead H.Door H.Conn
         (run_over words.now F.content F.faults files.old files.new)
-        (doors_over H.Door.talks H.Door.closed H.Door.faults H.Door.port H.lent H.door_faults house.old house.new) }
+        (doors_over H.Door.talks H.Door.closed H.Door.faults H.Door.port H.lent H.door_faults
+        house.old house.new) }
     ensures writes { IsServe words.now → result ≡ Status.WriteFault
         → Rose (O.faults out.old) (O.faults out.new) }
     ensures unread { IsAsk words.now → files.new ≡ files.old }
@@ -114,10 +117,13 @@ pub fn run<
         → Rose (O.faults out.old) (O.faults out.new)
         ⊎ Rose (H.write_faults house.old) (H.write_faults house.new) }
     ensures doors { (IsServe words.now → ⊥) → H.asked house.new ≡ H.asked house.old }
-    ensures door_faults { (IsServe words.now → ⊥) → H.door_faults house.new ≡ H.door_faults house.old }
+    ensures door_faults { (IsServe words.now → ⊥) →
+        H.door_faults house.new ≡ H.door_faults house.old }
     ensures called { (IsAsk words.now → ⊥) → H.called house.new ≡ H.called house.old }
-    ensures call_faults { (IsAsk words.now → ⊥) → H.read_faults house.new ≡ H.read_faults house.old }
-    ensures send_faults { (IsAsk words.now → ⊥) → H.write_faults house.new ≡ H.write_faults house.old }
+    ensures call_faults { (IsAsk words.now → ⊥) →
+        H.read_faults house.new ≡ H.read_faults house.old }
+    ensures send_faults { (IsAsk words.now → ⊥) →
+        H.write_faults house.new ≡ H.write_faults house.old }
 {
     if is_talk(words) {
         talk(rt, alloc, words, files, input, gate)

@@ -47,11 +47,14 @@ pub fn serve<F: Files, H: House, O: Sink, B: Bell, E: Ear, G: Gate, R: Threads +
     requires waiting { E.over ear.old ≡ false }
     ensures ends { Serves H.Door H.Conn
         (run_over words.now F.content F.faults files.old files.new)
-        (doors_over H.Door.talks H.Door.closed H.Door.faults H.Door.port H.lent H.door_faults house.old house.new)
-        (ear_over E.rung E.over ear.old ear.new) (H.asked house.new) (O.bytes out.old) (O.bytes out.new) result }
+        (doors_over H.Door.talks H.Door.closed H.Door.faults H.Door.port H.lent H.door_faults
+        house.old house.new)
+        (ear_over E.rung E.over ear.old ear.new) (H.asked house.new) (O.bytes out.old)
+        (O.bytes out.new) result }
     ensures fault { result ≡ Status.ReadFault → FailsToRead H.Door H.Conn
         (run_over words.now F.content F.faults files.old files.new)
-        (doors_over H.Door.talks H.Door.closed H.Door.faults H.Door.port H.lent H.door_faults house.old house.new) }
+        (doors_over H.Door.talks H.Door.closed H.Door.faults H.Door.port H.lent H.door_faults
+        house.old house.new) }
     ensures write { result ≡ Status.WriteFault → Rose (O.faults out.old) (O.faults out.new) }
     ensures called { H.called house.new ≡ H.called house.old }
     ensures reads { H.read_faults house.new ≡ H.read_faults house.old }

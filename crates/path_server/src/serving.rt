@@ -50,9 +50,12 @@ pub fn serve_on<H: House, O: Sink, B: Bell, E: Ear, G: Gate, R: Threads + Wait +
     requires unlent { HasLentDoors (H.lent house.old) 0 }
     requires waiting { E.over ear.old ≡ false }
     ensures ends { ServeEnds H.Door H.Conn
-        (doors_over H.Door.talks H.Door.closed H.Door.faults H.Door.port H.lent H.door_faults house.old house.new)
-        (ear_over E.rung E.over ear.old ear.new) board asked (O.bytes out.old) (O.bytes out.new) result }
-    ensures fault { result ≡ Status.ReadFault → Rose (H.door_faults house.old) (H.door_faults house.new) }
+        (doors_over H.Door.talks H.Door.closed H.Door.faults H.Door.port H.lent H.door_faults
+        house.old house.new)
+        (ear_over E.rung E.over ear.old ear.new) board asked (O.bytes out.old) (O.bytes out.new)
+        result }
+    ensures fault { result ≡ Status.ReadFault →
+        Rose (H.door_faults house.old) (H.door_faults house.new) }
     ensures write { result ≡ Status.WriteFault → Rose (O.faults out.old) (O.faults out.new) }
     ensures asked { H.asked house.new ≡ asked ∷ [] }
     ensures called { H.called house.new ≡ H.called house.old }
@@ -90,9 +93,12 @@ fn serve_at<H: House, O: Sink, B: Bell, E: Ear, G: Gate, R: Threads + Wait + Syn
     requires lent { HasLentDoors (H.lent house.old) (length doors.items) }
     requires waiting { E.over ear.old ≡ false }
     ensures ends { EndsAt H.Door H.Conn
-        (doors_over H.Door.talks H.Door.closed H.Door.faults H.Door.port H.lent H.door_faults house.old house.new)
-        (ear_over E.rung E.over ear.old ear.new) board doors.items port (O.bytes out.old) (O.bytes out.new) result }
-    ensures fault { result ≡ Status.ReadFault → Rose (H.door_faults house.old) (H.door_faults house.new) }
+        (doors_over H.Door.talks H.Door.closed H.Door.faults H.Door.port H.lent H.door_faults
+        house.old house.new)
+        (ear_over E.rung E.over ear.old ear.new) board doors.items port (O.bytes out.old)
+        (O.bytes out.new) result }
+    ensures fault { result ≡ Status.ReadFault →
+        Rose (H.door_faults house.old) (H.door_faults house.new) }
     ensures write { result ≡ Status.WriteFault → Rose (O.faults out.old) (O.faults out.new) }
     ensures asked { H.asked house.new ≡ H.asked house.old }
     ensures called { H.called house.new ≡ H.called house.old }
@@ -132,9 +138,12 @@ fn serve_begun<H: House, O: Sink, B: Bell, E: Ear, G: Gate, R: Threads + Wait + 
     requires lent { HasLentDoors (H.lent house.old) (length doors.items) }
     requires waiting { E.over ear.old ≡ false }
     ensures ends { EndsBegun H.Door H.Conn
-        (doors_over H.Door.talks H.Door.closed H.Door.faults H.Door.port H.lent H.door_faults house.old house.new)
-        (ear_over E.rung E.over ear.old ear.new) board doors.items (O.bytes out.old) (O.bytes out.new) result }
-    ensures fault { result ≡ Status.ReadFault → Rose (H.door_faults house.old) (H.door_faults house.new) }
+        (doors_over H.Door.talks H.Door.closed H.Door.faults H.Door.port H.lent H.door_faults
+        house.old house.new)
+        (ear_over E.rung E.over ear.old ear.new) board doors.items (O.bytes out.old)
+        (O.bytes out.new) result }
+    ensures fault { result ≡ Status.ReadFault →
+        Rose (H.door_faults house.old) (H.door_faults house.new) }
     ensures write { result ≡ Status.WriteFault → Rose (O.faults out.old) (O.faults out.new) }
     ensures asked { H.asked house.new ≡ H.asked house.old }
     ensures called { H.called house.new ≡ H.called house.old }
@@ -162,7 +171,8 @@ fn begin<O: Sink>(alloc: Global, out: &mut O, port: u16) -> Result<(), Status>
     ensures first { OnOk result (Appends (O.bytes out.old) (O.bytes out.new) (serving_text port)) }
     ensures failed { IfErr result (FailsToBegin (O.bytes out.old) (O.bytes out.new) port) }
     ensures no_read { IfErr result (λ ended. ended ≢ Status.ReadFault) }
-    ensures write { IfErr result (λ ended. ended ≡ Status.WriteFault → Rose (O.faults out.old) (O.faults out.new)) }
+    ensures write { IfErr result (λ ended. ended ≡ Status.WriteFault →
+        Rose (O.faults out.old) (O.faults out.new)) }
     ensures later { O.faults out.old ≤ O.faults out.new }
 {
     let Ok(line) = serving_text(alloc, port) else {
