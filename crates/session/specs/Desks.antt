@@ -69,7 +69,8 @@ pub record IsPublished (place : Place) (prefix : ℕ) (before after : List Entry
 abbrev pub IsNotPublished : Place → ℕ → List Entry → List Entry → PublishError → Type 0
 IsNotPublished place prefix before after (Overtaken by) =
     Meanwhile place before after × (by ≡ published_prefix after) × (prefix ≤ by)
-IsNotPublished place prefix before after NoMemoryFor = Meanwhile place before after
+IsNotPublished place prefix before after NoMemoryFor =
+    Meanwhile place before after × (published_prefix after < prefix) × IsRoomUsed place after
 
 -- a halt was entered on a board that did not halt
 pub record HaltsFirst (place : Place) (before after : List Entry) : Type 0 where

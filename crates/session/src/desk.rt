@@ -78,7 +78,8 @@ pub trait Desk {
     ///
     /// # Errors
     ///
-    /// `Overtaken` where the published version comes after as many edits or more, and else want of memory.
+    /// `Overtaken` where the published version comes after as many edits or more, and else want of memory where the board's
+    /// room is used up.
     fn publish<R: Wait>(&mut self, rt: &R, next: Arc<Version>) -> Result<u32, PublishError>
         requires may { MayBePublished (place self.old).start (place self.old).order (seen self.old)
             (arc_value next) }

@@ -129,7 +129,7 @@ returns-clause-holds g c =
     let new = g.K.Desk.version c.publish.new.self in
     let next = arc_value c.in-Ok-build_after.next in
     let refused = subst (IsNotPublished (g.K.Desk.place c.take_job.new.desk) next.prefix seen after) c.in-Err-NoMemory.field-0-is c.in-Err-NoMemory.ensures.refused in
-    let others = subst (λ p. Meanwhile p seen after) c.take_job.ensures.place refused in
+    let others = subst (λ p. Meanwhile p seen after) c.take_job.ensures.place refused.0 in
     holds_later before seen after (g.K.Desk.version c.args.desk.now) held new c.take_job.ensures.holds c.in-Err-NoMemory.ensures.kept (meanwhile_begin place seen after others)
 
 pub returns-clause-served : goal.returns-clause-served
@@ -146,6 +146,6 @@ returns-clause-served g c =
     let new = g.K.Desk.version c.publish.new.self in
     let next = arc_value c.in-Ok-build_after.next in
     let refused = subst (IsNotPublished (g.K.Desk.place c.take_job.new.desk) next.prefix seen after) c.in-Err-NoMemory.field-0-is c.in-Err-NoMemory.ensures.refused in
-    let others = subst (λ p. Meanwhile p seen after) c.take_job.ensures.place refused in
+    let others = subst (λ p. Meanwhile p seen after) c.take_job.ensures.place refused.0 in
     let none = no_memory place before seen after held c.in-Ok.job sound taken other others in
     (none.0, subst (λ (v : Versioned). v.prefix < accepted_count after) (sym c.in-Err-NoMemory.ensures.kept) none.1)
