@@ -8,5 +8,5 @@ program="$here/../crates/path_server/out/path_server"
 export PYTHONDONTWRITEBYTECODE=1
 status=0
 python3 "$here/paths.py" --maps 200 || status=1
-python3 "$here/replay.py" --lists 1500 || status=1
+python3 "$here/replay.py" --lists 3000 || status=1
 exit "$status"
