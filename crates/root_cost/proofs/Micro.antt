@@ -14,7 +14,9 @@ module _ (x : Cost) (root : ℕ) (least : root * root ≤ 2 * (1000000 * x.diago
     root_passed : IsBelow (1000000 * x.straight + root + 1) 0 (1000000 * x.straight) (1000000 * x.diagonal) → ⊥
     root_passed (inl h) = omega arith
     root_passed (inr (inl h)) =
-        let over : IsAtMostRoot (root + 1) (1000000 * x.diagonal) = at_most_along (root + 1) (1000000 * x.diagonal) (1000000 * x.straight + root + 1 - 1000000 * x.straight) (1000000 * x.diagonal - 0) (omega arith) (omega arith) h.2 in
+        let above = 1000000 * x.straight + root + 1 - 1000000 * x.straight in
+        let over : IsAtMostRoot (root + 1) (1000000 * x.diagonal) =
+        at_most_along (root + 1) (1000000 * x.diagonal) above (1000000 * x.diagonal - 0) (omega arith) (omega arith) h.2 in
         omega arith
     root_passed (inr (inr h)) = omega arith
 

@@ -215,8 +215,8 @@ pub fn keys_order()
     ensures { KeysOrderCosts }
 {}
 
-/// The law of the numbers: a cost has a length with up to 65,535 steps of each kind, the steps have these keys, and what
-/// stands in place of a key is above each.
+/// The law of the numbers: a cost has a length with up to 65,535 steps of each kind, the steps have these keys, and
+/// what stands in place of a key is above each.
 pub fn numbers_are_these()
     ensures steps { MAX_STEPS ≡ 65535 }
     ensures keys { (STRAIGHT_KEY ≡ 33461) × (DIAGONAL_KEY ≡ 47321) × (KEYED_DIAGONALS ≡ 33461) }

@@ -68,7 +68,8 @@ cmp_less x y l = rw (unlike x y (apart_if_less x y l), tested_if_at_most x y l.0
 pub cmp_greater : (x y : Cost) → IsLess y x → cost_cmp x y ≡ Greater
 unfolding cost_cmp
 cmp_greater x y l =
-    let untested : is_below x.straight x.diagonal y.straight y.diagonal ≡ false = elim (cases_Bool (is_below x.straight x.diagonal y.straight y.diagonal)) [
+    let tested = is_below x.straight x.diagonal y.straight y.diagonal in
+    let untested : tested ≡ false = elim (cases_Bool tested) [
       | inl e ↦ absurd (l.1 (at_most_if_tested x y e))
       | inr e ↦ e
     ] in

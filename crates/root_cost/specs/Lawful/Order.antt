@@ -16,7 +16,8 @@ mixed a b e f p q p2 q2 h k g l = elim (cases_lt e a) [
   | inr m ↦ elim (cases_lt f b) [
     | inr n ↦ inl (m, n)
     | inl n ↦
-        let c : IsAtLeastRoot (e - a) (b - f) = rest_ge (e - a) (b - f) p q (at_least_along (e - a + p) (b - f + q) p2 q2 (omega arith) (omega arith) k) h in
+        let together = at_least_along (e - a + p) (b - f + q) p2 q2 (omega arith) (omega arith) k in
+        let c : IsAtLeastRoot (e - a) (b - f) = rest_ge (e - a) (b - f) p q together h in
         elim (cases_lt a e) [
           | inl o ↦ inr (inr (o, n, c))
           | inr o ↦ absurd (omega (arith, mul-le p2 p2 p p (omega arith) (omega arith), mul-lt q q q2 q2 (omega arith) (omega arith)))
@@ -118,5 +119,6 @@ same_fields x y h k = λ i. record { straight = h i; diagonal = k i }
 pub at_most_antisymmetric : (x y : Cost) → IsAtMost x y → IsAtMost y x → x ≡ y
 unfolding IsAtMost
 at_most_antisymmetric x y h k =
-    let same : (x.straight ≡ y.straight) × (x.diagonal ≡ y.diagonal) = below_antisymmetric x.straight x.diagonal y.straight y.diagonal h k in
+    let same : (x.straight ≡ y.straight) × (x.diagonal ≡ y.diagonal) =
+    below_antisymmetric x.straight x.diagonal y.straight y.diagonal h k in
     same_fields x y same.0 same.1

@@ -58,7 +58,8 @@ no_root_below (suc bound) p q l e = elim (cases_lt 0 q) [
     | inr z ↦ absurd (omega (arith, mul-le p p q q z z, mul-lt 0 0 q q some some))
     | inl more ↦
         let below : p ≤ 2 * q = le_from_squares p (2 * q) (omega arith) in
-        let smaller : (q - (p - q)) * (q - (p - q)) ≡ 2 * ((p - q) * (p - q)) = from_parts (p - q) (q - (p - q)) p q (omega arith) (omega arith) e in
+        let smaller : (q - (p - q)) * (q - (p - q)) ≡ 2 * ((p - q) * (p - q)) =
+        from_parts (p - q) (q - (p - q)) p q (omega arith) (omega arith) e in
         let none : p - q ≡ 0 = no_root_below bound (q - (p - q)) (p - q) (omega arith) smaller in
         absurd (omega arith)
   ]
