@@ -4,8 +4,8 @@ ghost use Rattle.std.specs.Prelude.{◌≡◌, ◌≤◌, IfSome};
 ghost use Rattle.std.specs.Option.{option_map};
 ghost use Rattle.text_lines.specs.Numbers.{capped, number_in, number_at_most};
 
-/// The number that the word is: one digit or more, with any number of leading zeros. `None` exactly where it is no number.
-/// All numbers above `most` are given as `most + 1`, so that a word of any length can be judged.
+/// The number that the word is: one digit or more, with any number of leading zeros. `None` exactly where it is no
+/// number. All numbers above `most` are given as `most + 1`, so that a word of any length can be judged.
 pub fn number_capped(word: &[u8], most: u32) -> Option<u64>
     ensures { result ≡ option_map (capped most) (number_in word.now) }
 {

@@ -10,11 +10,15 @@ returns-then-is_empty c = sym (ap (option_map (capped c.args.most)) (no_number c
 
 pub returns-then-not-is_ascii_digit : goal.returns-then-not-is_ascii_digit
 returns-then-not-is_ascii_digit c =
-    sym (ap (option_map (capped c.args.most)) (read_no_digit c.args.most c.args.word.now c.loop-byte.byte-index c.loop-byte.number _ c.loop-byte-test.true refl (sym c.if-not-is_ascii_digit.ensures.value) c.loop-byte.invariant))
+    let none = read_no_digit c.args.most c.args.word.now c.loop-byte.byte-index c.loop-byte.number _
+    c.loop-byte-test.true refl (sym c.if-not-is_ascii_digit.ensures.value) c.loop-byte.invariant in
+    sym (ap (option_map (capped c.args.most)) none)
 
 pub loop-byte-preserved : goal.loop-byte-preserved
 loop-byte-preserved c =
-    read_more c.args.most c.args.word.now c.loop-byte.byte-index c.loop-byte.number _ _ c.loop-byte-test.true refl (sym c.if-not-is_ascii_digit.ensures.value) (omega (arith, c.min-number.ensures, c.from.ensures, c.from-cap.ensures)) c.loop-byte.invariant
+    read_more c.args.most c.args.word.now c.loop-byte.byte-index c.loop-byte.number _ _
+    c.loop-byte-test.true refl (sym c.if-not-is_ascii_digit.ensures.value)
+    (omega (arith, c.min-number.ensures, c.from.ensures, c.from-cap.ensures)) c.loop-byte.invariant
 
 pub returns : goal.returns
 returns c =
