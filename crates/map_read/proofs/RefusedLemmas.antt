@@ -295,9 +295,11 @@ module _ (lines : List (List ℕ)) (width height : ℕ) where
         get_or-drop 4 lines y [] ∙ ap (λ (k : ℕ). get_or lines k []) (let same : 4 + y ≡ 5 + y - 1 = omega arith in same) in
         let rows = rows_joined width y above more.cells (drop 4 lines) (line_at lines (5 + y)) read.above (rows_cells width y above (drop 4 lines) read.above)
         (omega (arith, length-drop 4 lines)) at fits in
+        let next : suc y ≡ y + 1 = omega arith in
+        let with_row = subst (λ (k : ℕ). AreRows width k (above ++ more.cells) (drop 4 lines)) next rows in
         record {
           header = read.header;
-          above = subst (λ (cs : List Bool). AreRows width (y + 1) cs (drop 4 lines)) (sym more.joined) (subst (λ (k : ℕ). AreRows width k (above ++ more.cells) (drop 4 lines)) (let next : suc y ≡ y + 1 = omega arith in next) rows);
+          above = subst (λ (cs : List Bool). AreRows width (y + 1) cs (drop 4 lines)) (sym more.joined) with_row;
           few = more.few;
         }
 

@@ -159,6 +159,26 @@ pub header_yes : (lines : List (List ℕ)) (sides : ℕ × ℕ) → has_words ty
 unfolding header_in
 header_yes lines sides kind e end = rw (kind, e, end) refl
 
+-- the same of lines that were taken one after another
+module _ (lines one two three : List (List ℕ)) (taken : AreTaken lines one two three) (first second third fourth : List ℕ)
+    (first-is : first ≡ get_or lines 0 []) (second-is : second ≡ get_or one 0 []) (third-is : third ≡ get_or two 0 [])
+    (fourth-is : fourth ≡ get_or three 0 []) (sides : ℕ × ℕ) (kind : has_words type_words first ≡ true)
+    (is : sides_from second third ≡ Ok sides) where
+  kind_taken : has_words type_words (line_at lines 1) ≡ true
+  kind_taken = ap (has_words type_words) (sym first-is) ∙ kind
+
+  sides_are : sides_from (line_at lines 2) (line_at lines 3) ≡ Ok sides
+  sides_are = sides_taken lines one two three taken (Ok sides) second third is second-is third-is
+
+  end_taken : has_words map_words (line_at lines 4) ≡ has_words map_words fourth
+  end_taken = ap (has_words map_words) (sym (fourth-is ∙ line_four lines one two three taken))
+
+  pub taken_no_map : has_words map_words fourth ≡ false → header_in lines ≡ Err (Header 4)
+  taken_no_map end = header_no_map lines sides kind_taken sides_are (end_taken ∙ end)
+
+  pub taken_yes : has_words map_words fourth ≡ true → header_in lines ≡ Ok sides
+  taken_yes end = header_yes lines sides kind_taken sides_are (end_taken ∙ end)
+
 -- ---- the limits
 
 pub sides_within : (w h : ℕ) → are_map_sides w h ≡ true → IsWithinLimits w h

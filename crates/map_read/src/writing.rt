@@ -10,8 +10,8 @@ use crate::MAX_MAP_BYTES;
 use moves::{Cell, Grid};
 use std::alloc::{AllocError, Global};
 
-/// The canonical text of the map: `type octile`, `height H`, `width W`, `map`, and the rows with `.` for a passable cell and
-/// `@` for a blocked one. A line feed ends each line. The text is short enough to be read back.
+/// The canonical text of the map: `type octile`, `height H`, `width W`, `map`, and the rows with `.` for a passable
+/// cell and `@` for a blocked one. A line feed ends each line. The text is short enough to be read back.
 pub fn write_map(alloc: Global, grid: &Grid) -> Result<Vec<u8>, AllocError>
     ensures text { IfOk result (λ text. text.items ≡ text_of grid.now) }
     ensures limit { IfOk result (λ text. vec_len text ≤ MAX_MAP_BYTES) }

@@ -17,7 +17,8 @@ pub returns-in_err-read_rows-clause-fault : goal.returns-in_err-read_rows-clause
 returns-in_err-read_rows-clause-fault c = λ f e.
     let p = err_from_is_err_and c.from_residual-in_err-read_rows.result c.from_residual-in_err-read_rows.ensures.1 in
     let same : f ≡ c.in_err-read_rows.field-0.0 = cc (p.1, p.2, e) in
-    rw same (map_bad_rows c.args.bytes.now c.of-lines.result c.read_header.new.lines c.of-lines.ensures c.in_ok-sides.ensures.rest c.in_ok-sides.sides.width c.in_ok-sides.sides.height c.in_ok-sides.ensures.sides
+    rw same (map_bad_rows c.args.bytes.now c.of-lines.result c.read_header.new.lines c.of-lines.ensures
+    c.in_ok-sides.ensures.rest c.in_ok-sides.sides.width c.in_ok-sides.sides.height c.in_ok-sides.ensures.sides
     c.in_err-read_rows.field-0.0 c.in_err-read_rows.ensures.cells)
 
 pub first_extra-requires : goal.first_extra-requires
@@ -32,13 +33,16 @@ first_extra-requires c =
 pub returns-in-Some-clause-fault : goal.returns-in-Some-clause-fault
 returns-in-Some-clause-fault c = λ f e.
     let same : f ≡ Extra c.in-Some.line = cc in
-    rw same (map_extra c.args.bytes.now c.of-lines.result c.read_header.new.lines c.of-lines.ensures c.in_ok-sides.ensures.rest c.in_ok-sides.sides.width c.in_ok-sides.sides.height c.in_ok-sides.ensures.sides
+    rw same (map_extra c.args.bytes.now c.of-lines.result c.read_header.new.lines c.of-lines.ensures
+    c.in_ok-sides.ensures.rest c.in_ok-sides.sides.width c.in_ok-sides.sides.height c.in_ok-sides.ensures.sides
     c.read_rows.new.cells c.read_rows.new.lines c.in_ok-read_rows.ensures.cells c.in_ok-read_rows.ensures.rest c.in-Some.line (sym c.in-Some.ensures))
 
 pub returns-clause-grid : goal.returns-clause-grid
 returns-clause-grid c =
-    let whole = map_whole c.args.bytes.now c.of-lines.result c.read_header.new.lines c.of-lines.ensures c.in_ok-sides.ensures.rest c.in_ok-sides.sides.width c.in_ok-sides.sides.height c.in_ok-sides.ensures.sides
+    let sides = c.in_ok-sides.sides in
+    let whole = map_whole c.args.bytes.now c.of-lines.result c.read_header.new.lines c.of-lines.ensures
+    c.in_ok-sides.ensures.rest sides.width sides.height c.in_ok-sides.ensures.sides
     c.read_rows.new.cells c.read_rows.new.lines c.in_ok-read_rows.ensures.cells c.in_ok-read_rows.ensures.rest (sym c.in_default.ensures) in
     let all = take_at c.read_rows.new.cells (drop (length c.read_rows.new.cells) c.in_ok-cells.cells.items) c.in_ok-cells.cells.len (c.read_rows.auto.cells ∙ c.deref_mut.ensures.len) in
-    let made = λ (cells : List Bool). let m : Map = record { width = c.in_ok-sides.sides.width; height = c.in_ok-sides.sides.height; passable = cells } in m in
+    let made = λ (cells : List Bool). let m : Map = record { width = sides.width; height = sides.height; passable = cells } in m in
     whole ∙ ap (λ (m : Map). Ok m) (sym (c.in_ok-of_cells.ensures ∙ ap made all))

@@ -7,7 +7,9 @@ use Rattle.map_read.proofs.header.is_map_line.Goals as goal
 pub returns-then-eq : goal.returns-then-eq
 returns-then-eq c =
     let first = sym (c.if-eq.ensures ∙ ap (pointwise eqb c.in-Some.word.now) c.as_slice.ensures) in
-    sym (has_one_yes c.args.line.now c.in-Some.word.now _ (words_of c.in-Some.rest.now) c.cut_word-then-eq.result c.is_none.result (λ cut. cut.0.now) (λ cut. cut.1.now) c.in-Some.ensures first c.cut_word-then-eq.ensures c.is_none.ensures)
+    sym (has_one_yes c.args.line.now c.in-Some.word.now _ (words_of c.in-Some.rest.now)
+    c.cut_word-then-eq.result c.is_none.result (λ cut. cut.0.now) (λ cut. cut.1.now)
+    c.in-Some.ensures first c.cut_word-then-eq.ensures c.is_none.ensures)
 
 pub returns-else-eq : goal.returns-else-eq
 returns-else-eq c =

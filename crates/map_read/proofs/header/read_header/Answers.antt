@@ -1,6 +1,6 @@
 use Rattle.std.proofs.Common.{drop, refl, sym}
 use Rattle.std.proofs.lemmas.Result.{err_from_is_err_and}
-use Rattle.map_read.proofs.SideLemmas.{AreTaken, line_four, sides_taken, header_no_type, header_no_sides, header_no_map, header_yes}
+use Rattle.map_read.proofs.SideLemmas.{AreTaken, sides_taken, header_no_type, header_no_sides, taken_no_map, taken_yes}
 use Rattle.map_read.proofs.header.read_header.Goals as goal
 
 pub returns-then-not-is_type_line-clause-sides : goal.returns-then-not-is_type_line-clause-sides
@@ -19,26 +19,14 @@ returns-in_err-sides-clause-sides c =
 
 pub returns-then-not-is_map_line-clause-sides : goal.returns-then-not-is_map_line-clause-sides
 returns-then-not-is_map_line-clause-sides c =
-    let lines = c.args.lines.now in
-    let one = c.next_or_empty.new.self in
-    let two = c.next_or_empty-second.new.self in
-    let three = c.next_or_empty-third.new.self in
-    let taken : AreTaken lines one two three =
-    record { first = c.next_or_empty.ensures.rest; second = c.next_or_empty-second.ensures.rest; third = c.next_or_empty-third.ensures.rest } in
-    let kind = rw c.next_or_empty.ensures.line at (sym c.if-not-is_type_line.ensures) in
-    let sides = sides_taken lines one two three taken _ _ _ c.in_ok-sides.ensures.sides c.next_or_empty-second.ensures.line c.next_or_empty-third.ensures.line in
-    let end = rw (c.next_or_empty-2.ensures.line, line_four lines one two three taken) at (sym c.if-not-is_map_line.ensures) in
-    header_no_map lines (c.in_ok-sides.sides.width, c.in_ok-sides.sides.height) kind sides end
+    taken_no_map c.args.lines.now c.next_or_empty.new.self c.next_or_empty-second.new.self c.next_or_empty-third.new.self
+    (record { first = c.next_or_empty.ensures.rest; second = c.next_or_empty-second.ensures.rest; third = c.next_or_empty-third.ensures.rest })
+    _ _ _ _ c.next_or_empty.ensures.line c.next_or_empty-second.ensures.line c.next_or_empty-third.ensures.line
+    c.next_or_empty-2.ensures.line _ (sym c.if-not-is_type_line.ensures) c.in_ok-sides.ensures.sides (sym c.if-not-is_map_line.ensures)
 
 pub returns-clause-sides : goal.returns-clause-sides
 returns-clause-sides c =
-    let lines = c.args.lines.now in
-    let one = c.next_or_empty.new.self in
-    let two = c.next_or_empty-second.new.self in
-    let three = c.next_or_empty-third.new.self in
-    let taken : AreTaken lines one two three =
-    record { first = c.next_or_empty.ensures.rest; second = c.next_or_empty-second.ensures.rest; third = c.next_or_empty-third.ensures.rest } in
-    let kind = rw c.next_or_empty.ensures.line at (sym c.if-not-is_type_line.ensures) in
-    let sides = sides_taken lines one two three taken _ _ _ c.in_ok-sides.ensures.sides c.next_or_empty-second.ensures.line c.next_or_empty-third.ensures.line in
-    let end = rw (c.next_or_empty-2.ensures.line, line_four lines one two three taken) at (sym c.if-not-is_map_line.ensures) in
-    header_yes lines (c.in_ok-sides.sides.width, c.in_ok-sides.sides.height) kind sides end
+    taken_yes c.args.lines.now c.next_or_empty.new.self c.next_or_empty-second.new.self c.next_or_empty-third.new.self
+    (record { first = c.next_or_empty.ensures.rest; second = c.next_or_empty-second.ensures.rest; third = c.next_or_empty-third.ensures.rest })
+    _ _ _ _ c.next_or_empty.ensures.line c.next_or_empty-second.ensures.line c.next_or_empty-third.ensures.line
+    c.next_or_empty-2.ensures.line _ (sym c.if-not-is_type_line.ensures) c.in_ok-sides.ensures.sides (sym c.if-not-is_map_line.ensures)

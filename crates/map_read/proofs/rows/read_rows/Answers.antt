@@ -5,7 +5,8 @@ use Rattle.map_read.proofs.rows.read_rows.Goals as goal
 
 pub returns-in_default-clause-cells : goal.returns-in_default-clause-cells
 returns-in_default-clause-cells c =
-    rw c.from.ensures (rows_missing c.args.sides.width c.args.sides.height c.loop-y.y c.loop-y.free c.args.lines.now c.loop-y.lines c.loop-y.cells c.loop-y-test.true c.loop-y.invariant c.in_default.ensures.line)
+    rw c.from.ensures (rows_missing c.args.sides.width c.args.sides.height c.loop-y.y c.loop-y.free
+    c.args.lines.now c.loop-y.lines c.loop-y.cells c.loop-y-test.true c.loop-y.invariant c.in_default.ensures.line)
 
 pub returns-in_err-row-clause-cells : goal.returns-in_err-row-clause-cells
 returns-in_err-row-clause-cells c =
