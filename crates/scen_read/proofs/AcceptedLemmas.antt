@@ -13,7 +13,7 @@ use Rattle.scen_read.specs.declared.fault.ScenFault.{ScenFault}
 use Rattle.scen_read.specs.declared.fault.ScenFault.TheVariants.{Version, Fields, Number}
 use Rattle.scen_read.specs.declared.scenario.ScenLine.{ScenLine}
 use Rattle.scen_read.specs.Fields.{fields_of, field_at}
-use Rattle.scen_read.specs.ScenText.{value_in, number_field, cell_field, scenario_of, is_version_line, scenarios_in, scenarios_of}
+use Rattle.scen_read.specs.ScenText.{value_in, number_field, cell_field, scenario_of, scenario_with, is_version_line, scenarios_in, scenarios_of}
 use Rattle.scen_read.specs.Accepted.{SayScenario, AreScenarios, IsVersionLine, IsScenarioText, AcceptsExactlyScenarioTexts}
 use Rattle.scen_read.proofs.ScenarioLemmas.{all_good}
 use Rattle.scen_read.proofs.TextLemmas.{after_version}
@@ -24,16 +24,7 @@ use Rattle.scen_read.proofs.TextLemmas.{after_version}
 module _ (line : ℕ) (fields : List (List ℕ)) where
   abbrev pub with_length : ℕ → ℕ → ℕ → Cell → Cell → Result ScenLine ScenFault
   with_length bucket width height start goal =
-      number_field line 9 fields >>= λ nano. Ok
-      (record {
-        bucket = bucket;
-        name = field_at fields 2;
-        width = width;
-        height = height;
-        start = start;
-        goal = goal;
-        nano = nano;
-      })
+      number_field line 9 fields >>= λ nano. Ok (scenario_with fields bucket width height start goal nano)
 
   abbrev pub with_goal : ℕ → ℕ → ℕ → Cell → Result ScenLine ScenFault
   with_goal bucket width height start = cell_field line 7 fields >>= λ goal. with_length bucket width height start goal
@@ -74,9 +65,8 @@ module _ (line : ℕ) (fields : List (List ℕ)) where
       let start = bind_ok (cell_field line 5 fields) (λ c. with_goal bucket.0 width.0 height.0 c) s height.2 in
       let goal = bind_ok (cell_field line 7 fields) (λ c. with_length bucket.0 width.0 height.0 start.0 c) s start.2 in
       let nano = bind_ok (number_field line 9 fields)
-      (λ n. Ok (record { bucket = bucket.0; name = field_at fields 2; width = width.0; height = height.0; start = start.0; goal = goal.0; nano = n })) s goal.2 in
-      let made : ScenLine =
-      record { bucket = bucket.0; name = field_at fields 2; width = width.0; height = height.0; start = start.0; goal = goal.0; nano = nano.0 } in
+      (λ n. Ok (scenario_with fields bucket.0 width.0 height.0 start.0 goal.0 n)) s goal.2 in
+      let made = scenario_with fields bucket.0 width.0 height.0 start.0 goal.0 nano.0 in
       let same : made ≡ s = cc (nano.2) in
       let from = cell_is 5 start.0 start.1 in
       let to = cell_is 7 goal.0 goal.1 in

@@ -11,7 +11,7 @@ use Rattle.scen_read.specs.declared.fault.ScenFault.{ScenFault}
 use Rattle.scen_read.specs.declared.fault.ScenFault.TheVariants.{Version, Fields, Number}
 use Rattle.scen_read.specs.declared.scenario.ScenLine.{ScenLine}
 use Rattle.scen_read.specs.Fields.{fields_of, field_at}
-use Rattle.scen_read.specs.ScenText.{value_in, number_field, cell_field, scenario_of, is_version_line, scenarios_in, scenarios_of}
+use Rattle.scen_read.specs.ScenText.{value_in, number_field, cell_field, scenario_of, scenario_with, is_version_line, scenarios_in, scenarios_of}
 use Rattle.scen_read.specs.Accepted.{IsScenario, AreScenarios, IsVersionLine}
 use Rattle.scen_read.specs.Refused.{fields_at, IsReadTo, IsGoodField, IsBadField, IsFirstFault, RefusalsNameTheFirstFault}
 use Rattle.scen_read.proofs.AcceptedLemmas.{with_length, with_goal, with_start, with_height, with_width, with_bucket, number_is, cell_is, scenario_is, version_line_is, version_line_back}
@@ -81,10 +81,10 @@ module _ (line : ℕ) (fields : List (List ℕ)) (nine : length fields ≡ 9) wh
       → IsLineFault line fields fault
   length_fault bucket width height start goal fault good e =
       elim (bind_err (number_field line 9 fields)
-      (λ n. Ok (record { bucket = bucket; name = field_at fields 2; width = width; height = height; start = start; goal = goal; nano = n })) fault e) [
+      (λ n. Ok (scenario_with fields bucket width height start goal n)) fault e) [
         | inl bad ↦ number_fault 9 fault (omega arith) (omega arith) (omega arith) good bad
         | inr rest ↦
-            let no' : Ok (record { bucket = bucket; name = field_at fields 2; width = width; height = height; start = start; goal = goal; nano = rest.0 }) ≡ Err fault = rest.2 in
+            let no' : Ok (scenario_with fields bucket width height start goal rest.0) ≡ Err fault = rest.2 in
             absurd cc
       ]
 

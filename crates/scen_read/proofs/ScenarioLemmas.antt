@@ -11,9 +11,9 @@ use Rattle.text_lines.specs.Words.{words_of, two_of, without_gaps_at_end}
 use Rattle.text_lines.proofs.WordTests.{has_two_yes, has_two_no, has_not_two}
 use Rattle.scen_read.specs.declared.fault.ScenFault.{ScenFault}
 use Rattle.scen_read.specs.declared.fault.ScenFault.TheVariants.{Fields, Number}
-use Rattle.scen_read.specs.Fields.{fields_in, fields_of, field_at}
+use Rattle.scen_read.specs.Fields.{fields_in, fields_of}
 use Rattle.scen_read.specs.Inside.{says_one, next_number, next_cell, next_length}
-use Rattle.scen_read.specs.ScenText.{greatest_number, greatest_coordinate, length_in, number_field, cell_field, scenario_of, is_version_line}
+use Rattle.scen_read.specs.ScenText.{greatest_number, greatest_coordinate, length_in, number_field, cell_field, scenario_of, scenario_with, is_version_line}
 
 -- ---- the fields that are left
 
@@ -100,16 +100,8 @@ module _ (line : ℕ) (fields : List (List ℕ)) (nine : length fields ≡ 9) wh
             unfolding scenario_of
             bad_length fault e = rw (nine_is, bucket-is, width-is, height-is, start-is, goal-is, e) refl
 
-            pub all_good : (nano : ℕ) → number_field line 9 fields ≡ Ok nano → scenario_of line fields ≡ Ok
-                (record {
-                  bucket = bucket;
-                  name = field_at fields 2;
-                  width = width;
-                  height = height;
-                  start = start;
-                  goal = goal;
-                  nano = nano;
-                })
+            pub all_good : (nano : ℕ) → number_field line 9 fields ≡ Ok nano
+                → scenario_of line fields ≡ Ok (scenario_with fields bucket width height start goal nano)
             unfolding scenario_of
             all_good nano e = rw (nine_is, bucket-is, width-is, height-is, start-is, goal-is, e) refl
 

@@ -68,6 +68,18 @@ cell_field line place fields = do
   y ← number_field line (place + 1) fields
   Ok (record { x = x; y = y })
 
+-- the scenario with these values and the map name of these fields
+abbrev pub scenario_with : List (List ℕ) → ℕ → ℕ → ℕ → Cell → Cell → ℕ → ScenLine
+scenario_with fields bucket width height start goal nano = record {
+  bucket = bucket;
+  name = field_at fields 2;
+  width = width;
+  height = height;
+  start = start;
+  goal = goal;
+  nano = nano;
+}
+
 -- the scenario of these fields: bucket, map name, map width and height, start, goal, length
 unfoldable pub scenario_of : ℕ → List (List ℕ) → Result ScenLine ScenFault
 scenario_of line fields = do
@@ -78,16 +90,7 @@ scenario_of line fields = do
   start ← cell_field line 5 fields
   goal ← cell_field line 7 fields
   nano ← number_field line 9 fields
-  Ok
-      (record {
-        bucket = bucket;
-        name = field_at fields 2;
-        width = width;
-        height = height;
-        start = start;
-        goal = goal;
-        nano = nano;
-      })
+  Ok (scenario_with fields bucket width height start goal nano)
 
 -- ---- the whole text
 

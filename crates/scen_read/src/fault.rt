@@ -4,7 +4,8 @@ use std::alloc::AllocError;
 use std::error::Error;
 use std::fmt;
 
-/// Why a text is no list of scenarios: the first refusal in the order of the file. Lines and fields are numbered from 1.
+/// Why a text is no list of scenarios: the first refusal in the order of the file. Lines and fields are numbered
+/// from 1.
 #[derive(Clone, Copy, Debug, PartialEq, Eq)]
 pub enum ScenFault {
     /// The first line does not say version 1, or is not there.

@@ -16,8 +16,8 @@ const MAX_WHOLE: u32 = 9_999_999;
 /// How many units of 10^-9 a length of one has.
 pub const NANOS: u64 = 1_000_000_000;
 
-/// The length in the field, in units of 10^-9 and below 10^16: one to seven digits, and then nothing, or a point and one digit
-/// or more, of which those past the ninth are dropped. `None` where the field is of another form.
+/// The length in the field, in units of 10^-9 and below 10^16: one to seven digits, and then nothing, or a point and
+/// one digit or more, of which those past the ninth are dropped. `None` where the field is of another form.
 pub fn length_in(field: &[u8]) -> Option<u64>
     ensures length { result ≡ length_in field.now }
     ensures limit { IfSome result (λ nano. nano < 10 ^ 16) }

@@ -1,5 +1,5 @@
-//! Scenarios as text: the queries of a scenario file, each with the length that the file states, and the text of scenarios.
-//! (MovingAI scenario format page, version 1.)
+//! Scenarios as text: the queries of a scenario file, each with the length that the file states, and the text of
+//! scenarios. (MovingAI scenario format page, version 1.)
 #![tactic(auto)]
 
 ghost use Rattle.std.specs.Prelude.{◌≡◌, ◌≤◌, Ok, Err, length, IfOk};
@@ -29,8 +29,8 @@ pub const MAX_SCEN_BYTES: usize = 16_777_216;
 /// The lines of a scenario file.
 type ScenLines<'a> = Lines<'a, MAX_SCEN_BYTES>;
 
-/// The scenarios of a text of at most `MAX_SCEN_BYTES` bytes, or why there are none: the first refusal in the order of the
-/// file. The first line is `version 1` or `version 1.0`. Each further line that is not blank is a scenario of nine
+/// The scenarios of a text of at most `MAX_SCEN_BYTES` bytes, or why there are none: the first refusal in the order of
+/// the file. The first line is `version 1` or `version 1.0`. Each further line that is not blank is a scenario of nine
 /// fields. What was read can be written: names keep their places, and each `nano` is below 10^16.
 pub fn read_scen(alloc: Global, bytes: &[u8]) -> Result<Vec<ScenLine>, ScenError>
     requires { length bytes.now ≤ MAX_SCEN_BYTES }
@@ -58,13 +58,14 @@ pub fn limit_is_this()
     ensures { MAX_SCEN_BYTES ≡ 16777216 }
 {}
 
-/// A law, stated in the contract: a text is accepted exactly where each of its lines is a scenario or blank, and then with
-/// these scenarios.
+/// A law, stated in the contract: a text is accepted exactly where each of its lines is a scenario or blank, and then
+/// with these scenarios.
 pub fn accepts_exactly_scenario_texts()
     ensures { AcceptsExactlyScenarioTexts }
 {}
 
-/// A law, stated in the contract: the refusal of a text names a line or a field that is at fault, and nothing before it is.
+/// A law, stated in the contract: the refusal of a text names a line or a field that is at fault, and nothing before it
+/// is.
 pub fn refusals_name_the_first_fault()
     ensures { RefusalsNameTheFirstFault }
 {}

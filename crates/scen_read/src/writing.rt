@@ -12,8 +12,8 @@ use crate::length::NANOS;
 use moves::Cell;
 use std::alloc::{AllocError, Global};
 
-/// The text of the scenarios: `version 1`, and for each of them a line with its nine fields and a tab between each two. A line
-/// feed ends each line. Where all are writable, reading the text gives the scenarios back.
+/// The text of the scenarios: `version 1`, and for each of them a line with its nine fields and a tab between each two.
+/// A line feed ends each line. Where all are writable, reading the text gives the scenarios back.
 pub fn write_scen(alloc: Global, lines: &[ScenLine]) -> Result<Vec<u8>, AllocError>
     ensures text { IfOk result (λ text. text.items ≡ text_of lines.now) }
     ensures back { AreWritable lines.now
