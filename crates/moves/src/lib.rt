@@ -4,7 +4,7 @@
 
 ghost use Rattle.std.specs.Prelude.{◌≡◌, ℕ, ◌<◌, ◌≤◌, ◌↔◌, IsTrue, MatchOption};
 ghost use Rattle.moves.specs.Maps.{place_of};
-ghost use Rattle.moves.specs.Moves.{number_of, is_diagonal};
+ghost use Rattle.moves.specs.Moves.{IsTarget, number_of, is_diagonal};
 
 pub mod bounds;
 pub mod grid;
@@ -35,6 +35,29 @@ pub struct Cell {
     pub x: u16,
     /// The row, from 0.
     pub y: u16,
+}
+
+impl Cell {
+    /// The cell that the move leads to.
+    #[inline]
+    pub fn target(self, by: Move) -> Cell
+        requires column { self.x < MAX_SIDE }
+        requires row { self.y < MAX_SIDE }
+        requires some { (to : Cell) × IsTarget self by to }
+        ensures { IsTarget self by result }
+    {
+        let x = match by {
+            Move::N | Move::S => self.x,
+            Move::NE | Move::E | Move::SE => self.x + 1,
+            Move::SW | Move::W | Move::NW => self.x - 1,
+        };
+        let y = match by {
+            Move::E | Move::W => self.y,
+            Move::SE | Move::S | Move::SW => self.y + 1,
+            Move::N | Move::NE | Move::NW => self.y - 1,
+        };
+        Cell { x, y }
+    }
 }
 
 /// One of the eight moves, numbered clockwise from north: N 0, NE 1, E 2, SE 3, S 4, SW 5, W 6, NW 7.

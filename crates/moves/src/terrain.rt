@@ -334,7 +334,8 @@ fn has_bit(mask: u8, number: u8) -> bool
     mask & 1 << number != 0
 }
 
-/// The cell that the move leads to, on a grid without a lower or right end.
+/// The cell that the move leads to, on a grid without a lower or right end; `None` exactly where the column or the row
+/// would be below 0. [`Cell::target`] asks that neither is.
 fn target(cell: Cell, by: Move) -> Option<Cell>
     requires column { cell.x < MAX_SIDE }
     requires row { cell.y < MAX_SIDE }

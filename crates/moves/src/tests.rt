@@ -114,6 +114,24 @@ fn setting_a_cell_changes_it_alone(rt: HostRuntime) -> Result<(), AllocError> {
 }
 
 #[test]
+fn moves_lead_one_cell_on(rt: HostRuntime) {
+    // The cells that the eight moves lead to from (5, 9), by their numbers.
+    let targets = [
+        (Move::N, 5, 8),
+        (Move::NE, 6, 8),
+        (Move::E, 6, 9),
+        (Move::SE, 6, 10),
+        (Move::S, 5, 10),
+        (Move::SW, 4, 10),
+        (Move::W, 4, 9),
+        (Move::NW, 4, 8),
+    ];
+    for (by, x, y) in targets {
+        assert_eq!(rt; Cell { x: 5, y: 9 }.target(by), Cell { x, y });
+    }
+}
+
+#[test]
 fn moves_have_names(rt: HostRuntime) -> Result<(), AllocError> {
     let names = ["N", "NE", "E", "SE", "S", "SW", "W", "NW"];
     for (by, name) in Move::ALL.iter().zip(names) {
