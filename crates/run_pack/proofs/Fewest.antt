@@ -54,7 +54,11 @@ module _ (runs other : List Run) (sets : List ℕ) (tight : IsTight runs sets) (
       let places = length sets in
       elim (cases_lt (length other) (length runs)) [
         | inr enough ↦ enough
-        | inl fewer ↦ absurd (omega (arith, not_ahead (length other), border_past other places (length other) (omega arith), get_or-starts_of runs (length other) places fewer, start_at-inside runs places tight.row (length other) fewer))
+        | inl fewer ↦
+            let past = border_past other places (length other) (omega arith) in
+            let start = get_or-starts_of runs (length other) places fewer in
+            let inside = start_at-inside runs places tight.row (length other) fewer in
+            absurd (omega (arith, not_ahead (length other), past, start, inside))
       ]
 
 -- no row that holds has fewer runs

@@ -47,12 +47,14 @@ searching_first runs place found old = record {
 }
 
 -- what is left to search, after one more probe
-budget_more : (all low high low' high' old new : ℕ) → IsWithinBudget all (high - low) (new - old) → old ≤ new → low < high → (high' - low') + (high' - low') ≤ high - low → IsWithinBudget all (high' - low') (new + 1 - old)
+budget_more : (all low high low' high' old new : ℕ) → IsWithinBudget all (high - low) (new - old) → old ≤ new → low < high
+    → (high' - low') + (high' - low') ≤ high - low → IsWithinBudget all (high' - low') (new + 1 - old)
 budget_more all low high low' high' old new budget counted some half =
     let one : new + 1 - old ≡ new - old + 1 = omega arith in
     rw one (within_budget_more all (high - low) (high' - low') (new - old) budget (omega arith) half)
 
-module _ (runs : List Run) (place found low high old new middle : ℕ) (rises : Rises runs) (s : IsSearching runs place found low high old new) (some : low < high) (mid : middle ≡ low + (high - low) / 2) where
+module _ (runs : List Run) (place found low high old new middle : ℕ) (rises : Rises runs)
+    (s : IsSearching runs place found low high old new) (some : low < high) (mid : middle ≡ low + (high - low) / 2) where
   -- the run in the middle starts at the place or before it
   searching_right_of : start_at runs middle ≤ place → IsSearching runs place (move_at runs middle) (middle + 1) high old (new + 1)
   searching_right_of reached =

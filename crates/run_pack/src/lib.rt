@@ -1,8 +1,9 @@
 //! Tight rows of runs: a list of sets of moves packed into the fewest runs, and looked up by binary search.
 //!
-//! A set is a byte that is not 0: number i, from 0 to 7, is in it where bit i is 1. A row keeps one move for each run of
-//! neighbouring places whose sets share that move. Any optimal first move may be kept for a place (Strasser, Harabor and
-//! Botea, "Fast First-Move Queries through Run-Length Encoding", 2014), so `pack` lets each run reach as far as it can.
+//! A set is a byte that is not 0: number i, from 0 to 7, is in it where bit i is 1. A row keeps one move for each run
+//! of neighbouring places whose sets share that move. Any optimal first move may be kept for a place (Strasser, Harabor
+//! and Botea, "Fast First-Move Queries through Run-Length Encoding", 2014), so `pack` lets each run reach as far as it
+//! can.
 #![tactic(auto)]
 
 ghost use Rattle.std.specs.Prelude.{◌≡◌, ◌+◌, ◌-◌, ◌*◌, ◌^◌, ◌<◌, ◌≤◌, length, map, take, drop, IfOk, OnOk, OnErr, IfSome, IfNone};
@@ -73,8 +74,8 @@ impl Stretch {
     }
 }
 
-/// The tight row of these sets: the one row in which each run reaches as far as its sets have a common move, and keeps the
-/// least of them. No row that holds for the sets has fewer runs.
+/// The tight row of these sets: the one row in which each run reaches as far as its sets have a common move, and keeps
+/// the least of them. No row that holds for the sets has fewer runs.
 ///
 /// The only error is want of memory, which is taken for the result alone.
 pub fn pack(alloc: Global, sets: &[u8]) -> Result<Vec<Run>, AllocError>
@@ -104,8 +105,8 @@ pub fn append_words(words: &mut Vec<u32>, sets: &[u8]) -> Result<(), AllocError>
     }
 }
 
-/// Packs the sets into a row behind what is stored already, once from left to right. After an error a part of the row may
-/// stand there.
+/// Packs the sets into a row behind what is stored already, once from left to right. After an error a part of the row
+/// may stand there.
 fn fill<S: Stored>(row: &mut Vec<S>, sets: &[u8]) -> Result<(), AllocError>
     requires { ArePackable sets.now }
     ensures kept { take (length row.old.items) row.new.items ≡ row.old.items }
