@@ -22,7 +22,8 @@ pub record IsAdopting (map : Map) (label : ℕ) (root : Cell) (old : Marks) (com
   pub marked : AllBelow (λ c. label_at map.width s c < UNLABELLED) component i
   pub least : old.count ≤ s.count
 
-module _ (map : Map) (label : ℕ) (low : label < UNLABELLED) (root : Cell) (old : Marks) (fresh : IsFresh map old root) (flooded : IsFlooded map label old) (component : List Cell) (is : IsComponent map component) (has : Contains component root) where
+module _ (map : Map) (label : ℕ) (low : label < UNLABELLED) (root : Cell) (old : Marks) (fresh : IsFresh map old root)
+    (flooded : IsFlooded map label old) (component : List Cell) (is : IsComponent map component) (has : Contains component root) where
   pub adopting_start : IsAdopting map label root old component 0 (with_mark map.width old root label)
   adopting_start = record {
     spread = spread_start map label low root fresh.passable old flooded fresh.unlabelled;

@@ -25,5 +25,9 @@ module _ {X : Type 0} where
   pub read_at : (xs : List X) (i : ℕ) (d : X) → i < length xs → get_or xs i d ≡ get_or xs i (get_or xs i d)
   read_at xs i d within = get_or_default xs i d (get_or xs i d) within
 
+  -- and so it is read in an equal list
+  pub read_in : (xs ys : List X) → xs ≡ ys → (i : ℕ) (d : X) → i < length xs → get_or xs i d ≡ get_or ys i (get_or xs i d)
+  read_in xs ys same i d within = read_at xs i d within ∙ ap (λ zs. get_or zs i (get_or xs i d)) same
+
   pub all_below_contained : (P : X → Type 0) (xs : List X) (i : ℕ) → length xs ≡ i → AllBelow P xs i → (x : X) → Contains xs x → P x
   all_below_contained P xs i all before x has = let less = has.1 in before has.0 (omega arith) x has.2

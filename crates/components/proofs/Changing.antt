@@ -16,7 +16,8 @@ pub changed_same : (old new : Map) (changed : List Cell) → new ≡ old → Are
 changed_same old new changed same = λ c. inr (subst (λ m. IsPassable m c) (sym same), subst (λ m. IsPassable m c) same)
 
 -- one cell more is made passable or blocked
-pub changed_more : (old new : Map) (changed : List Cell) → AreChanged old new changed → (cell : Cell) (passable : Bool) → IsInside new cell → AreChanged old (with_cell new cell passable) (changed ++ cell ∷ [])
+pub changed_more : (old new : Map) (changed : List Cell) → AreChanged old new changed → (cell : Cell) (passable : Bool)
+    → IsInside new cell → AreChanged old (with_cell new cell passable) (changed ++ cell ∷ [])
 changed_more old new changed are cell passable inside = λ c.
     elim (same_or_apart c cell) [
       | inl same ↦ inl (subst (Contains (changed ++ cell ∷ [])) (sym same) (Contains-push changed cell))

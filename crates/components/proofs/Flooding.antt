@@ -27,7 +27,8 @@ queued map label root old s p i from least most at =
     (subst (IsInside map) (sym at) q.0, ap (label_at map.width s) at ∙ q.1)
 
 -- so it is passable
-pub queued_passable : (map : Map) (label : ℕ) (root : Cell) (old : Marks) (next : ℕ) (s : Marks) (from : Cell) → label < UNLABELLED → IsSpreading map label root old next s → next < s.count → from ≡ get_or s.found next from → IsPassable map from
+pub queued_passable : (map : Map) (label : ℕ) (root : Cell) (old : Marks) (next : ℕ) (s : Marks) (from : Cell) → label < UNLABELLED
+    → IsSpreading map label root old next s → next < s.count → from ≡ get_or s.found next from → IsPassable map from
 queued_passable map label root old next s from low p less at =
     let q = queued map label root old s p.spread next from p.least less at in
     labelled_passable map s from p.spread.balanced q.0 (omega arith)
@@ -54,7 +55,9 @@ module _ (map : Map) (label : ℕ) (low : label < UNLABELLED) (root : Cell) (old
 
   module _ (next : ℕ) (s : Marks) (p : IsSpreading map label root old next s) where
     pub spreading_more : (from : Cell) → next < s.count → from ≡ get_or s.found next from → (t1 t2 t3 t4 : Marks)
-        → Claimed map label from N s t1 → IsBalanced map t1 → Claimed map label from E t1 t2 → IsBalanced map t2 → Claimed map label from S t2 t3 → IsBalanced map t3 → Claimed map label from W t3 t4 → IsSpreading map label root old (next + 1) t4
+        → Claimed map label from N s t1 → IsBalanced map t1 → Claimed map label from E t1 t2 → IsBalanced map t2
+        → Claimed map label from S t2 t3 → IsBalanced map t3 → Claimed map label from W t3 t4
+        → IsSpreading map label root old (next + 1) t4
     spreading_more from less at t1 t2 t3 t4 n b1 e b2 so b3 we =
         let q = queued map label root old s p.spread next from p.least less at in
         let kept = λ (a b : Marks) (by : Move) (claimed : Claimed map label from by a b) (has : label_at map.width a from ≡ label).
@@ -90,7 +93,8 @@ module _ (map : Map) (label : ℕ) (low : label < UNLABELLED) (root : Cell) (old
         (claimed_tried map label low from E t1 t2 b1 e (next + 1) (omega arith)
         (claimed_tried map label low from N s t1 p.spread.balanced n (next + 1) (omega arith) first))) in
         let n4 : IsTried map from N t4 =
-        tried_later map label low from W t3 t4 b3 we N (tried_later map label low from S t2 t3 b2 so N (tried_later map label low from E t1 t2 b1 e N (claimed_tries map label low from N s t1 p.spread.balanced n))) in
+        tried_later map label low from W t3 t4 b3 we N (tried_later map label low from S t2 t3 b2 so N
+        (tried_later map label low from E t1 t2 b1 e N (claimed_tries map label low from N s t1 p.spread.balanced n))) in
         let e4 : IsTried map from E t4 =
         tried_later map label low from W t3 t4 b3 we E (tried_later map label low from S t2 t3 b2 so E (claimed_tries map label low from E t1 t2 b1 e)) in
         let s4 : IsTried map from S t4 = tried_later map label low from W t3 t4 b3 we S (claimed_tries map label low from S t2 t3 b2 so) in
@@ -115,7 +119,8 @@ module _ (map : Map) (label : ℕ) (low : label < UNLABELLED) (root : Cell) (old
       all_surrounded : (c : Cell) → IsInside map c → label_at map.width s c ≡ label → IsSurrounded map s c
       all_surrounded c inside has = elim (p.each c inside has) [ inl waits ↦ absurd (omega arith) | inr around ↦ around ]
 
-      label_stays : (from : Cell) (by : Move) (to : Cell) → is_diagonal by ≡ false → IsLegal map from by to → label_at map.width s from < UNLABELLED → label_at map.width s to ≡ label_at map.width s from
+      label_stays : (from : Cell) (by : Move) (to : Cell) → is_diagonal by ≡ false → IsLegal map from by to
+          → label_at map.width s from < UNLABELLED → label_at map.width s to ≡ label_at map.width s from
       label_stays from by to straight legal lower =
           elim (p.spread.fresh from legal.leaves.inside lower) [
             | inl was ↦

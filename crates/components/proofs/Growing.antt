@@ -1,5 +1,5 @@
 -- What a component that got its label lists.
-use Rattle.std.proofs.Common.{◌≡◌, ℕ, ◌+◌, ◌<◌, eqb, true, List, ◌∙◌, arith, OnOk, Result, Ok, Err}
+use Rattle.std.proofs.Common.{◌≡◌, ℕ, ◌+◌, ◌<◌, Bool, eqb, true, List, ◌∙◌, arith, OnOk, Result, Ok, Err}
 use Rattle.std.specs.List.{Contains, filter}
 use Rattle.std.proofs.lemmas.Bool.{eqb-true, eq-eqb}
 use Rattle.std.proofs.lemmas.List.Elements.{All-contains, All-filter, filter_passes}
@@ -23,7 +23,8 @@ pub on_ok : {A E : Type 0} (r : Result A E) (P Q R S : Type 0) → OnOk r P → 
 on_ok (Ok x) P Q R S p q r f = f p q r
 on_ok (Err e) P Q R S p q r f = p
 
-module _ (map : Map) (limits : IsWithinLimits map.width map.height) (label : ℕ) (low : label < UNLABELLED) (root : Cell) (old : Marks) (fresh : IsFresh map old root) (flooded : IsFlooded map label old)
+module _ (map : Map) (limits : IsWithinLimits map.width map.height) (label : ℕ) (low : label < UNLABELLED) (root : Cell) (old : Marks)
+    (fresh : IsFresh map old root) (flooded : IsFlooded map label old)
     (s : Marks) (spread : IsSpread map label root old s) (after : IsFlooded map (label + 1) s) where
   has_if_reached : (c : Cell) → Reaches map root c → label_at map.width s c ≡ label
   has_if_reached c reach =
@@ -41,15 +42,20 @@ module _ (map : Map) (limits : IsWithinLimits map.width map.height) (label : ℕ
       (λ c h. (inside c h, has_if_reached c ((is.whole root c has).0 h)))
       (λ c within same. (is.whole root c has).1 (reached_if_has c within same))
 
+  abbrev has_it : Cell → Bool
+  has_it c = eqb (label_at map.width s c) label
+
   -- the seeds that a flood reached
-  pub flooded_again : (plan : Plan) → IsPlan map plan → Contains plan.seeds root → IsLoose plan root → filter (λ c. eqb (label_at map.width s c) label) plan.seeds ≡ cells_with map.width s.labels label
+  pub flooded_again : (plan : Plan) → IsPlan map plan → Contains plan.seeds root → IsLoose plan root
+      → filter (λ c. eqb (label_at map.width s c) label) plan.seeds ≡ cells_with map.width s.labels label
   flooded_again plan is seed loose =
-      listed map limits s spread.balanced.places label (filter (λ c. eqb (label_at map.width s c) label) plan.seeds)
-      (AllPairs-filter (λ a b. place_of map.width a < place_of map.width b) (λ c. eqb (label_at map.width s c) label) plan.seeds is.in_order)
+      listed map limits s spread.balanced.places label (filter has_it plan.seeds)
+      (AllPairs-filter (λ a b. place_of map.width a < place_of map.width b) has_it plan.seeds is.in_order)
       (λ c h. (
-        All-contains (IsInside map) (filter (λ d. eqb (label_at map.width s d) label) plan.seeds) c (All-filter (λ d. eqb (label_at map.width s d) label) (IsInside map) plan.seeds is.inside) h,
-        eqb-true (label_at map.width s c) label (All-contains (λ d. eqb (label_at map.width s d) label ≡ true) (filter (λ d. eqb (label_at map.width s d) label) plan.seeds) c (filter_passes (λ d. eqb (label_at map.width s d) label) plan.seeds) h),
+        All-contains (IsInside map) (filter has_it plan.seeds) c (All-filter has_it (IsInside map) plan.seeds is.inside) h,
+        eqb-true (label_at map.width s c) label
+            (All-contains (λ d. has_it d ≡ true) (filter has_it plan.seeds) c (filter_passes has_it plan.seeds) h),
       ))
       (λ c within same.
       let has = is.whole root c seed loose (reached_if_has c within same) in
-      contains_filtered (λ d. eqb (label_at map.width s d) label) plan.seeds c has.0 has.1 has.2 (eq-eqb (label_at map.width s c) label same))
+      contains_filtered has_it plan.seeds c has.0 has.1 has.2 (eq-eqb (label_at map.width s c) label same))

@@ -31,7 +31,8 @@ module _ (old new : Map) (sides : HaveSameSides old new) (components : List (Lis
       (straight_is_legal old a by b straight legal.target (member_is_passable old (get_or components label []) (list.each label [] low) a has) free)
 
   -- the component beside a changed cell is touched
-  pub beside_touched : (label : ℕ) → label < length components → (a : Cell) (by : Move) (b : Cell) → is_diagonal by ≡ false → IsLegal new a by b → Contains changed a → Contains (get_or components label []) b → IsTouched touched label
+  pub beside_touched : (label : ℕ) → label < length components → (a : Cell) (by : Move) (b : Cell) → is_diagonal by ≡ false
+      → IsLegal new a by b → Contains changed a → Contains (get_or components label []) b → IsTouched touched label
   beside_touched label low a by b straight legal change has =
       (t.each a change).beside by legal.leaves.inside straight b label legal.target legal.enters.inside (record { below = low; has = has })
 

@@ -11,7 +11,8 @@ use Rattle.components.specs.Floods.{IsScanned}
 use Rattle.components.specs.Groups.{cells_with, components_of, AreGrouped, IsWhole, IsLabelOf}
 use Rattle.components.proofs.Listing.{its_label, has_label, component_at, component_count, scanned_lists}
 
-module _ (width height : ℕ) (labels starts : List ℕ) (cells : List Cell) (p : IsWhole width height labels starts cells) (components : List (List Cell)) (view : components_of width labels (length starts - 1) ≡ components) where
+module _ (width height : ℕ) (labels starts : List ℕ) (cells : List Cell) (p : IsWhole width height labels starts cells)
+    (components : List (List Cell)) (view : components_of width labels (length starts - 1) ≡ components) where
   pub how_many : length components ≡ length starts - 1
   how_many = sym (ap length view) ∙ component_count width labels (length starts - 1)
 

@@ -51,7 +51,8 @@ first_not_after w cells p c has inside =
           omega arith
     ]
 
-module _ (old new : Map) (limits : IsWithinLimits new.width new.height) (sides : HaveSameSides old new) (components : List (List Cell)) (list : IsComponentList old components) (changed : List Cell) (are : AreChanged old new changed)
+module _ (old new : Map) (limits : IsWithinLimits new.width new.height) (sides : HaveSameSides old new) (components : List (List Cell))
+    (list : IsComponentList old components) (changed : List Cell) (are : AreChanged old new changed)
     (touched : List Bool) (t : AreTouched new components changed touched) (ranks : List ℕ) (former : HasFormerRanks components touched ranks)
     (passable : (c : Cell) → Contains changed c → IsPassable new c → Contains ranks (rank_of c)) (known : AreRanks new ranks) (seeds : List Cell) (p : AreCellsOf ranks seeds) where
   abbrev pub plan : Plan
@@ -155,9 +156,12 @@ module _ (old new : Map) (limits : IsWithinLimits new.width new.height) (sides :
   }
 
 -- the plan from the ranks of former components, to which those of passable changed cells are added, and which are sorted then
-module _ (old new : Map) (limits : IsWithinLimits new.width new.height) (sides : HaveSameSides old new) (components : List (List Cell)) (list : IsComponentList old components) (changed : List Cell) (are : AreChanged old new changed)
+module _ (old new : Map) (limits : IsWithinLimits new.width new.height) (sides : HaveSameSides old new) (components : List (List Cell))
+    (list : IsComponentList old components) (changed : List Cell) (are : AreChanged old new changed)
     (touched : List Bool) (t : AreTouched new components changed touched) (first : List ℕ) (former : AreFormerRanks components touched (length components) first)
-    (more : List ℕ) (kept : (rank : ℕ) → Contains first rank → Contains more rank) (passable : (c : Cell) → Contains changed c → IsPassable new c → Contains more (rank_of c)) (inside : AreRanks new first → AreRanks new more)
+    (more : List ℕ) (kept : (rank : ℕ) → Contains first rank → Contains more rank)
+    (passable : (c : Cell) → Contains changed c → IsPassable new c → Contains more (rank_of c))
+    (inside : AreRanks new first → AreRanks new more)
     (ranks : List ℕ) (sorted : IsPermutation more ranks) (seeds : List Cell) (p : AreCellsOf ranks seeds) where
   sorted_has : (rank : ℕ) → Contains more rank → Contains ranks rank
   sorted_has rank has = Contains-permutation more ranks rank sorted has

@@ -95,7 +95,9 @@ module _ (map : Map) (cells : List Cell) where
     pub pushing_skip : (IsPassable map y → ⊥) → IsPushing map cells (i + 1) old ranks
     pushing_skip blocked = record {
       kept = p.kept;
-      more = all_below_more (λ c. IsPassable map c → Contains ranks (rank_of c)) (λ c. IsPassable map c → Contains ranks (rank_of c)) cells i y within at p.more (λ c h. h) (λ free. absurd (blocked free));
+      more =
+          let IsPushed : Cell → Type 0 = λ c. IsPassable map c → Contains ranks (rank_of c) in
+          all_below_more IsPushed IsPushed cells i y within at p.more (λ c h. h) (λ free. absurd (blocked free));
       inside = p.inside;
     }
 

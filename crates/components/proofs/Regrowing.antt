@@ -29,7 +29,9 @@ use Rattle.components.proofs.SameLists.{listed, cells_with_rise}
 kept_length : (label : ℕ) (labels : List ℕ) (m : ℕ) → ℕ
 kept_length label labels m = length (filter (λ q. eqb (get_or labels q 0) label) (range_with_len 0 m))
 
-kept_length_more : (label : ℕ) (labels : List ℕ) (m : ℕ) → m < length labels → kept_length label labels m ≡ count_same label (take m labels) → kept_length label labels (m + 1) ≡ count_same label (take (m + 1) labels)
+kept_length_more : (label : ℕ) (labels : List ℕ) (m : ℕ) → m < length labels
+    → kept_length label labels m ≡ count_same label (take m labels)
+    → kept_length label labels (m + 1) ≡ count_same label (take (m + 1) labels)
 unfolding kept_length
 kept_length_more label labels m less before =
     let test : ℕ → Bool = λ q. eqb (get_or labels q 0) label in
@@ -58,7 +60,8 @@ length-cells_with width label labels =
 
 -- ---- one component more
 
-module _ (m : Map) (limits : IsWithinLimits m.width m.height) (number : ℕ) (low : number < UNLABELLED) (root : Cell) (s : Marks) (flooded : IsFlooded m number s) (t : Marks) (spread : IsSpread m number root s t) (after : IsFlooded m (number + 1) t) where
+module _ (m : Map) (limits : IsWithinLimits m.width m.height) (number : ℕ) (low : number < UNLABELLED) (root : Cell) (s : Marks)
+    (flooded : IsFlooded m number s) (t : Marks) (spread : IsSpread m number root s t) (after : IsFlooded m (number + 1) t) where
   -- as many cells more are found as the component has
   pub grown_count : t.count ≡ s.count + length (cells_with m.width t.labels number)
   grown_count =
@@ -93,8 +96,11 @@ slice_last : (xs ys : List Cell) (a b : ℕ) → a ≡ length xs → b ≡ lengt
 slice_last xs ys a b begin end =
     ap (take (b - a)) (ap (λ k. drop k (xs ++ ys)) begin ∙ drop-append_seam xs ys) ∙ take_all (b - a) ys (let l = length-append xs ys in omega arith)
 
-module _ (width number : ℕ) (old new : List ℕ) (kept : (label : ℕ) → label < number → cells_with width old label ≡ cells_with width new label) (starts : List ℕ) (cells : List Cell) (p : AreGrouped width old starts cells)
-    (size : length starts ≡ number + 1) (ends : get_or starts number 0 ≡ length cells) (more : List Cell) (more_is : more ≡ cells ++ cells_with width new number) (end : ℕ) (end_is : end ≡ length more) where
+module _ (width number : ℕ) (old new : List ℕ)
+    (kept : (label : ℕ) → label < number → cells_with width old label ≡ cells_with width new label) (starts : List ℕ)
+    (cells : List Cell) (p : AreGrouped width old starts cells)
+    (size : length starts ≡ number + 1) (ends : get_or starts number 0 ≡ length cells) (more : List Cell)
+    (more_is : more ≡ cells ++ cells_with width new number) (end : ℕ) (end_is : end ≡ length more) where
   start_kept : (label : ℕ) → label < number + 1 → get_or (starts ++ end ∷ []) label 0 ≡ get_or starts label 0
   start_kept label less = get_or_append_left starts (end ∷ []) 0 label (omega arith)
 
@@ -173,7 +179,8 @@ at_start m plan s scanned = record {
 pub regrowing_start : (m : Map) (plan : Plan) (s : Marks) → IsScanned m 0 0 s → (starts : List ℕ) (cells : List Cell) → starts ≡ 0 ∷ [] → cells ≡ [] → IsRegrowing m plan 0 0 s starts cells
 regrowing_start m plan s scanned starts cells first none = rw (first, none) (at_start m plan s scanned)
 
-module _ (m : Map) (limits : IsWithinLimits m.width m.height) (plan : Plan) (is : IsPlan m plan) (i number : ℕ) (s : Marks) (starts : List ℕ) (cells : List Cell) (p : IsRegrowing m plan i number s starts cells) where
+module _ (m : Map) (limits : IsWithinLimits m.width m.height) (plan : Plan) (is : IsPlan m plan) (i number : ℕ) (s : Marks)
+    (starts : List ℕ) (cells : List Cell) (p : IsRegrowing m plan i number s starts cells) where
   labelled_along : (a c : Cell) → Reaches m a c → label_at m.width s a < UNLABELLED → label_at m.width s c < UNLABELLED
   labelled_along a c reach labelled =
       kept_along m (λ d. label_at m.width s d < UNLABELLED) (λ x by y straight legal has. let e = p.scanned.flooded.closed x by y straight legal has in omega arith) a reach.0 c reach.1 labelled
@@ -255,7 +262,8 @@ module _ (m : Map) (limits : IsWithinLimits m.width m.height) (plan : Plan) (is 
       count = p.count;
     }
 
-    module _ (fresh : IsFresh m s seed) (t : Marks) (spread : IsSpread m number seed s t) (after : IsFlooded m (number + 1) t) (more : List Cell) (more_is : more ≡ cells ++ cells_with m.width t.labels number) where
+    module _ (fresh : IsFresh m s seed) (t : Marks) (spread : IsSpread m number seed s t) (after : IsFlooded m (number + 1) t)
+        (more : List Cell) (more_is : more ≡ cells ++ cells_with m.width t.labels number) where
       pub more_count : length more ≡ t.count
       more_count =
           let l = ap length more_is ∙ length-append cells (cells_with m.width t.labels number) in
@@ -267,6 +275,9 @@ module _ (m : Map) (limits : IsWithinLimits m.width m.height) (plan : Plan) (is 
           let l = limits.cells in
           omega (arith, more_count, spread.balanced.room, spread.balanced.whole, count_by-le-length (λ b. b) m.passable)
 
+      same_cells : (label : ℕ) → label < number → cells_with m.width s.labels label ≡ cells_with m.width t.labels label
+      same_cells = cells_kept m limits number few_labels seed s p.scanned.flooded t spread after
+
       pub regrowing_more : (end : ℕ) → end ≡ length more → IsRegrowing m plan (i + 1) (number + 1) t (starts ++ end ∷ []) more
       regrowing_more end end_is = record {
         place = place_of m.width seed + 1;
@@ -274,8 +285,9 @@ module _ (m : Map) (limits : IsWithinLimits m.width m.height) (plan : Plan) (is 
         most = let n = seed_place in omega arith;
         behind = behind_next;
         ahead = ahead_next;
-        grouped = grouped_more m.width number s.labels t.labels (cells_kept m limits number few_labels seed s p.scanned.flooded t spread after) starts cells p.grouped p.size p.ends more more_is end end_is;
+        grouped = grouped_more m.width number s.labels t.labels same_cells starts cells p.grouped p.size p.ends more more_is end end_is;
         size = length_push starts end ∙ (let z = p.size in omega arith);
-        ends = last_start m.width number s.labels t.labels (cells_kept m limits number few_labels seed s p.scanned.flooded t spread after) starts cells p.grouped p.size p.ends more more_is end end_is (number + 1) refl ∙ end_is;
+        ends = last_start m.width number s.labels t.labels same_cells starts cells p.grouped p.size p.ends more more_is end end_is
+            (number + 1) refl ∙ end_is;
         count = more_count;
       }

@@ -82,7 +82,9 @@ module _ (map : Map) (place number : ℕ) (s : Marks) (p : IsScanned map place n
     }
 
 -- nothing is labelled yet
-pub scanned_start : (map : Map) (s : Marks) → length map.passable ≡ map.width * map.height → s.labels ≡ replicate (map.width * map.height) UNLABELLED → length s.found ≡ count_by (λ b. b) map.passable → s.count ≡ 0 → IsScanned map 0 0 s
+pub scanned_start : (map : Map) (s : Marks) → length map.passable ≡ map.width * map.height
+    → s.labels ≡ replicate (map.width * map.height) UNLABELLED → length s.found ≡ count_by (λ b. b) map.passable → s.count ≡ 0
+    → IsScanned map 0 0 s
 scanned_start map s whole labels room count =
     let size : length s.labels ≡ map.width * map.height = ap length labels ∙ length-replicate (map.width * map.height) UNLABELLED in
     let none : (place : ℕ) → place < length s.labels → get_or s.labels place 0 ≡ UNLABELLED =
@@ -114,7 +116,8 @@ scanned_start map s whole labels room count =
     }
 
 -- one component more begins where the cells found before end
-pub starts_more : (map : Map) (number : ℕ) (cell : Cell) (s t : Marks) (starts : List ℕ) → number < UNLABELLED → AreStarts number s.labels starts → IsFlooded map number s → IsSpread map number cell s t
+pub starts_more : (map : Map) (number : ℕ) (cell : Cell) (s t : Marks) (starts : List ℕ) → number < UNLABELLED
+    → AreStarts number s.labels starts → IsFlooded map number s → IsSpread map number cell s t
     → AreStarts (number + 1) t.labels (starts ++ s.count ∷ [])
 starts_more map number cell s t starts low p flooded spread = record {
   size = length_push starts s.count ∙ (let z = p.size in omega arith);
@@ -143,7 +146,8 @@ pub record IsScanning (map : Map) (place number : ℕ) (s : Marks) (starts : Lis
   pub starts_are : AreStarts number s.labels starts
   pub stands : StandsAt map place cell
 
-module _ (map : Map) (place number : ℕ) (s : Marks) (starts : List ℕ) (cell : Cell) (p : IsScanning map place number s starts cell) (next : Cell) (column : next.x < map.width) (beside : place_of map.width next ≡ place_of map.width cell + 1) where
+module _ (map : Map) (place number : ℕ) (s : Marks) (starts : List ℕ) (cell : Cell) (p : IsScanning map place number s starts cell)
+    (next : Cell) (column : next.x < map.width) (beside : place_of map.width next ≡ place_of map.width cell + 1) where
   next_stands : StandsAt map (place + 1) next
   next_stands = record { at = beside ∙ ap (λ n. n + 1) p.stands.at; column = column }
 

@@ -28,7 +28,8 @@ labelled_passable map s c b inside low = record { inside = inside; passable = b.
 abbrev pub IsWaiting : Marks → ℕ → Cell → Type 0
 IsWaiting s next c = (i : ℕ) × (next ≤ i) × (i < s.count) × (get_or s.found i c ≡ c)
 
-module _ (map : Map) (label : ℕ) (low : label < UNLABELLED) (root : Cell) (free : IsPassable map root) (old : Marks) (flooded : IsFlooded map label old) (unlabelled : label_at map.width old root ≡ UNLABELLED) where
+module _ (map : Map) (label : ℕ) (low : label < UNLABELLED) (root : Cell) (free : IsPassable map root) (old : Marks)
+    (flooded : IsFlooded map label old) (unlabelled : label_at map.width old root ≡ UNLABELLED) where
   abbrev w : ℕ
   w = map.width
 
@@ -138,7 +139,8 @@ module _ (map : Map) (label : ℕ) (low : label < UNLABELLED) (root : Cell) (fre
         ]
 
 -- what a claim leaves of what was labelled
-pub claimed_keeps : (map : Map) (label : ℕ) (from : Cell) (by : Move) (s t : Marks) → Claimed map label from by s t → (c : Cell) → IsInside map c → label_at map.width s c < UNLABELLED → label_at map.width t c ≡ label_at map.width s c
+pub claimed_keeps : (map : Map) (label : ℕ) (from : Cell) (by : Move) (s t : Marks) → Claimed map label from by s t → (c : Cell)
+    → IsInside map c → label_at map.width s c < UNLABELLED → label_at map.width t c ≡ label_at map.width s c
 claimed_keeps map label from by s t claimed c inside lower =
     elim claimed [
       | inl same ↦ ap (λ m. label_at map.width m c) same.0

@@ -21,10 +21,12 @@ beside_all map components cell touched n e so we SW straight = absurd (let h : t
 beside_all map components cell touched n e so we W straight = we
 beside_all map components cell touched n e so we NW straight = absurd (let h : true ≡ false = straight in cc)
 
-pub beside_later : (map : Map) (components : List (List Cell)) (cell : Cell) (by : Move) (old new : List Bool) → KeepsTouched old new → TouchesBeside map components cell by old → TouchesBeside map components cell by new
+pub beside_later : (map : Map) (components : List (List Cell)) (cell : Cell) (by : Move) (old new : List Bool) → KeepsTouched old new
+    → TouchesBeside map components cell by old → TouchesBeside map components cell by new
 beside_later map components cell by old new kept t = λ next label target inside is. kept label (t next label target inside is)
 
-pub around_later : (map : Map) (components : List (List Cell)) (cell : Cell) (old new : List Bool) → KeepsTouched old new → TouchesAround map components cell old → TouchesAround map components cell new
+pub around_later : (map : Map) (components : List (List Cell)) (cell : Cell) (old new : List Bool) → KeepsTouched old new
+    → TouchesAround map components cell old → TouchesAround map components cell new
 around_later map components cell old new kept t = record {
   own = λ label inside is. kept label (t.own label inside is);
   beside = λ by inside straight. beside_later map components cell by old new kept (t.beside by inside straight);
@@ -53,7 +55,8 @@ module _ (map : Map) (components : List (List Cell)) (cells : List Cell) where
   pub touching_start : (touched : List Bool) → length touched ≡ length components → IsTouching map components cells 0 touched
   touching_start touched size = record { size = size; each = all_below_none (λ c. TouchesAround map components c touched) cells }
 
-  pub touching_more : (i : ℕ) (old : List Bool) → IsTouching map components cells i old → (y : Cell) → i < length cells → y ≡ get_or cells i y → (new : List Bool) → length new ≡ length old → KeepsTouched old new
+  pub touching_more : (i : ℕ) (old : List Bool) → IsTouching map components cells i old → (y : Cell) → i < length cells
+      → y ≡ get_or cells i y → (new : List Bool) → length new ≡ length old → KeepsTouched old new
       → TouchesAround map components y new → IsTouching map components cells (i + 1) new
   touching_more i old p y within at new size kept around = record {
     size = omega (arith, p.size);

@@ -58,10 +58,12 @@ IsLoose plan cell = (label : ℕ) → IsLabelOf plan.components cell label → I
 -- loose seed reaches are seeds.
 pub record IsPlan (map : Map) (plan : Plan) : Type 0 where
   pub size : length plan.touched ≡ length plan.components
-  pub kept : (label : ℕ) → label < length plan.components → slice_index_or plan.touched label false ≡ false → IsComponent map (slice_index_or plan.components label [])
+  pub kept : (label : ℕ) → label < length plan.components → slice_index_or plan.touched label false ≡ false
+      → IsComponent map (slice_index_or plan.components label [])
   pub inside : All (IsInside map) plan.seeds
   pub in_order : AllPairs (λ a b. place_of map.width a < place_of map.width b) plan.seeds
-  pub rooted : (cell : Cell) → IsPassable map cell → (seed : Cell) × Contains plan.seeds seed × Reaches map seed cell × (place_of map.width seed ≤ place_of map.width cell)
+  pub rooted : (cell : Cell) → IsPassable map cell
+      → (seed : Cell) × Contains plan.seeds seed × Reaches map seed cell × (place_of map.width seed ≤ place_of map.width cell)
   pub whole : (seed cell : Cell) → Contains plan.seeds seed → IsLoose plan seed → Reaches map seed cell → Contains plan.seeds cell
 
 -- the component of the cell before the edit, which the edit does not touch
@@ -102,9 +104,11 @@ StandsBefore ranks i = (j : ℕ) × (j < i) × (slice_index ranks j ≡ slice_in
 
 -- ranks of the first cells of untouched components and of all cells of the touched ones, up to a number
 pub record AreFormerRanks (components : List (List Cell)) (touched : List Bool) (number : ℕ) (ranks : List ℕ) : Type 0 where
-  pub of_kept : (label : ℕ) → label < number → slice_index_or touched label false ≡ false → Contains ranks (rank_of (first_of (slice_index_or components label [])))
+  pub of_kept : (label : ℕ) → label < number → slice_index_or touched label false ≡ false
+      → Contains ranks (rank_of (first_of (slice_index_or components label [])))
   pub known : All (λ rank. (cell : Cell) × (label : ℕ) × IsLabelOf components cell label × (rank ≡ rank_of cell)) ranks
-  pub of_touched : (label : ℕ) (cell : Cell) → label < number → IsTouched touched label → Contains (slice_index_or components label []) cell → Contains ranks (rank_of cell)
+  pub of_touched : (label : ℕ) (cell : Cell) → label < number → IsTouched touched label
+      → Contains (slice_index_or components label []) cell → Contains ranks (rank_of cell)
 
 -- the cells with these ranks, each once, in row-major order
 pub record AreCellsOf (ranks : List ℕ) (cells : List Cell) : Type 0 where

@@ -20,7 +20,8 @@ pub record IsBalanced (map : Map) (marks : Marks) : Type 0 where
   pub room : length marks.found ≡ passable_count map
   pub count : marks.count ≡ count_below UNLABELLED marks.labels
   pub range : (place : ℕ) → slice_index marks.labels place ≤ UNLABELLED
-  pub passable : (place : ℕ) → place < length marks.labels → slice_index marks.labels place < UNLABELLED → slice_index_or map.passable place false ≡ true
+  pub passable : (place : ℕ) → place < length marks.labels → slice_index marks.labels place < UNLABELLED
+      → slice_index_or map.passable place false ≡ true
 
 -- a cell that has the label and whose move was tried: its target got the label if it was fresh, and else all stayed
 abbrev pub Claimed : Map → ℕ → Cell → Move → Marks → Marks → Type 0
@@ -38,7 +39,8 @@ IsSurrounded map marks cell =
 pub record IsSpread (map : Map) (label : ℕ) (root : Cell) (old new : Marks) : Type 0 where
   pub balanced : IsBalanced map new
   pub begun : label_at map.width new root ≡ label
-  pub kept : (cell : Cell) → IsInside map cell → label_at map.width old cell < UNLABELLED → label_at map.width new cell ≡ label_at map.width old cell
+  pub kept : (cell : Cell) → IsInside map cell → label_at map.width old cell < UNLABELLED
+      → label_at map.width new cell ≡ label_at map.width old cell
   pub fresh : (cell : Cell) → IsInside map cell → label_at map.width new cell < UNLABELLED
       → (label_at map.width old cell ≡ label_at map.width new cell)
       ⊎ ((label_at map.width old cell ≡ UNLABELLED) × (label_at map.width new cell ≡ label) × Reaches map root cell)
@@ -49,8 +51,10 @@ pub record IsSpread (map : Map) (label : ℕ) (root : Cell) (old new : Marks) : 
 -- all labels are below the number; straight moves keep the label, and cells of one label are reached from each other
 pub record IsFlooded (map : Map) (number : ℕ) (marks : Marks) : Type 0 where
   pub balanced : IsBalanced map marks
-  pub known : (place : ℕ) → place < length marks.labels → (slice_index marks.labels place < number) ⊎ (slice_index marks.labels place ≡ UNLABELLED)
-  pub closed : (from : Cell) (by : Move) (to : Cell) → IsFalse (is_diagonal by) → IsLegal map from by to → label_at map.width marks from < UNLABELLED
+  pub known : (place : ℕ) → place < length marks.labels
+      → (slice_index marks.labels place < number) ⊎ (slice_index marks.labels place ≡ UNLABELLED)
+  pub closed : (from : Cell) (by : Move) (to : Cell) → IsFalse (is_diagonal by) → IsLegal map from by to
+      → label_at map.width marks from < UNLABELLED
       → label_at map.width marks to ≡ label_at map.width marks from
   pub joined : (a b : Cell) → IsInside map a → IsInside map b → label_at map.width marks a < UNLABELLED
       → label_at map.width marks b ≡ label_at map.width marks a → Reaches map a b
@@ -60,9 +64,12 @@ pub record IsFlooded (map : Map) (number : ℕ) (marks : Marks) : Type 0 where
 pub record IsScanned (map : Map) (place number : ℕ) (marks : Marks) : Type 0 where
   pub flooded : IsFlooded map number marks
   pub passed : (cell : Cell) → IsPassable map cell → place_of map.width cell < place → label_at map.width marks cell < UNLABELLED
-  pub rooted : (label : ℕ) → label < number → (cell : Cell) × IsInside map cell × (place_of map.width cell < place) × (label_at map.width marks cell ≡ label)
-  pub ordered : (cell : Cell) (label : ℕ) → IsInside map cell → label_at map.width marks cell < UNLABELLED → label < label_at map.width marks cell
-      → (earlier : Cell) × IsInside map earlier × (place_of map.width earlier < place_of map.width cell) × (label_at map.width marks earlier ≡ label)
+  pub rooted : (label : ℕ) → label < number
+      → (cell : Cell) × IsInside map cell × (place_of map.width cell < place) × (label_at map.width marks cell ≡ label)
+  pub ordered : (cell : Cell) (label : ℕ) → IsInside map cell → label_at map.width marks cell < UNLABELLED
+      → label < label_at map.width marks cell
+      → (earlier : Cell) × IsInside map earlier × (place_of map.width earlier < place_of map.width cell)
+      × (label_at map.width marks earlier ≡ label)
   pub few : number ≤ place
 
 -- those of the cells that have the label

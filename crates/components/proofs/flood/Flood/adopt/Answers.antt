@@ -20,11 +20,12 @@ loop-cell-preserved c =
     elim c.if-is_fresh.branch [
       | then-is_fresh w ↦
           rw (w.self-is, w.mark-then-is_fresh.ensures)
-          (adopting_more _ _ c.requires.label _ _ c.requires.root c.requires.flooded _ c.requires.component c.requires.has _ _ c.loop-cell.invariant _ c.loop-cell-test.true (read_at _ _ _ c.loop-cell-test.true)
-          (c.is_fresh.ensures.0 w.if-is_fresh.true))
+          (adopting_more _ _ c.requires.label _ _ c.requires.root c.requires.flooded _ c.requires.component c.requires.has _ _
+          c.loop-cell.invariant _ c.loop-cell-test.true (read_at _ _ _ c.loop-cell-test.true) (c.is_fresh.ensures.0 w.if-is_fresh.true))
       | else-is_fresh w ↦
           rw w.self-is
-          (adopting_skip _ _ c.requires.label _ _ c.requires.root c.requires.flooded _ c.requires.component c.requires.has _ _ c.loop-cell.invariant _ c.loop-cell-test.true (read_at _ _ _ c.loop-cell-test.true)
+          (adopting_skip _ _ c.requires.label _ _ c.requires.root c.requires.flooded _ c.requires.component c.requires.has _ _
+          c.loop-cell.invariant _ c.loop-cell-test.true (read_at _ _ _ c.loop-cell-test.true)
           (iff_false c.is_fresh.ensures w.if-is_fresh.false))
     ]
 

@@ -1,6 +1,6 @@
-use Rattle.std.proofs.Common.{◌≡◌, ◌-◌, ◌<◌, vec_len, length, get_or, rules, ap, ◌∙◌, arith}
+use Rattle.std.proofs.Common.{◌≡◌, ◌-◌, ◌<◌, vec_len, length, rules, ap, arith}
 use Rattle.std.proofs.lemmas.Bool.{iff_false}
-use Rattle.components.proofs.Below.{read_at}
+use Rattle.components.proofs.Below.{read_in}
 use Rattle.components.proofs.Regrowing.{regrowing_start, regrowing_skip, regrowing_more, few_cells, regrown}
 use Rattle.components.proofs.flood.Flood.regrow.Goals as goal
 use Rattle.components.proofs.flood.Flood.regrow.Goals.{then-is_fresh+in_ok-grow+in_ok-push, else-is_fresh}
@@ -12,20 +12,25 @@ pub overflow_cast-len : goal.overflow_cast-len
 overflow_cast-len c =
     let e = c.seeds-seed-items.ensures in
     let within : c.loop-seed.seed-index < length c.args.edit.now.seeds = omega (arith, ap length e) in
-    let at = read_at _ c.loop-seed.seed-index (record { x = 0; y = 0 }) c.loop-seed-test.true ∙ ap (λ xs. get_or xs c.loop-seed.seed-index (get_or c.seeds-seed-items.result.now c.loop-seed.seed-index (record { x = 0; y = 0 }))) e in
-    let most = few_cells _ c.requires.limits _ c.requires.plan _ _ _ _ _ c.loop-seed.invariant _ within at (c.is_fresh.ensures.0 c.if-is_fresh.true) _ c.in_ok-grow.ensures.spread c.in_ok-grow.ensures.flooded _ c.in_ok-grow.ensures.cells in
+    let at = read_in _ _ e c.loop-seed.seed-index (record { x = 0; y = 0 }) c.loop-seed-test.true in
+    let fresh = c.is_fresh.ensures.0 c.if-is_fresh.true in
+    let grown = c.in_ok-grow.ensures in
+    let most = few_cells _ c.requires.limits _ c.requires.plan _ _ _ _ _ c.loop-seed.invariant _ within at
+    fresh _ grown.spread grown.flooded _ grown.cells in
     omega (arith, c.len.ensures, c.grow.new.cells.ok.0)
 
 pub loop-seed-preserved : goal.loop-seed-preserved
 loop-seed-preserved c =
     let e = c.seeds-seed-items.ensures in
     let within : c.loop-seed.seed-index < length c.args.edit.now.seeds = omega (arith, ap length e) in
-    let at = read_at _ c.loop-seed.seed-index (record { x = 0; y = 0 }) c.loop-seed-test.true ∙ ap (λ xs. get_or xs c.loop-seed.seed-index (get_or c.seeds-seed-items.result.now c.loop-seed.seed-index (record { x = 0; y = 0 }))) e in
+    let at = read_in _ _ e c.loop-seed.seed-index (record { x = 0; y = 0 }) c.loop-seed-test.true in
     elim c.if-is_fresh.branch [
       | then-is_fresh+in_ok-grow+in_ok-push w ↦
+          let fresh = c.is_fresh.ensures.0 w.if-is_fresh.true in
+          let grown = w.in_ok-grow.ensures in
           rw (w.self-is, w.starts-is, w.cells-is, w.number-is, w.in_ok-push.ensures.items)
-          (regrowing_more _ c.requires.limits _ c.requires.plan _ _ _ _ _ c.loop-seed.invariant _ within at (c.is_fresh.ensures.0 w.if-is_fresh.true) _ w.in_ok-grow.ensures.spread w.in_ok-grow.ensures.flooded _ w.in_ok-grow.ensures.cells _
-          (omega (arith, w.len.ensures, w.grow.new.cells.ok.0)))
+          (regrowing_more _ c.requires.limits _ c.requires.plan _ _ _ _ _ c.loop-seed.invariant _ within at
+          fresh _ grown.spread grown.flooded _ grown.cells _ (omega (arith, w.len.ensures, w.grow.new.cells.ok.0)))
       | else-is_fresh w ↦
           rw (w.self-is, w.starts-is, w.cells-is, w.number-is)
           (regrowing_skip _ c.requires.limits _ c.requires.plan _ _ _ _ _ c.loop-seed.invariant _ within at (iff_false c.is_fresh.ensures w.if-is_fresh.false))

@@ -15,8 +15,19 @@ loop-place-preserved c =
           let items = w.in_ok-push.ensures.items in
           let fresh = c.is_fresh.ensures.0 w.if-is_fresh.true in
           let view = c.self-in-loop-place.view_is in
+          let scanned = c.loop-place.invariant.scanned in
+          let places = λ (m : Marks). length m.labels in
           let low : c.loop-place.number < UNLABELLED =
-          omega (arith, c.loop-place.invariant.scanned.few, c.width-width.ensures.limits.cells, ap (λ (m : Marks). length m.labels) view, c.loop-place.invariant.scanned.flooded.balanced.places, ap (λ (m : Marks). length m.labels) c.self.view_is, c.requires.flooded.balanced.places, c.self.inside.labels.ok.0) in
+          omega (
+            arith,
+            scanned.few,
+            scanned.flooded.balanced.places,
+            ap places view,
+            ap places c.self.view_is,
+            c.width-width.ensures.limits.cells,
+            c.requires.flooded.balanced.places,
+            c.self.inside.labels.ok.0,
+          ) in
           rw (w.self-is, w.starts-is, w.number-is, items)
           (scanning_more _ _ _ _ _ _ c.loop-place.invariant _ column beside low _ fresh w.spread.ensures.spread w.spread.ensures.flooded _ (ap (λ (m : Marks). m.count) view))
       | else-is_fresh w ↦
