@@ -39,11 +39,20 @@ unfolding Has HasMove
 HasMove-from_number set move has = has
 
 -- the move that is found by its number
-pub number_of_found : (found : Option Move) (number : ℕ) (P : Move → Type 0) (move : Move) → MatchOption found (7 < number) (λ m. number_of m ≡ number) → number < 8 → UnwrapsOrElse found P move → number_of move ≡ number
+number_of_found : (found : Option Move) (number : ℕ) (P : Move → Type 0) (move : Move)
+    → MatchOption found (7 < number) (λ m. number_of m ≡ number) → number < 8 → UnwrapsOrElse found P move → number_of move ≡ number
 number_of_found None number P move past below is = absurd (omega arith)
 number_of_found (Some m) number P move same below is = ap number_of is ∙ same
 
-module _ (comp : Comp) (is : IsComp comp) (from to : ℕ) (move : Move) (here : from < length comp.cells) (there : to < length comp.cells) (found : IsFound (row_at comp.rows from) to (number_of move)) where
+-- where a number was found in a row, its move was
+pub found_by_number : (found : Option Move) (number : ℕ) (P : Move → Type 0) (move : Move)
+    → MatchOption found (7 < number) (λ m. number_of m ≡ number) → number < 8 → UnwrapsOrElse found P move
+    → (read row : List Run) (to : ℕ) → read ≡ row → IsFound read to number → IsFound row to (number_of move)
+found_by_number found number P move of below is read row to same there =
+    rw (number_of_found found number P move of below is, ← same) there
+
+module _ (comp : Comp) (is : IsComp comp) (from to : ℕ) (move : Move) (here : from < length comp.cells)
+    (there : to < length comp.cells) (found : IsFound (row_at comp.rows from) to (number_of move)) where
   -- the places of two cells that are one are the same
   apart : from ≢ to → cell_of comp.cells from ≢ cell_of comp.cells to
   apart other same =

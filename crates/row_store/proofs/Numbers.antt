@@ -46,7 +46,8 @@ numbered_none cells area places blank =
           inl (ap (λ xs. get_or xs at 0) blank ∙ get_or-replicate (area.width * area.height) at NO_PLACE 0 (omega arith));
     }
 
-module _ (cells : List Cell) (area : Rectangle) (places : List ℕ) (upto : ℕ) (p : AreNumbered cells area places upto) (in_area : All (IsWithin area) cells) (once : AllPairs (λ a b. a ≢ b) cells) (less : upto < length cells) where
+module _ (cells : List Cell) (area : Rectangle) (places : List ℕ) (upto : ℕ) (p : AreNumbered cells area places upto)
+    (in_area : All (IsWithin area) cells) (once : AllPairs (λ a b. a ≢ b) cells) (less : upto < length cells) where
   abbrev here : ℕ
   here = place_in area (cell_of cells upto)
 
@@ -88,7 +89,8 @@ module _ (cells : List Cell) (area : Rectangle) (places : List ℕ) (upto : ℕ)
         ];
   })
 
-pub numbered_all : (cells : List Cell) (area : Rectangle) (places : List ℕ) (upto : ℕ) → AreNumbered cells area places upto → All (IsWithin area) cells → upto ≡ length cells → ArePlaces cells area places
+pub numbered_all : (cells : List Cell) (area : Rectangle) (places : List ℕ) (upto : ℕ) → AreNumbered cells area places upto
+    → All (IsWithin area) cells → upto ≡ length cells → ArePlaces cells area places
 numbered_all cells area places upto p in_area all = record {
   whole = p.whole;
   within = in_area;

@@ -54,7 +54,9 @@ rows_are_unique cells a b p q =
     get_or_default a k d [] within ∙ row ∙ get_or_default b k [] d there))
 
 -- a row over another map that has the same first moves from its source
-pub row_over : (a b : Map) (cells : List Cell) (from : Cell) (row : List Run) → ((to : Cell) (move : Move) → IsFirstMove a from to move ↔ IsFirstMove b from to move) → IsRowFrom a cells from row → IsRowFrom b cells from row
+pub row_over : (a b : Map) (cells : List Cell) (from : Cell) (row : List Run)
+    → ((to : Cell) (move : Move) → IsFirstMove a from to move ↔ IsFirstMove b from to move) → IsRowFrom a cells from row
+    → IsRowFrom b cells from row
 row_over a b cells from row same p = record {
   sets = p.sets;
   first = record {

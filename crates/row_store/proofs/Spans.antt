@@ -200,6 +200,14 @@ rows_blank count span start len =
 pub length-rows_in : (words : List ℕ) (spans : List Span) → length (rows_in words spans) ≡ length spans
 length-rows_in words spans = length-map spans (row_in words)
 
+-- so a row has a span
+pub row_has_span : (words : List ℕ) (spans : List Span) (place : ℕ) → place < length (rows_in words spans) → place < length spans
+row_has_span words spans place within = omega (arith, length-rows_in words spans)
+
+-- and there is room for a span where there is for a row
+pub room_for_span : (words : List ℕ) (spans : List Span) → length (rows_in words spans) < MAX_PASSABLE → length spans < MAX_PASSABLE
+room_for_span words spans few = omega (arith, length-rows_in words spans)
+
 -- the row at a place
 pub row_read : (words : List ℕ) (spans : List Span) (place : ℕ) (span : Span) → place < length spans → span ≡ get_or spans place nowhere
     → map run_of_word (take (span.start + span.len - span.start) (drop span.start words)) ≡ row_at (rows_in words spans) place

@@ -40,5 +40,6 @@ ComponentsKeepEachRow =
 -- the rows of a component's cells are the rows of these cells over the whole map
 abbrev pub ComponentsKeepRows : Type 0
 ComponentsKeepRows =
-    (map : Map) (component cells : List Cell) (rows : List (List Run)) → IsComponent map component → IsPermutation cells component → AreRows cells rows
+    (map : Map) (component cells : List Cell) (rows : List (List Run)) → IsComponent map component → IsPermutation cells component
+    → AreRows cells rows
     → (place : ℕ) → place < length cells → IsRowFrom map cells (cell_of cells place) (row_at rows place)

@@ -1,7 +1,7 @@
 //! The database of a component: the cells in an order, and from each of them the first moves to all, packed into runs.
 //!
-//! A look-up needs no search: the place of the goal is found in the row of the source, and the run that covers it keeps a
-//! move that begins a best path. (Botea 2011; Strasser, Harabor and Botea 2014)
+//! A look-up needs no search: the place of the goal is found in the row of the source, and the run that covers it keeps
+//! a move that begins a best path. (Botea 2011; Strasser, Harabor and Botea 2014)
 #![tactic(auto)]
 
 ghost use Rattle.std.specs.Prelude.{◌≡◌, ◌≢◌, ◌+◌, ◌-◌, ◌*◌, ◌^◌, ◌<◌, ◌≤◌, [], map, length, sum_by, slice_index_or, All, AllPairs, Contains, IfOk, IfSome, IfNone};
@@ -74,7 +74,8 @@ impl CompData {
         CompData::of_pool(alloc, kind, cells, pool)
     }
 
-    /// `make` from rows that lie in a pool already. No row is copied, and memory that the pool does not use is given back.
+    /// `make` from rows that lie in a pool already. No row is copied, and memory that the pool does not use is given
+    /// back.
     ///
     /// # Errors
     ///

@@ -120,8 +120,8 @@ impl RowPool {
         Ok(())
     }
 
-    /// Adds the rows of another pool, in their order. Nothing is copied where this one is empty, and else no more memory
-    /// is taken than the rows need.
+    /// Adds the rows of another pool, in their order. Nothing is copied where this one is empty, and else no more
+    /// memory is taken than the rows need.
     ///
     /// # Errors
     ///
