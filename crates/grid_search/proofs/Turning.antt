@@ -192,12 +192,7 @@ module _ (map : Map) (source : Cell) (order : List Cell) (count : ℕ) (front : 
     rooms = (refl, refl);
     same_keys = refl;
     more_taken = omega arith;
-    taken_count =
-        let a : length front.straight.pushed ≤ passable_count map = s_count in
-        let b : length front.diagonal.pushed ≤ passable_count map = d_count in
-        let f : front.straight.taken < length front.straight.pushed = first.0 in
-        let g : front.diagonal.taken ≤ length front.diagonal.pushed = r.queues.second.counted in
-        omega arith;
+    taken_count = omega (arith, s_count, d_count, first.0, r.queues.second.counted);
   }
 
   other_way : AreQueues map front.keys (take count order) r.level DIAGONAL_KEY front.diagonal STRAIGHT_KEY front.straight
@@ -225,12 +220,7 @@ module _ (map : Map) (source : Cell) (order : List Cell) (count : ℕ) (front : 
     rooms = (refl, refl);
     same_keys = refl;
     more_taken = omega arith;
-    taken_count =
-        let a : length front.straight.pushed ≤ passable_count map = s_count in
-        let b : length front.diagonal.pushed ≤ passable_count map = d_count in
-        let f : front.diagonal.taken < length front.diagonal.pushed = first.0 in
-        let g : front.straight.taken ≤ length front.straight.pushed = r.queues.first.counted in
-        omega arith;
+    taken_count = omega (arith, s_count, d_count, first.0, r.queues.first.counted);
   }
 
   pub turn_of : (entry : Waiting) (after : Opened) → after.keys ≡ front.keys → IsFirstTaken entry (queues_of front) (queues_of after)

@@ -70,8 +70,8 @@ impl Search {
 
     /// Finds the least cost of every cell from the source. It takes no memory.
     ///
-    /// The map has at most as many cells as there is room for, and at most [`MAX_PASSABLE`] passable ones; the source is
-    /// passable.
+    /// The map has at most as many cells as there is room for, and at most [`MAX_PASSABLE`] passable ones; the source
+    /// is passable.
     pub fn from_source(&mut self, grid: &Grid, source: Cell)
         requires room { grid.now.width * grid.now.height ≤ self.old.room }
         requires source { IsPassable grid.now source }
@@ -95,8 +95,8 @@ impl Search {
         Cost::of_key(self.keys[place(self.width, cell)])
     }
 
-    /// The cells that are reached from the source, each once, by rising cost: the source is the first. Which of two cells
-    /// of one cost comes first is left open.
+    /// The cells that are reached from the source, each once, by rising cost: the source is the first. Which of two
+    /// cells of one cost comes first is left open.
     pub fn settled(&self) -> &[Cell]
         ensures { result.now ≡ self.now.settled }
     {

@@ -8,8 +8,8 @@ use moves::Cell;
 use std::alloc::{AllocError, Global};
 use std::marker::Model;
 
-/// The cells that wait to be settled: those that a straight step reached in one queue, those that a diagonal step reached
-/// in the other. As cells are settled by rising key, each queue is in order by itself.
+/// The cells that wait to be settled: those that a straight step reached in one queue, those that a diagonal step
+/// reached in the other. As cells are settled by rising key, each queue is in order by itself.
 #[derive(Drop)]
 pub struct OpenList {
     straight: Queue,

@@ -3,7 +3,6 @@
 ghost use Rattle.std.specs.Prelude.{◌≡◌, ℕ, ◌*◌, ◌<◌, ◌≤◌, length, take};
 ghost use Rattle.moves.specs.Maps.{IsPassable, IsSearchable, passable_count, place_of};
 ghost use Rattle.moves.specs.MoveMasks.{IsMoveMask};
-ghost use Rattle.moves.specs.Moves.{IsTarget};
 ghost use Rattle.grid_search.specs.Keys.{HasNoKeys};
 ghost use Rattle.grid_search.specs.Settling.{EveryMove, HasTarget, IsFinished, IsTargetPlace, OnlyMove};
 ghost use Rattle.grid_search.specs.Queues.{AreReady, AreStepsTaken, HasSpace, IsSettledLast, opened};
@@ -77,19 +76,21 @@ fn relax(grid: &Grid, entry: Waiting, place: usize, keys: &mut [u32], list: &mut
     step(grid, from, Move::NW, keys, list);
 }
 
-/// Takes one step from a cell that was settled last, if it is legal and the target's key is higher than what it leads to.
+/// Takes one step from a cell that was settled last, if it is legal and the target's key is higher than what it leads
+/// to.
 fn step(grid: &Grid, from: Settled, by: Move, keys: &mut [u32], list: &mut OpenList)
     requires last { IsSettledLast grid.now from.entry from.place }
     requires legal { IsMoveMask grid.now from.entry.cell from.legal }
     requires ready { AreReady grid.now from.entry.key (opened keys.old list.old) }
-    ensures { AreStepsTaken grid.now from.entry (OnlyMove by)
+    ensures steps { AreStepsTaken grid.now from.entry (OnlyMove by)
         (opened keys.old list.old) (opened keys.new list.new) }
+    ensures ready { AreReady grid.now from.entry.key (opened keys.new list.new) }
 {
     let width = grid.width();
     if from.legal >> by.number() & 1 != 1 {
         return;
     }
-    let cell = target(from.entry.cell, by);
+    let cell = from.entry.cell.target(by);
     let target_place = target_place(width, from.entry.cell, from.place, by);
     let diagonal = by.is_diagonal();
     let key = from.entry.key + step_key(diagonal);
@@ -102,26 +103,6 @@ fn step(grid: &Grid, from: Settled, by: Move, keys: &mut [u32], list: &mut OpenL
     } else {
         list.push_straight(Waiting { key, cell });
     }
-}
-
-/// The cell that the move leads to.
-fn target(from: Cell, by: Move) -> Cell
-    requires column { from.x < MAX_SIDE }
-    requires row { from.y < MAX_SIDE }
-    requires some { HasTarget from by }
-    ensures { IsTarget from by result }
-{
-    let x = match by {
-        Move::N | Move::S => from.x,
-        Move::NE | Move::E | Move::SE => from.x + 1,
-        Move::SW | Move::W | Move::NW => from.x - 1,
-    };
-    let y = match by {
-        Move::E | Move::W => from.y,
-        Move::SE | Move::S | Move::SW => from.y + 1,
-        Move::N | Move::NE | Move::NW => from.y - 1,
-    };
-    Cell { x, y }
 }
 
 /// The place of the cell that the move leads to, from the place of the cell that it leaves.
