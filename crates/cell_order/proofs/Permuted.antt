@@ -103,7 +103,10 @@ module _ (cells order : List Cell) (visits : Visits cells (first_of cells ∷ []
   first_inside = Contains-get_or cells 0 (record { x = 0; y = 0 }) some
 
   all_visited : (c : Cell) → Contains cells c → Contains order c
-  all_visited = all_reached cells order (λ c d seen near inside. closed visits c d seen (nothing_seen c) near inside) connected first_inside (reached visits (first_of cells) (0, omega arith, refl) first_inside)
+  all_visited =
+      let first_seen = reached visits (first_of cells) (0, omega arith, refl) first_inside in
+      all_reached cells order (λ c d seen near inside. closed visits c d seen (nothing_seen c) near inside)
+      connected first_inside first_seen
 
   none_apart : AreApart {X = Cell} []
   none_apart i j d less within = absurd (omega arith)
