@@ -34,6 +34,12 @@ module _ (map : Map) (source : Cell) (search : Searched) (found : List (Move × 
   begun_past : (cell : Cell) (move : Move) → IsSeeded map source search found n cell move → IsSeeded map source search found (n + 1) cell move
   begun_past cell move h = (h.0, let low = h.1 in omega arith, h.2, h.3)
 
+  -- among the first `n + 1` neighbours, one that is not among the first `n` is the next
+  next_neighbour : (k : ℕ) (cell : Cell) (move : Move) → k < n + 1 → n ≤ k → get_or found k filler ≡ (move, cell) → pair ≡ (move, cell)
+  next_neighbour k cell move below high at =
+      let last : k ≡ n = omega arith in
+      sym here ∙ ap (λ j. get_or found j filler) (sym last) ∙ at
+
   -- a neighbour whose cost the move does not attain changes nothing
   pub begun_no_more : (Attains map search source pair.0 pair.1 → ⊥) → IsBegun map source search found (n + 1) sets
   begun_no_more none = record {
@@ -42,9 +48,7 @@ module _ (map : Map) (source : Cell) (search : Searched) (found : List (Move × 
       λ h. elim (cases_lt h.0 n) [
         | inl low ↦ (begun.each cell inside move).1 (h.0, low, h.2, h.3)
         | inr high ↦
-            let k = h.0 in let below = h.1 in
-            let last : k ≡ n = omega arith in
-            let same : pair ≡ (move, cell) = sym here ∙ ap (λ j. get_or found j filler) (sym last) ∙ h.2 in
+            let same = next_neighbour h.0 cell move h.1 high h.2 in
             absurd (none (subst (λ p. Attains map search source p.0 p.1) (sym same) h.3))
       ],
     );
@@ -64,9 +68,7 @@ module _ (map : Map) (source : Cell) (search : Searched) (found : List (Move × 
       λ h. elim (cases_lt h.0 n) [
         | inl low ↦ (made move).1 (inl ((begun.each pair.1 step.legal.enters.inside move).1 (h.0, low, h.2, h.3)))
         | inr high ↦
-            let k = h.0 in let below = h.1 in
-            let last : k ≡ n = omega arith in
-            let same : pair ≡ (move, pair.1) = sym here ∙ ap (λ j. get_or found j filler) (sym last) ∙ h.2 in
+            let same = next_neighbour h.0 pair.1 move h.1 high h.2 in
             (made move).1 (inr (ap (λ p. p.0) (sym same)))
       ],
     )
@@ -78,9 +80,7 @@ module _ (map : Map) (source : Cell) (search : Searched) (found : List (Move × 
       λ h. elim (cases_lt h.0 n) [
         | inl low ↦ (begun.each cell inside move).1 (h.0, low, h.2, h.3)
         | inr high ↦
-            let k = h.0 in let below = h.1 in
-            let last : k ≡ n = omega arith in
-            let same : pair ≡ (move, cell) = sym here ∙ ap (λ j. get_or found j filler) (sym last) ∙ h.2 in
+            let same = next_neighbour h.0 cell move h.1 high h.2 in
             absurd (apart (ap (λ p. p.1) same))
       ],
     )

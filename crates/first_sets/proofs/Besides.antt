@@ -1,5 +1,5 @@
 -- Places beside a place, sets brought from there, and tests by arithmetic.
-use Rattle.std.proofs.Common.{◌≡◌, ◌≢◌, ◌⊎◌, ◌↔◌, ℕ, ◌+◌, ◌-◌, ◌*◌, ◌/◌, ◌%◌, ◌^◌, ◌<◌, ◌≤◌, inl, inr, sym, ap, subst, ◌∙◌, arith, List, length, get_or}
+use Rattle.std.proofs.Common.{◌≡◌, ◌≢◌, ◌⊎◌, ◌↔◌, ℕ, ◌+◌, ◌-◌, ◌*◌, ◌/◌, ◌%◌, ◌^◌, ◌<◌, ◌≤◌, inl, inr, sym, ap, subst, ◌∙◌, arith, List, [], length, get_or}
 use Rattle.std.specs.Int.{bit_at}
 use Rattle.std.specs.Int.RustNames.{bit_or, bit_xor}
 use Rattle.std.specs.Int.Bits.{bit_and}
@@ -213,3 +213,10 @@ amid_legal w place n around leads by to e has next low = subst (λ k. get_or aro
 
 pub amid_other : (place n from : ℕ) (by : Move) → number_of by ≡ n → (Has 255 by → ⊥) → from ≡ place
 amid_other place n from by e none = absurd (none (Has-all by))
+
+pub amid_inside : (w : ℕ) (keys : List ℕ) (place n : ℕ) (around : List ℕ) → n < 8 → length keys < 18446744073709551616
+    → StaysWithin w (length keys) 255 place → place < length keys
+    → ((by : Move) (to : ℕ) → IsBeside w by place to → get_or around (number_of by) 0 ≡ to) → get_or around n 0 < length keys
+amid_inside w keys place n around l small near inside leads =
+    from_inside w keys [] 255 place n (get_or around n 0) l small near inside
+    (amid_legal w place n around leads) (amid_other place n (get_or around n 0))

@@ -78,8 +78,8 @@ impl Around {
     }
 }
 
-/// The same in the open, where all eight moves are legal: no move is asked for, and what the neighbours' keys are can be
-/// foreseen, so that branches are faster.
+/// The same in the open, where all eight moves are legal: no move is asked for, and what the neighbours' keys are can
+/// be foreseen, so that branches are faster.
 fn join_amid(width: usize, sets: &[u8], keys: &[u32], place: usize) -> u8
     requires { CanJoin width keys.now sets.now EVERY_MOVE place }
     ensures { IsJoined width keys.now sets.now EVERY_MOVE place result }

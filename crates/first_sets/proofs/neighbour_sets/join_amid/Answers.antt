@@ -1,5 +1,5 @@
 use Rattle.std.proofs.Common.{◌+◌, arith, sym, ap, ◌∙◌, get_or}
-use Rattle.first_sets.proofs.Besides.{from_inside, brought_more, joined_if_equal, kept_if_apart, amid_above, amid_below, amid_legal, amid_other}
+use Rattle.first_sets.proofs.Besides.{brought_more, joined_if_equal, kept_if_apart, amid_above, amid_below, amid_inside, amid_legal, amid_other}
 use Rattle.first_sets.proofs.neighbour_sets.join_amid.Goals as goal
 use Rattle.first_sets.proofs.neighbour_sets.join_amid.Goals.{then-from-numbered_step_key, else-from-numbered_step_key}
 
@@ -11,28 +11,19 @@ places_around-near-requires-clause-size c = let low = amid_below c.args.width _ 
 
 pub offset_bounds-keys-from : goal.offset_bounds-keys-from
 offset_bounds-keys-from c =
-    let n = c.loop-number.number in
-    let around = c.places_around-near.result in
-    let low = from_inside c.args.width c.args.keys.now c.args.sets.now 255 c.args.place n (get_or around n 0) c.loop-number-test.true
-    (omega arith) c.requires.near c.requires.inside
-    (amid_legal c.args.width c.args.place n around c.places_around-near.ensures) (amid_other c.args.place n (get_or around n 0)) in
+    let low = amid_inside c.args.width c.args.keys.now c.args.place c.loop-number.number c.places_around-near.result
+    c.loop-number-test.true (omega arith) c.requires.near c.requires.inside c.places_around-near.ensures in
     omega arith
 
 pub bounds-keys-from : goal.bounds-keys-from
 bounds-keys-from c =
-    let n = c.loop-number.number in
-    let around = c.places_around-near.result in
-    from_inside c.args.width c.args.keys.now c.args.sets.now 255 c.args.place n (get_or around n 0) c.loop-number-test.true
-    (omega arith) c.requires.near c.requires.inside
-    (amid_legal c.args.width c.args.place n around c.places_around-near.ensures) (amid_other c.args.place n (get_or around n 0))
+    amid_inside c.args.width c.args.keys.now c.args.place c.loop-number.number c.places_around-near.result
+    c.loop-number-test.true (omega arith) c.requires.near c.requires.inside c.places_around-near.ensures
 
 pub bounds-sets-from : goal.bounds-sets-from
 bounds-sets-from c =
-    let n = c.loop-number.number in
-    let around = c.places_around-near.result in
-    let low = from_inside c.args.width c.args.keys.now c.args.sets.now 255 c.args.place n (get_or around n 0) c.loop-number-test.true
-    (omega arith) c.requires.near c.requires.inside
-    (amid_legal c.args.width c.args.place n around c.places_around-near.ensures) (amid_other c.args.place n (get_or around n 0)) in
+    let low = amid_inside c.args.width c.args.keys.now c.args.place c.loop-number.number c.places_around-near.result
+    c.loop-number-test.true (omega arith) c.requires.near c.requires.inside c.places_around-near.ensures in
     omega arith
 
 pub loop-number-preserved : goal.loop-number-preserved
