@@ -4,7 +4,6 @@
 
 ghost use Rattle.std.specs.Prelude.{◌≡◌, ◌≢◌, ◌<◌, IfErr, IfOk, OnOk, length};
 ghost use Rattle.moves.specs.declared.Cell.{Cell};
-ghost use Rattle.moves.specs.Moves.{IsTarget};
 ghost use Rattle.moves.specs.Paths.{IsLeastCost};
 ghost use Rattle.row_store.specs.Comps.{BeginsBestPath, IsMoveOfRow};
 ghost use Rattle.versions.specs.Queries.{AreEnds, IsRefusal};
@@ -13,7 +12,7 @@ ghost use Rattle.walker.specs.Walks.{Advances, CostsAhead, HasFewAhead, IsBegun}
 #[cfg(test)]
 mod tests;
 
-use moves::{Cell, MAX_PASSABLE, MAX_SIDE, Move};
+use moves::{Cell, MAX_PASSABLE, Move};
 use root_cost::Cost;
 use row_store::CompData;
 use run_pack::steps::Steps;
@@ -78,7 +77,7 @@ impl<'a> Walk<'a> {
             return None;
         }
         let by = look_up::<Brand>(self.comp, self.place, self.goal, Blank::new(1));
-        self.at = target(self.at, by);
+        self.at = self.at.target(by);
         self.place = self.comp.index(self.at).unwrap();
         Some(by)
     }
@@ -136,24 +135,4 @@ fn look_up<L: Ledger>(comp: &CompData, from: u32, to: u32, blank: Blank) -> Move
 {
     let mut steps = Steps::<L>::new(blank);
     comp.first_move(from, to, &mut steps)
-}
-
-/// The cell that the move leads to.
-fn target(from: Cell, by: Move) -> Cell
-    requires column { from.x < MAX_SIDE }
-    requires row { from.y < MAX_SIDE }
-    requires some { (to : Cell) × IsTarget from by to }
-    ensures { IsTarget from by result }
-{
-    let x = match by {
-        Move::N | Move::S => from.x,
-        Move::NE | Move::E | Move::SE => from.x + 1,
-        Move::SW | Move::W | Move::NW => from.x - 1,
-    };
-    let y = match by {
-        Move::E | Move::W => from.y,
-        Move::SE | Move::S | Move::SW => from.y + 1,
-        Move::N | Move::NE | Move::NW => from.y - 1,
-    };
-    Cell { x, y }
 }
