@@ -1,16 +1,19 @@
 -- Taking the steps from a cell one after another, with the keys and both queues.
-use Rattle.std.proofs.Common.{◌≡◌, ℕ, ◌+◌, ◌*◌, ◌<◌, ◌≤◌, ◌⊎◌, true, false, List, length, get_or, set, refl, sym, ap, ◌∙◌, subst, inl, inr, arith}
+use Rattle.std.proofs.Common.{◌≡◌, ℕ, ◌+◌, ◌*◌, ◌/◌, ◌^◌, ◌<◌, ◌≤◌, ◌⊎◌, Bool, true, false, IsBitSet, List, length, get_or, set, refl, sym, ap, ◌∙◌, subst, inl, inr, arith}
+use Rattle.std.specs.Int.Bits.{bit_and}
+use Rattle.std.proofs.lemmas.Nat.{bit_set_by_shift}
 use Rattle.std.proofs.lemmas.List.{length-set, get_or_default}
 use Rattle.moves.specs.declared.Cell.{Cell}
 use Rattle.moves.specs.declared.Move.{Move}
 use Rattle.moves.specs.declared.Move.TheVariants.{N, NE, E, SE, S, SW, W, NW}
 use Rattle.moves.specs.Maps.{Map, place_of, passable_count}
-use Rattle.moves.specs.Moves.{is_diagonal, IsTarget, IsLegal, HasLegal}
+use Rattle.moves.specs.Moves.{number_of, is_diagonal, IsTarget, IsLegal, HasLegal}
+use Rattle.moves.specs.MoveMasks.{IsMoveMask}
 use Rattle.moves.proofs.MoveLaws.{same_target}
 use Rattle.grid_search.specs.declared.queue.Waiting.{Waiting}
 use Rattle.root_cost.specs.Keys.{step_key}
 use Rattle.grid_search.specs.Keys.{move_key, key_at}
-use Rattle.grid_search.specs.Settling.{IsRelaxed, OnlyMove, EveryMove}
+use Rattle.grid_search.specs.Settling.{IsRelaxed, IsTargetPlace, OnlyMove, EveryMove}
 use Rattle.grid_search.specs.Queues.{Pushes, push_to, AreQueues, Opened, AreOpened, AreReady, AreStepsTaken}
 use Rattle.moves.proofs.RowMajor.{place_inside}
 use Rattle.grid_search.proofs.Relaxing.{relaxed_then, relaxed_skip, relaxed_written}
@@ -45,10 +48,30 @@ module _ (map : Map) (from : Waiting) where
     length_kept = refl;
   }
 
-  -- the code's names: where the target stands, what a step costs, and how the target's key is read
-  module _ (by : Move) (to : Cell) (front : Opened) (place step width : ℕ) (here : place ≡ place_of width to) (w : width ≡ map.width)
-      (is_step : step ≡ move_key by)
-      (has : HasLegal map from.cell by) (target : IsTarget from.cell by to) (ready : AreReady map from.key front) (few : from.key ≤ GREATEST_KEY) where
+  -- a move is legal where its bit is set in the mask, as the code tests it
+  module _ (by : Move) (mask number : ℕ) (masked : IsMoveMask map from.cell mask) (numbered : number ≡ number_of by) where
+    pub legal_if_set : bit_and (mask / 2 ^ number) 1 ≡ 1 → HasLegal map from.cell by
+    legal_if_set set = (masked by).0 (subst (IsBitSet mask) numbered ((bit_set_by_shift mask number).0 set))
+
+    pub set_if_legal : HasLegal map from.cell by → bit_and (mask / 2 ^ number) 1 ≡ 1
+    set_if_legal has = (bit_set_by_shift mask number).1 (subst (IsBitSet mask) (sym numbered) ((masked by).1 has))
+
+  -- The code's names: the mask of legal moves, where the target stands, what a step costs, and how the target's key is
+  -- read.
+  module _ (by : Move) (to : Cell) (front : Opened) (mask number place width step : ℕ) (diagonal : Bool)
+      (masked : IsMoveMask map from.cell mask) (numbered : number ≡ number_of by) (set_bit : bit_and (mask / 2 ^ number) 1 ≡ 1)
+      (placed : IsTargetPlace width from.cell by place) (w : width ≡ map.width)
+      (keyed : step ≡ step_key diagonal) (kind : diagonal ≡ is_diagonal by)
+      (target : IsTarget from.cell by to) (ready : AreReady map from.key front) (few : from.key ≤ GREATEST_KEY) where
+    has : HasLegal map from.cell by
+    has = legal_if_set by mask number masked numbered set_bit
+
+    here : place ≡ place_of width to
+    here = placed to target
+
+    is_step : step ≡ move_key by
+    is_step = keyed ∙ ap step_key kind
+
     legal_to : IsLegal map from.cell by to
     legal_to = subst (λ cell. IsLegal map from.cell by cell) (same_target from.cell by has.0 to has.1.target target) has.1
 
@@ -70,7 +93,7 @@ module _ (map : Map) (from : Waiting) where
         let same : to ≡ other = same_target from.cell by to other target legal.target in
         let k : key_at map.width front.keys to ≡ key_at map.width front.keys other = ap (key_at map.width front.keys) same in
         let r : get_or front.keys place 0 ≡ key_at map.width front.keys to = read in
-        omega arith)
+        omega (arith, is_step))
 
     module _ (less : from.key + step < get_or front.keys place 0) where
       relaxed_now : IsRelaxed map from.cell from.key (OnlyMove by) front.keys (set front.keys place (from.key + step))
@@ -98,9 +121,9 @@ module _ (map : Map) (from : Waiting) where
           let count : length queue.pushed < passable_count map = room_for map front.keys settled from.key n to legal_to.enters lower queue q.first in
           omega arith
 
-      module _ (diagonal : is_diagonal by ≡ false) where
+      module _ (straight : diagonal ≡ false) where
         straight_step : step ≡ STRAIGHT_KEY
-        straight_step = is_step ∙ ap step_key diagonal
+        straight_step = keyed ∙ ap step_key straight
 
         pub straight_room : length front.straight.pushed < front.straight.room
         straight_room = room_now STRAIGHT_KEY DIAGONAL_KEY ready.settled front.straight front.diagonal straight_step ready.space.straight_room ready.queues
@@ -130,9 +153,9 @@ module _ (map : Map) (from : Waiting) where
             let e : after_straight ≡ after = λ i. record { keys = sym k i; straight = sym s i; diagonal = sym d i } in
             subst (AreStepsTaken map from (OnlyMove by) front) e by_straight
 
-      module _ (diagonal : is_diagonal by ≡ true) where
+      module _ (crossing : diagonal ≡ true) where
         diagonal_step : step ≡ DIAGONAL_KEY
-        diagonal_step = is_step ∙ ap step_key diagonal
+        diagonal_step = keyed ∙ ap step_key crossing
 
         other_way : (settled : List Cell) → AreOpened map settled from.key front
             → AreQueues map front.keys settled from.key DIAGONAL_KEY front.diagonal STRAIGHT_KEY front.straight

@@ -248,11 +248,17 @@ module _ (map : Map) (source : Cell) (order : List Cell) (count : ℕ) (front : 
   }
 
 -- a turn in the words of the code, which looks up the place of the entry's cell
-module _ (map : Map) (source : Cell) (order : List Cell) (count : ℕ) (entry : Waiting) (before front : Opened)
-    (u : IsTurn map source order count entry before front)
-    (space : HasSpace map before) (place width : ℕ) (here : place ≡ place_of width entry.cell) (w : width ≡ map.width) where
+module _ (map : Map) (source : Cell) (order : List Cell) (count : ℕ) (begun before front : Opened) (entry : Waiting)
+    (searching : IsSearching map source order count before) (space : HasSpace map begun) (long : length before.keys ≡ length begun.keys)
+    (straight : before.straight.room ≡ begun.straight.room) (diagonal : before.diagonal.room ≡ begun.diagonal.room)
+    (same_keys : front.keys ≡ before.keys) (taken : IsFirstTaken entry (queues_of before) (queues_of front))
+    (place width : ℕ) (here : place ≡ place_of width entry.cell) (w : width ≡ map.width) where
+  u : IsTurn map source order count entry before front
+  u = turn_of map source order count before searching entry front same_keys taken
+
   pub space_left : HasSpace map front
-  space_left = space_kept map before front space (ap length u.same_keys) u.rooms.0 u.rooms.1
+  space_left =
+      space_kept map begun front space (ap length u.same_keys ∙ long) (u.rooms.0 ∙ straight) (u.rooms.1 ∙ diagonal)
 
   at : place ≡ place_of map.width entry.cell
   at = here ∙ ap (λ n. place_of n entry.cell) w

@@ -2,7 +2,6 @@ use Rattle.std.proofs.Common.{◌∙◌, subst, refl, ap, sym, arith, set}
 use Rattle.std.proofs.lemmas.List.{length-set}
 use Rattle.grid_search.specs.Queues.{opened}
 use Rattle.grid_search.proofs.Found.{some_passable}
-use Rattle.grid_search.proofs.Queueing.{space_kept}
 use Rattle.grid_search.proofs.Turning.{IsSearching, searching_begun, searching_more, turn_of, settled_room, settled_last, settled_ready, entry_dropped}
 use Rattle.grid_search.proofs.settling.settle.Goals as goal
 
@@ -27,32 +26,26 @@ loop-next-init c =
 pub bounds-order-count : goal.bounds-order-count
 bounds-order-count c =
     let known = c.loop-next.invariant in
-    let space = space_kept _ _ (opened c.loop-next.keys c.loop-next.list) c.requires.space
-    (c.loop-next.auto.keys ∙ length-set c.args.keys.now c.place.result 0) known.straight known.diagonal in
-    let turn = turn_of _ _ _ _ _ known.searching c.in-Some.next (opened c.loop-next.keys c.take_first.new.self) refl c.in-Some.ensures.some in
-    let holds = c.if-keys-place.true in
-    settled_room _ _ _ _ _ _ _ turn space _ _ c.place-place.ensures c.width-in-Some.ensures.width c.requires.source c.requires.few
-    (omega (arith, c.loop-next.auto.order, c.requires.room)) holds
+    settled_room _ _ _ _ _ _ (opened c.loop-next.keys c.take_first.new.self) c.in-Some.next known.searching c.requires.space
+    (c.loop-next.auto.keys ∙ length-set c.args.keys.now c.place.result 0) known.straight known.diagonal refl c.in-Some.ensures.some
+    _ _ c.place-place.ensures c.width-in-Some.ensures.width
+    c.requires.source c.requires.few (omega (arith, c.loop-next.auto.order, c.requires.room)) c.if-keys-place.true
 
 pub relax-requires-clause-last : goal.relax-requires-clause-last
 relax-requires-clause-last c =
     let known = c.loop-next.invariant in
-    let space = space_kept _ _ (opened c.loop-next.keys c.loop-next.list) c.requires.space
-    (c.loop-next.auto.keys ∙ length-set c.args.keys.now c.place.result 0) known.straight known.diagonal in
-    let turn = turn_of _ _ _ _ _ known.searching c.in-Some.next (opened c.loop-next.keys c.take_first.new.self) refl c.in-Some.ensures.some in
-    let holds = c.if-keys-place.true in
-    settled_last _ _ _ _ _ _ _ turn space _ _ c.place-place.ensures c.width-in-Some.ensures.width c.requires.source c.requires.few
-    (omega (arith, c.loop-next.auto.order, c.requires.room)) holds
+    settled_last _ _ _ _ _ _ (opened c.loop-next.keys c.take_first.new.self) c.in-Some.next known.searching c.requires.space
+    (c.loop-next.auto.keys ∙ length-set c.args.keys.now c.place.result 0) known.straight known.diagonal refl c.in-Some.ensures.some
+    _ _ c.place-place.ensures c.width-in-Some.ensures.width
+    c.requires.source c.requires.few (omega (arith, c.loop-next.auto.order, c.requires.room)) c.if-keys-place.true
 
 pub relax-requires-clause-ready : goal.relax-requires-clause-ready
 relax-requires-clause-ready c =
     let known = c.loop-next.invariant in
-    let space = space_kept _ _ (opened c.loop-next.keys c.loop-next.list) c.requires.space
-    (c.loop-next.auto.keys ∙ length-set c.args.keys.now c.place.result 0) known.straight known.diagonal in
-    let turn = turn_of _ _ _ _ _ known.searching c.in-Some.next (opened c.loop-next.keys c.take_first.new.self) refl c.in-Some.ensures.some in
-    let holds = c.if-keys-place.true in
-    settled_ready _ _ _ _ _ _ _ turn space _ _ c.place-place.ensures c.width-in-Some.ensures.width c.requires.source c.requires.few
-    (omega (arith, c.loop-next.auto.order, c.requires.room)) holds
+    settled_ready _ _ _ _ _ _ (opened c.loop-next.keys c.take_first.new.self) c.in-Some.next known.searching c.requires.space
+    (c.loop-next.auto.keys ∙ length-set c.args.keys.now c.place.result 0) known.straight known.diagonal refl c.in-Some.ensures.some
+    _ _ c.place-place.ensures c.width-in-Some.ensures.width
+    c.requires.source c.requires.few (omega (arith, c.loop-next.auto.order, c.requires.room)) c.if-keys-place.true
 
 pub loop-next-smaller-then-keys-place : goal.loop-next-smaller-then-keys-place
 loop-next-smaller-then-keys-place c =
@@ -63,13 +56,12 @@ loop-next-smaller-then-keys-place c =
 pub loop-next-preserved-then-keys-place : goal.loop-next-preserved-then-keys-place
 loop-next-preserved-then-keys-place c =
     let known = c.loop-next.invariant in
-    let space = space_kept _ _ (opened c.loop-next.keys c.loop-next.list) c.requires.space
-    (c.loop-next.auto.keys ∙ length-set c.args.keys.now c.place.result 0) known.straight known.diagonal in
     let turn = turn_of _ _ _ _ _ known.searching c.in-Some.next (opened c.loop-next.keys c.take_first.new.self) refl c.in-Some.ensures.some in
-    let holds = c.if-keys-place.true in
     record {
-      searching = searching_more _ _ _ _ _ _ _ turn space _ _ c.place-place.ensures c.width-in-Some.ensures.width c.requires.source c.requires.few
-          (omega (arith, c.loop-next.auto.order, c.requires.room)) holds _ c.relax.ensures;
+      searching = searching_more _ _ _ _ _ _ (opened c.loop-next.keys c.take_first.new.self) c.in-Some.next known.searching c.requires.space
+          (c.loop-next.auto.keys ∙ length-set c.args.keys.now c.place.result 0) known.straight known.diagonal refl c.in-Some.ensures.some
+          _ _ c.place-place.ensures c.width-in-Some.ensures.width
+          c.requires.source c.requires.few (omega (arith, c.loop-next.auto.order, c.requires.room)) c.if-keys-place.true _ c.relax.ensures;
       straight = c.relax.ensures.rooms.0 ∙ turn.rooms.0 ∙ known.straight;
       diagonal = c.relax.ensures.rooms.1 ∙ turn.rooms.1 ∙ known.diagonal;
     }
@@ -83,11 +75,11 @@ loop-next-smaller c =
 pub loop-next-preserved : goal.loop-next-preserved
 loop-next-preserved c =
     let known = c.loop-next.invariant in
-    let space = space_kept _ _ (opened c.loop-next.keys c.loop-next.list) c.requires.space
-    (c.loop-next.auto.keys ∙ length-set c.args.keys.now c.place.result 0) known.straight known.diagonal in
     let turn = turn_of _ _ _ _ _ known.searching c.in-Some.next (opened c.loop-next.keys c.take_first.new.self) refl c.in-Some.ensures.some in
     record {
-      searching = entry_dropped _ _ _ _ _ _ _ turn space _ _ c.place-place.ensures c.width-in-Some.ensures.width
+      searching = entry_dropped _ _ _ _ _ _ (opened c.loop-next.keys c.take_first.new.self) c.in-Some.next known.searching c.requires.space
+          (c.loop-next.auto.keys ∙ length-set c.args.keys.now c.place.result 0) known.straight known.diagonal refl c.in-Some.ensures.some
+          _ _ c.place-place.ensures c.width-in-Some.ensures.width
           c.if-keys-place.false;
       straight = turn.rooms.0 ∙ known.straight;
       diagonal = turn.rooms.1 ∙ known.diagonal;
