@@ -100,16 +100,20 @@ module _ (w : ℕ) (keys sets : List ℕ) (legal place n from : ℕ) (l : n < 8)
     (near : StaysWithin w (length keys) legal place) (inside : place < length keys)
     (at_legal : (by : Move) (to : ℕ) → number_of by ≡ n → Has legal by → IsBeside w by place to → to < 18446744073709551616 → from ≡ to)
     (at_other : (by : Move) → number_of by ≡ n → (Has legal by → ⊥) → from ≡ place) where
+  -- the move with this number leads there where it is in the set
+  leads_there : (by : Move) → number_of by ≡ n → Has legal by → IsBeside w by place from × (from < length keys)
+  leads_there by e has =
+      let next = near by has in
+      let to = next.0 in
+      let low = next.2 in
+      let here : from ≡ to = at_legal by to e has next.1 (omega arith) in
+      (subst (IsBeside w by place) (sym here) next.1, omega arith)
+
   pub from_inside : from < length keys
   from_inside =
       let by = move_with n l in
       elim (has_or_not legal by.0) [
-        | inl has ↦
-            let next = near by.0 has in
-            let to = next.0 in
-            let low = next.2 in
-            let here : from ≡ to = at_legal by.0 to by.1 has next.1 (omega arith) in
-            omega arith
+        | inl has ↦ (leads_there by.0 by.1 has).1
         | inr none ↦ let here = at_other by.0 by.1 none in omega arith
       ]
 
@@ -124,13 +128,8 @@ module _ (w : ℕ) (keys sets : List ℕ) (legal place n from : ℕ) (l : n < 8)
         let cost = step_is by.0 by.1 in
         elim (has_or_not legal by.0) [
           | inl has ↦
-              let next = near by.0 has in
-              let to = next.0 in
-              let low = next.2 in
-              let here : from ≡ to = at_legal by.0 to by.1 has next.1 (omega arith) in
-              let same : get_or keys to 0 + move_key by.0 ≡ get_or keys place 0 = subst (λ p. get_or keys p 0 + move_key by.0 ≡ get_or keys place 0) here
-              (subst (λ s. get_or keys from 0 + s ≡ get_or keys place 0) cost e) in
-              (by.0, by.1, (to, has, next.1, same, subst (λ p. Has (get_or sets p 0) move) here old))
+              let same = subst (λ s. get_or keys from 0 + s ≡ get_or keys place 0) cost e in
+              (by.0, by.1, (from, has, (leads_there by.0 by.1 has).0, same, old))
           | inr none ↦
               let here = at_other by.0 by.1 none in
               let same : get_or keys place 0 + step ≡ get_or keys place 0 = subst (λ p. get_or keys p 0 + step ≡ get_or keys place 0) here e in
@@ -140,11 +139,7 @@ module _ (w : ℕ) (keys sets : List ℕ) (legal place n from : ℕ) (l : n < 8)
     if_brought : (move by : Move) → number_of by ≡ n → IsBroughtBy w keys sets legal place by move
         → (get_or keys from 0 + step ≡ get_or keys place 0) × Has (get_or sets from 0) move
     if_brought move by e more =
-        let next = near by more.1 in
-        let to = next.0 in
-        let low = next.2 in
-        let one : to ≡ more.0 = same_beside w by place to more.0 next.1 more.2 in
-        let here : from ≡ more.0 = at_legal by to e more.1 next.1 (omega arith) ∙ one in
+        let here : from ≡ more.0 = same_beside w by place from more.0 (leads_there by e more.1).0 more.2 in
         let cost = step_is by e in
         let same : get_or keys from 0 + step ≡ get_or keys place 0 = subst (λ s. get_or keys from 0 + s ≡ get_or keys place 0) (sym cost)
         (subst (λ p. get_or keys p 0 + move_key by ≡ get_or keys place 0) (sym here) more.3) in

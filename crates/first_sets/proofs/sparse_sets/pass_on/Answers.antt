@@ -38,7 +38,7 @@ join_beside-requires c =
     let long = ap length known.order in
     let low : i < length search.settled = omega arith in
     let at = place_of_next map search.settled c.settled-cell-items.result.now source i c.place-place.result _
-        known.order known.wide low c.place-place.ensures in
+    known.order known.wide low c.place-place.ensures in
     can_join_at map source search c.requires.searched c.move_masks-legal.result.now c.loop-index.sets c.move_masks-legal.ensures i low
     c.of-around.result.width c.place-place.result c.keys-keys.result.now (c.of-around.ensures ∙ known.wide) c.keys-keys.ensures at
     c.width-width.ensures.limits.cells (omega arith)
@@ -53,7 +53,7 @@ loop-index-preserved c =
     let long = ap length known.order in
     let low : i < length search.settled = omega arith in
     let at = place_of_next map search.settled c.settled-cell-items.result.now source i c.place-place.result _
-        known.order known.wide low c.place-place.ensures in
+    known.order known.wide low c.place-place.ensures in
     let made = made_at map source search c.requires.searched c.move_masks-legal.result.now c.loop-index.sets c.move_masks-legal.ensures i low
     c.of-around.result.width c.place-place.result c.keys-keys.result.now
     (c.of-around.ensures ∙ known.wide) c.keys-keys.ensures at c.join_beside.result c.join_beside.ensures in
