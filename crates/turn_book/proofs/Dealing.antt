@@ -1,15 +1,13 @@
 -- The seats of a new book, one after another.
-use Rattle.std.proofs.Common.{◌≡◌, ◌≢◌, ℕ, ◌+◌, ◌-◌, ◌<◌, List, [], ◌∷◌, ◌++◌, length, get_or, sym, refl, ap, ◌∙◌, subst, arith, Option, Some, None}
-use Rattle.std.proofs.lemmas.List.{get_or_append_left, get_or_push, length_push}
-use mathlib.Core.Logic.{dite}
-use native.Mathlib.Decide.{ℕ_discrete}
+use Rattle.std.proofs.Common.{◌≡◌, ◌≢◌, ℕ, ◌+◌, ◌<◌, List, [], ◌∷◌, ◌++◌, length, get_or, sym, ap, ◌∙◌, subst, Option, Some, None}
 use Rattle.atomic_table.specs.Seated.{TableId}
 use Rattle.atomic_table.specs.declared.shared.Seat.{Seat}
 use Rattle.turn_book.specs.Rule.{view_of}
 use Rattle.turn_book.specs.Turns.{number_or, resting}
-use Rattle.turn_book.specs.Books.{IsNewSeat, AreNewSeats}
+use Rattle.turn_book.specs.Books.{IsNewSeat}
 use Rattle.turn_book.specs.declared.view.View.{View}
 use Rattle.turn_book.specs.declared.view.Phase.TheVariants.{Idle}
+use Rattle.turn_book.proofs.Lists.{each_pushed}
 
 module _ {S E B : Type 0} where
   -- a seat with this number that has done nothing yet
@@ -26,8 +24,8 @@ module _ {S E B : Type 0} where
   }
 
   pub one_more_seat : (id : TableId) (base : Option B) (count : ℕ) (seats : List (Seat (Option S) (View E B))) (seat : Seat (Option S) (View E B))
-      → ((place : ℕ) (default : Seat (Option S) (View E B)) → place < length seats → IsNewSeat id base count place (get_or seats place default)) → IsNewSeat id base count (length seats) seat
-      → (place : ℕ) (default : Seat (Option S) (View E B)) → place < length (seats ++ seat ∷ []) → IsNewSeat id base count place (get_or (seats ++ seat ∷ []) place default)
-  one_more_seat id base count seats seat each new place default inside = let long = length_push seats seat in dite (ℕ_discrete place (length seats))
-      (λ here. subst (λ k. IsNewSeat id base count k (get_or (seats ++ seat ∷ []) k default)) (sym here) (subst (IsNewSeat id base count (length seats)) (sym (get_or_push seats seat default (length seats) refl)) new))
-      (λ before. let low : place < length seats = omega arith in subst (IsNewSeat id base count place) (sym (get_or_append_left seats (seat ∷ []) default place low)) (each place default low))
+      → ((place : ℕ) (default : Seat (Option S) (View E B)) → place < length seats → IsNewSeat id base count place (get_or seats place default))
+      → IsNewSeat id base count (length seats) seat
+      → (place : ℕ) (default : Seat (Option S) (View E B)) → place < length (seats ++ seat ∷ [])
+      → IsNewSeat id base count place (get_or (seats ++ seat ∷ []) place default)
+  one_more_seat id base count = each_pushed (IsNewSeat id base count)

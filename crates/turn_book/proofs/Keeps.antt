@@ -1,4 +1,4 @@
--- AllByRecursion step of a turn keeps the rule, and tells what it is said to tell.
+-- Each step of a turn keeps the rule, and tells what it is said to tell.
 use Rattle.std.proofs.Common.{◌≡◌, ◌≢◌, ◌⊎◌, ℕ, ◌+◌, ◌%◌, ◌^◌, ◌<◌, ◌≤◌, List, [], ◌∷◌, ◌++◌, length, set, get_or, sym, refl, ap, ◌∙◌, subst, inl, inr, ⊎_elim, arith, Option, Some, None, zero, suc, length-append}
 use Rattle.std.specs.List.{AllByRecursion}
 use Rattle.std.proofs.Math.Nat.{mod-add-mod}
@@ -8,17 +8,16 @@ use mathlib.Core.Option as maybe
 use mathlib.Core.Logic.{dite}
 use native.Mathlib.Decide.{ℕ_discrete}
 use lib.ListN.{get_elem?}
-use Rattle.atomic_table.specs.Table.{State, Me, step, Act, keeps, takes, gives, Valid, carried_after, stepped, put_back, Allows, rest}
+use Rattle.atomic_table.specs.Table.{State, Me, step, Act, keeps, takes, gives, Valid, carried_after, stepped, put_back, Allows}
 use Rattle.atomic_table.proofs.Lists.{one_turn, set_again, set_else}
-use Rattle.turn_book.specs.Histories.{total, StartsWith, AddsNoneOf, first_or}
-use Rattle.turn_book.specs.Rule.{queued, HasSlot, unless_spent, numbered, in_queue, weight, view_of, own_list, Ledger, Stands, HasNumber, IsNumbered, HasEnded, Keeps, Fits, AtHome, Out, Running, newcomer, empty_lock, Kept}
-use Rattle.turn_book.specs.Steps.{AddsNoneOfOwn, Tells, opened, founded, drew, Enters, served, committed, passed_on}
-use Rattle.turn_book.specs.declared.view.Ended.{Ended}
+use Rattle.turn_book.specs.Histories.{StartsWith, AddsNoneOf}
+use Rattle.turn_book.specs.Rule.{queued, HasSlot, unless_spent, numbered, in_queue, weight, view_of, own_list, Ledger, Stands, IsNumbered, HasEnded, Keeps, Fits, AtHome, Out, Running, newcomer, empty_lock, Kept}
+use Rattle.turn_book.specs.Steps.{AddsNoneOfOwn, Tells, opened, founded, drew, served, committed, passed_on}
 use Rattle.turn_book.specs.declared.view.View.{View}
 use Rattle.turn_book.specs.declared.view.Phase.{Phase}
 use Rattle.turn_book.specs.declared.view.Phase.TheVariants.{Idle, Waiting, Served, Done, Spent}
-use Rattle.turn_book.proofs.Lists.{put_here, at_here, same_place, stay, total_set, total_least, total_below, each_of, each_both, starts_on, starts_same, adds_none}
-use Rattle.turn_book.proofs.Views.{draw, pass, write, rephase, own_starts, draw_fits, pass_fits, pass_other, look_fits, write_other, write_own}
+use Rattle.turn_book.proofs.Lists.{put_here, at_here, same_place, stay, total_set, total_below, each_of, each_both, starts_on, starts_same, adds_none}
+use Rattle.turn_book.proofs.Views.{draw, pass, write, rephase, draw_fits, pass_fits, pass_other, look_fits, write_other, write_own}
 
 abbrev slot_or : {S : Type 0} → S → List (ℕ × Option S) → S
 slot_or d [] = d
@@ -44,7 +43,7 @@ module _ {E B : Type 0} where
   pub lives : (v : View E B) (phase : Phase) → v.phase ≡ phase → phase ≢ Spent → v.phase ≢ Spent
   lives v phase is alive e = alive (sym is ∙ e)
 
-mod_small : (n : ℕ) → n < 18446744073709551616 → n % 18446744073709551616 ≡ n
+mod_small : (n : ℕ) → n < 2 ^ 64 → n % 2 ^ 64 ≡ n
 mod_small n h = omega arith
 
 alive_not : Served 0 ≡ Idle → ⊥
@@ -112,14 +111,22 @@ module _ {S E B : Type 0} (list : S → List E) (base_of : S → B) (base : B) w
   pub out_stays : (s : State (Option S) (View E B)) (id : ℕ) (v w : View E B) (words : List ℕ) → get_elem? s.views id ≡ some v → (HasSlot v.phase → HasSlot w.phase)
       → Out list base_of base s → Out list base_of base (record { words = words; homes = s.homes; views = set s.views id w })
   out_stays s id v w words at to o = dite (ℕ_discrete o.0 id)
-      (λ same. (id, w, o.2, at_here s.views id v w at, to (subst (λ (u : View E B). HasSlot u.phase) (same_place s.views id o.1 v (subst (λ k. get_elem? s.views k ≡ some o.1) same o.3) at) o.4)))
+      (λ same. (
+        id,
+        w,
+        o.2,
+        at_here s.views id v w at,
+        to (subst (λ (u : View E B). HasSlot u.phase) (same_place s.views id o.1 v
+            (subst (λ k. get_elem? s.views k ≡ some o.1) same o.3) at) o.4),
+      ))
       (λ apart. (o.0, o.1, o.2, set_else s.views id o.0 w apart ∙ o.3, o.4))
 
   -- the slot is where it was
   pub slot_stays : (s : State (Option S) (View E B)) (history : List E) (id : ℕ) (v w : View E B) (words : List ℕ) → get_elem? s.views id ≡ some v
       → (HasSlot v.phase → HasSlot w.phase) → (HasSlot w.phase → HasSlot v.phase)
       → AtHome list base_of base s history ⊎ Out list base_of base s
-      → AtHome list base_of base (record { words = words; homes = s.homes; views = set s.views id w }) history ⊎ Out list base_of base (record { words = words; homes = s.homes; views = set s.views id w })
+      → AtHome list base_of base (record { words = words; homes = s.homes; views = set s.views id w }) history
+      ⊎ Out list base_of base (record { words = words; homes = s.homes; views = set s.views id w })
   slot_stays s history id v w words at to from = ⊎_elim
       (λ h. inl (h.0, h.1, h.2, h.3, stay (λ j u. ¬ HasSlot u.phase) s.views id w (λ has. h.4 id v at (from has)) (λ j u other there. h.4 j u there)))
       (λ o. inr (out_stays s id v w words at to o))
@@ -129,7 +136,8 @@ module _ {S E B : Type 0} (list : S → List E) (base_of : S → B) (names : E �
   runs_on s r = inr (inr r)
 
   -- a view that knows the base came after the first state
-  pub running : (s : State (Option S) (View E B)) (id : ℕ) (v : View E B) → Kept list base_of names s → get_elem? s.views id ≡ some v → v.base ≢ None → Running list base_of names s
+  pub running : (s : State (Option S) (View E B)) (id : ℕ) (v : View E B) → Kept list base_of names s
+      → get_elem? s.views id ≡ some v → v.base ≢ None → Running list base_of names s
   running s id v kept at based = ⊎_elim (λ e. absurd (no_base Idle (some None) e)) (λ t. ⊎_elim (λ e. absurd (no_base (Served 0) none e)) (λ r. r) t) kept
     where
       no_base : (phase : Phase) (home : maybe.Option (Option S)) → s ≡ empty_lock home phase → ⊥
@@ -139,7 +147,8 @@ module _ {S E B : Type 0} (list : S → List E) (base_of : S → B) (names : E �
   pub queue_short : (s : State (Option S) (View E B)) (r : Running list base_of names s) → r.now.drawn < r.now.passed + 2 ^ 63
   queue_short s r = let q = r.queue in let n = r.seats in let few = r.few in let le = total_below in_queue weight s.views each_le in omega arith
     where
-      by_number : (v : View E B) (number : Option ℕ) (phase : Phase) (n : ℕ) (seen : List E) (g : Ledger E) (id : ℕ) → IsNumbered names r.base g id number phase seen → queued phase ≤ unless_spent phase (numbered number + n)
+      by_number : (v : View E B) (number : Option ℕ) (phase : Phase) (n : ℕ) (seen : List E) (g : Ledger E) (id : ℕ)
+          → IsNumbered names r.base g id number phase seen → queued phase ≤ unless_spent phase (numbered number + n)
       by_number v None phase n seen g id h = subst (λ p. queued p ≤ unless_spent p (0 + n)) (sym h) (omega arith)
       by_number v (Some k) Idle n seen g id h = omega arith
       by_number v (Some k) (Waiting t) n seen g id h = omega arith
@@ -164,7 +173,8 @@ module _ {S E B : Type 0} (list : S → List E) (base_of : S → B) (names : E �
       let r = running s id m.0 h at based in let g = r.now in let w : View E B = record m.0 { phase = Waiting g.drawn } in
       let f = r.each id m.0 at (lives m.0 Idle idle (alive Idle tt)) in
       let q = total_set in_queue s.views id m.0 w at in let q' : queued m.0.phase ≡ 0 = ap queued idle in
-      let k = total_set weight s.views id m.0 w at in let k' : weight m.0 ≡ numbered m.0.number + length m.0.ended = ap (λ p. unless_spent p (numbered m.0.number + length m.0.ended)) idle in
+      let k = total_set weight s.views id m.0 w at in
+      let k' : weight m.0 ≡ numbered m.0.number + length m.0.ended = ap (λ p. unless_spent p (numbered m.0.number + length m.0.ended)) idle in
       let qr = r.queue in let kr = r.seats in (
         w,
         keeps,
@@ -172,7 +182,8 @@ module _ {S E B : Type 0} (list : S → List E) (base_of : S → B) (names : E �
         runs_on _ record {
           base = r.base;
           now = draw g id;
-          words = ap (λ ws. set ws 0 ((get_or ws 0 0 + 1) % 18446744073709551616)) r.words ∙ ap (λ t. t ∷ g.passed % 18446744073709551616 ∷ length g.history ∷ []) (mod-add-mod g.drawn 18446744073709551616 1);
+          words = ap (λ ws. set ws 0 ((get_or ws 0 0 + 1) % 2 ^ 64)) r.words
+              ∙ ap (λ t. t ∷ g.passed % 2 ^ 64 ∷ length g.history ∷ []) (mod-add-mod g.drawn (2 ^ 64) 1);
           queue = omega arith;
           seats = omega arith;
           some_made = r.some_made;
@@ -181,7 +192,7 @@ module _ {S E B : Type 0} (list : S → List E) (base_of : S → B) (names : E �
           each = stay (λ j u. u.phase ≢ Spent → Fits names r.base (draw g id) j u) s.views id w
               (λ _. rephase names r.base (draw g id) id m.0 (Waiting g.drawn) some_number (omega arith, omega arith, put_here g.by g.drawn id) (draw_fits names r.base g id id m.0 f))
               (λ j u other there lives. draw_fits names r.base g id j u (r.each j u there lives));
-          slot = slot_stays list base_of r.base s g.history id m.0 w (set s.words 0 ((get_or s.words 0 0 + 1) % 18446744073709551616)) at (λ x. subst HasSlot idle x) (λ x. absurd x) r.slot;
+          slot = slot_stays list base_of r.base s g.history id m.0 w (set s.words 0 ((get_or s.words 0 0 + 1) % 2 ^ 64)) at (λ x. subst HasSlot idle x) (λ x. absurd x) r.slot;
         },
         (g.drawn, ap (λ ws. get_or ws 0 0) r.words, refl),
       )
@@ -200,8 +211,30 @@ module _ {S E B : Type 0} (list : S → List E) (base_of : S → B) (names : E �
       own None h = tt
       own (Some n) h = h.2
 
+  -- a step that finds a word as it leaves it, and changes one view that is in the queue and weighs as before
+  pub looked : (s : State (Option S) (View E B)) (r : Running list base_of names s) (i id : ℕ) (v w : View E B) (homes : List (maybe.Option (Option S)))
+      → get_elem? s.views id ≡ some v → in_queue w ≡ in_queue v → weight w ≡ weight v → Fits names r.base r.now id w
+      → (let s' : State (Option S) (View E B) = record { words = set s.words i (get_or s.words i 0); homes = homes; views = set s.views id w } in
+      AtHome list base_of r.base s' r.now.history ⊎ Out list base_of r.base s' → Running list base_of names s')
+  looked s r i id v w homes at same_queue same_weight fits slot =
+      let q = total_set in_queue s.views id v w at in let k = total_set weight s.views id v w at in
+      let qr = r.queue in let kr = r.seats in
+      record {
+        base = r.base;
+        now = r.now;
+        words = set-get_or s.words i 0 ∙ r.words;
+        queue = omega arith;
+        seats = omega arith;
+        some_made = r.some_made;
+        few = r.few;
+        known = r.known;
+        each = stay (λ j u. u.phase ≢ Spent → Fits names r.base r.now j u) s.views id w (λ _. fits) (λ j u other there lives. r.each j u there lives);
+        slot = slot;
+      }
+
   -- a step that finds the word as it leaves it, and changes nothing
-  pub unmoved : (s : State (Option S) (View E B)) (i id : ℕ) (m : Me (Option S) (View E B)) → get_elem? s.views id ≡ some m.0 → Kept list base_of names s → Kept list base_of names (stepped s i (get_or s.words i 0) id m.1 m.0 keeps)
+  pub unmoved : (s : State (Option S) (View E B)) (i id : ℕ) (m : Me (Option S) (View E B)) → get_elem? s.views id ≡ some m.0
+      → Kept list base_of names s → Kept list base_of names (stepped s i (get_or s.words i 0) id m.1 m.0 keeps)
   unmoved s i id m at kept = subst (Kept list base_of names) (λ k. record { words = sym (set-get_or s.words i 0) k; homes = s.homes; views = sym (set_again s.views id m.0 at) k }) kept
 
   pub serves : (slots id : ℕ) (m : Me (Option S) (View E B)) (t : ℕ) → m.0.phase ≡ Waiting t → m.0.number ≢ None → m.0.base ≢ None
@@ -210,12 +243,18 @@ module _ {S E B : Type 0} (list : S → List E) (base_of : S → B) (names : E �
       let r = running s id m.0 h at based in let g = r.now in
       let f = r.each id m.0 at (lives m.0 (Waiting t) waits (alive (Waiting t) tt)) in
       let st = subst (Stands names r.base g id m.0.seen) waits f.stands in let short = queue_short s r in
-      let found : get_or s.words 1 0 ≡ g.passed % 18446744073709551616 = ap (λ ws. get_or ws 1 0) r.words in
+      let found : get_or s.words 1 0 ≡ g.passed % 2 ^ 64 = ap (λ ws. get_or ws 1 0) r.words in
       let same : (u : ℕ) → m.0.phase ≡ Waiting u → t ≡ u = λ u is. ap ticket_or (sym waits ∙ is) in
-      dite (ℕ_discrete (get_or s.words 1 0) (t % 18446744073709551616))
-      (λ hit. let a = st.0 in let b = st.1 in let now : g.passed ≡ t = one_turn g.passed t 18446744073709551616 a (omega arith) (sym found ∙ hit) in
+      dite (ℕ_discrete (get_or s.words 1 0) (t % 2 ^ 64))
+      (λ hit. let a = st.0 in let b = st.1 in let now : g.passed ≡ t = one_turn g.passed t (2 ^ 64) a (omega arith) (sym found ∙ hit) in
       ⊎_elim (λ home. enters r f (sym now, st.1, st.2) same hit home) (λ o. absurd (nobody r st.2 now o)) r.slot)
-      (λ miss. (m.0, keeps, tt, unmoved s 1 id m at h, λ u is. ((λ hit. absurd (miss (hit ∙ ap (λ k. k % 18446744073709551616) (sym (same u is))))), λ _. refl)))
+      (λ miss. (
+        m.0,
+        keeps,
+        tt,
+        unmoved s 1 id m at h,
+        λ u is. ((λ hit. absurd (miss (hit ∙ ap (λ k. k % 2 ^ 64) (sym (same u is))))), λ _. refl),
+      ))
     where
       -- who had the slot would have drawn this ticket
       nobody : (r : Running list base_of names s) → r.now.by t ≡ id → r.now.passed ≡ t → Out list base_of r.base s → ⊥
@@ -225,48 +264,43 @@ module _ {S E B : Type 0} (list : S → List E) (base_of : S → B) (names : E �
           subst HasSlot (ap (λ (v : View E B). v.phase) me ∙ waits) o.4
 
       enters : (r : Running list base_of names s) → Fits names r.base r.now id m.0 → (t ≡ r.now.passed) × (t < r.now.drawn) × (r.now.by t ≡ id) → ((u : ℕ) → m.0.phase ≡ Waiting u → t ≡ u)
-          → get_or s.words 1 0 ≡ t % 18446744073709551616 → AtHome list base_of r.base s r.now.history
-          → (w : View E B) × (a : Act (Option S)) × Valid s.homes m.1 a × Kept list base_of names (stepped s 1 (get_or s.words 1 0) id m.1 w a) × served list base_of names (step slots 1 0 0 none) m (get_or s.words 1 0) (w, carried_after m.1 a)
-      enters r f st same hit home = let g = r.now in let state = home.0 in let w : View E B = record m.0 { phase = Served t; seen = list state; looks = m.0.looks + 1; joined = [] } in
-          let q = total_set in_queue s.views id m.0 w at in let q' : queued m.0.phase ≡ 1 = ap queued waits in
-          let k = total_set weight s.views id m.0 w at in let k' : weight m.0 ≡ numbered m.0.number + length m.0.ended = ap (λ p. unless_spent p (numbered m.0.number + length m.0.ended)) waits in
-          let qr = r.queue in let kr = r.seats in (
+          → get_or s.words 1 0 ≡ t % 2 ^ 64 → AtHome list base_of r.base s r.now.history
+          → (w : View E B) × (a : Act (Option S)) × Valid s.homes m.1 a
+          × Kept list base_of names (stepped s 1 (get_or s.words 1 0) id m.1 w a)
+          × served list base_of names (step slots 1 0 0 none) m (get_or s.words 1 0) (w, carried_after m.1 a)
+      enters r f st same hit home =
+          let g = r.now in let state = home.0 in
+          let w : View E B = record m.0 { phase = Served t; seen = list state; looks = m.0.looks + 1; joined = [] } in
+          let q' : queued m.0.phase ≡ 1 = ap queued waits in
+          let k' : weight m.0 ≡ numbered m.0.number + length m.0.ended = ap (λ p. unless_spent p (numbered m.0.number + length m.0.ended)) waits in (
             w,
             takes 0 (Some state),
             ap (λ hs. get_elem? hs 0) home.1,
-            runs_on _ record {
-              base = r.base;
-              now = g;
-              words = set-get_or s.words 1 0 ∙ r.words;
-              queue = omega arith;
-              seats = omega arith;
-              some_made = r.some_made;
-              few = r.few;
-              known = r.known;
-              each = stay (λ j u. u.phase ≢ Spent → Fits names r.base g j u) s.views id w
-                  (λ _. look_fits names r.base g id m.0 (Served t) (m.0.looks + 1) (list state) home.2 some_number (st.0, st.1, st.2, home.2) f)
-                  (λ j u other there lives. r.each j u there lives);
-              slot = inr (id, w, ap (λ hs. set hs 0 none) home.1, at_here s.views id m.0 w at, tt);
-            },
+            runs_on _ (looked s r 1 id m.0 w (set s.homes 0 none) at (sym q') (sym k')
+                (look_fits names r.base g id m.0 (Served t) (m.0.looks + 1) (list state) home.2 some_number (st.0, st.1, st.2, home.2) f)
+                (inr (id, w, ap (λ hs. set hs 0 none) home.1, at_here s.views id m.0 w at, tt))),
             λ u is. (
               (λ _. (
                 state,
-                ap (λ p. let v : View E B = record m.0 { phase = Served p; seen = list state; looks = m.0.looks + 1; joined = [] } in let x : Me (Option S) (View E B) = (v, (0, Some state) ∷ m.1) in x) (same u is),
+                ap (λ p. let v : View E B = record m.0 { phase = Served p; seen = list state; looks = m.0.looks + 1; joined = [] } in
+                    let x : Me (Option S) (View E B) = (v, (0, Some state) ∷ m.1) in x) (same u is),
                 f.same_base ∙ ap Some (sym home.3),
                 subst (Tells names m.0) (sym home.2) (tells r.base g id m.0 r.known f),
               )),
-              λ miss. absurd (miss (hit ∙ ap (λ p. p % 18446744073709551616) (same u is))),
+              λ miss. absurd (miss (hit ∙ ap (λ p. p % 2 ^ 64) (same u is))),
             ),
           )
 
-  pub passes : (slots id : ℕ) (m : Me (Option S) (View E B)) (state : S) (more : List (ℕ × Option S)) → HasSlot m.0.phase → m.1 ≡ (0, Some state) ∷ more → list state ≡ m.0.seen → m.0.base ≡ Some (base_of state)
+  pub passes : (slots id : ℕ) (m : Me (Option S) (View E B)) (state : S) (more : List (ℕ × Option S))
+      → HasSlot m.0.phase → m.1 ≡ (0, Some state) ∷ more → list state ≡ m.0.seen → m.0.base ≡ Some (base_of state)
       → Allows (Kept list base_of names) slots id m 1 (λ n. (n + 1) % 2 ^ 64) (passed_on (step slots 1 1 0 none) m)
   passes slots id m state more has slot seen is s h deep at fits =
       let r = running s id m.0 h at (there m.0.base (base_of state) is) in let g = r.now in let w : View E B = record m.0 { phase = Idle } in
       let f = r.each id m.0 at (with_slot m.0.phase has) in let by = served_by names r.base g id m.0.seen m.0.phase has f.stands in
       let some_number = has_number names r.base g id m.0.number m.0.phase (own_list m.0) f.number has in
       let q = total_set in_queue s.views id m.0 w at in let q' : queued m.0.phase ≡ 1 = queued_slot m.0.phase has in
-      let k = total_set weight s.views id m.0 w at in let k' : weight m.0 ≡ numbered m.0.number + length m.0.ended = weighed m.0.phase (numbered m.0.number + length m.0.ended) (with_slot m.0.phase has) in
+      let k = total_set weight s.views id m.0 w at in
+      let k' : weight m.0 ≡ numbered m.0.number + length m.0.ended = weighed m.0.phase (numbered m.0.number + length m.0.ended) (with_slot m.0.phase has) in
       let qr = r.queue in let kr = r.seats in
       let out : s.homes ≡ none ∷ [] = ⊎_elim (λ home. absurd (home.4 id m.0 at has)) (λ o. o.2) r.slot in (
         w,
@@ -275,7 +309,8 @@ module _ {S E B : Type 0} (list : S → List E) (base_of : S → B) (names : E �
         runs_on _ record {
           base = r.base;
           now = pass g;
-          words = ap (λ ws. set ws 1 ((get_or ws 1 0 + 1) % 18446744073709551616)) r.words ∙ ap (λ t. g.drawn % 18446744073709551616 ∷ t ∷ length g.history ∷ []) (mod-add-mod g.passed 18446744073709551616 1);
+          words = ap (λ ws. set ws 1 ((get_or ws 1 0 + 1) % 2 ^ 64)) r.words
+              ∙ ap (λ t. g.drawn % 2 ^ 64 ∷ t ∷ length g.history ∷ []) (mod-add-mod g.passed (2 ^ 64) 1);
           queue = omega arith;
           seats = omega arith;
           some_made = r.some_made;
@@ -296,7 +331,8 @@ module _ {S E B : Type 0} (list : S → List E) (base_of : S → B) (names : E �
         refl,
       )
 
-  pub commits : (slots id : ℕ) (m : Me (Option S) (View E B)) (t : ℕ) (state : S) (more : List (ℕ × Option S)) (e : E) → m.0.phase ≡ Served t → m.1 ≡ (0, Some state) ∷ more
+  pub commits : (slots id : ℕ) (m : Me (Option S) (View E B)) (t : ℕ) (state : S) (more : List (ℕ × Option S)) (e : E)
+      → m.0.phase ≡ Served t → m.1 ≡ (0, Some state) ∷ more
       → list state ≡ m.0.seen ++ e ∷ [] → m.0.number ≡ Some (names e) → m.0.joined ≡ [] → m.0.base ≢ None → length (list state) < 2 ^ 63
       → Allows (Kept list base_of names) slots id m 2 (λ n. (n + 1) % 2 ^ 64) (committed list (step slots 2 1 0 none) m)
   commits slots id m t state more e has_turn slot adds number joined based short s h deep at fits =
@@ -307,17 +343,19 @@ module _ {S E B : Type 0} (list : S → List E) (base_of : S → B) (names : E �
       let long : list state ≡ g.history ++ e ∷ [] = adds ∙ ap (λ x. x ++ e ∷ []) by.1 in
       let count : length (list state) ≡ length g.history + 1 = ap length long ∙ length-append g.history (e ∷ []) in
       let q = total_set in_queue s.views id m.0 w at in let q' : queued m.0.phase ≡ 1 = ap queued has_turn in
-      let k = total_set weight s.views id m.0 w at in let k' : weight m.0 ≡ numbered m.0.number + length m.0.ended = ap (λ p. unless_spent p (numbered m.0.number + length m.0.ended)) has_turn in
+      let k = total_set weight s.views id m.0 w at in
+      let k' : weight m.0 ≡ numbered m.0.number + length m.0.ended = ap (λ p. unless_spent p (numbered m.0.number + length m.0.ended)) has_turn in
       let qr = r.queue in let kr = r.seats in
       let out : Out list base_of r.base s = ⊎_elim (λ home. absurd (home.4 id m.0 at has)) (λ o. o) r.slot in
-      let word : (length g.history + 1) % 18446744073709551616 ≡ length (g.history ++ e ∷ []) = mod_small (length g.history + 1) (omega arith) ∙ sym (length-append g.history (e ∷ [])) in (
+      let word : (length g.history + 1) % 2 ^ 64 ≡ length (g.history ++ e ∷ []) =
+      mod_small (length g.history + 1) (omega arith) ∙ sym (length-append g.history (e ∷ [])) in (
         w,
         keeps,
         tt,
         runs_on _ record {
           base = r.base;
           now = write g e;
-          words = ap (λ ws. set ws 2 ((get_or ws 2 0 + 1) % 18446744073709551616)) r.words ∙ ap (λ n. g.drawn % 18446744073709551616 ∷ g.passed % 18446744073709551616 ∷ n ∷ []) word;
+          words = ap (λ ws. set ws 2 ((get_or ws 2 0 + 1) % 2 ^ 64)) r.words ∙ ap (λ n. g.drawn % 2 ^ 64 ∷ g.passed % 2 ^ 64 ∷ n ∷ []) word;
           queue = omega arith;
           seats = omega arith;
           some_made = r.some_made;
@@ -326,7 +364,7 @@ module _ {S E B : Type 0} (list : S → List E) (base_of : S → B) (names : E �
           each = stay (λ j u. u.phase ≢ Spent → Fits names r.base (write g e) j u) s.views id w
               (λ _. write_own names r.base g e id t m.0 (list state) has_turn number joined long f)
               (λ j u other there lives. write_other names r.base g e id j u by.0 mine.1 other (r.each j u there lives));
-          slot = inr (out_stays list base_of r.base s id m.0 w (set s.words 2 ((get_or s.words 2 0 + 1) % 18446744073709551616)) at (λ _. tt) out);
+          slot = inr (out_stays list base_of r.base s id m.0 w (set s.words 2 ((get_or s.words 2 0 + 1) % 2 ^ 64)) at (λ _. tt) out);
         },
         λ state' slot' t' served'. ap (λ (p : ℕ × S). let v : View E B = record m.0 { phase = Done p.0; seen = list p.1 } in let x : Me (Option S) (View E B) = (v, m.1) in x)
             (λ i. (ap ticket_or (sym has_turn ∙ served') i, ap (slot_or state) (sym slot ∙ slot') i)),
@@ -338,18 +376,33 @@ module _ {S E B : Type 0} (list : S → List E) (base_of : S → B) (names : E �
         newcomer (Served 0),
         takes 0 None,
         ap (λ (x : State (Option S) (View E B)). get_elem? x.homes 0) e,
-        inr (inl ((λ i. stepped (e i) 2 (get_or (e i).words 2 0) id [] (newcomer (Served 0)) (takes 0 None)) ∙ ap (λ vs. let x : State (Option S) (View E B) = record { words = 0 ∷ 0 ∷ 0 ∷ []; homes = none ∷ []; views = vs } in x) (set_lone Idle (newcomer (Served 0)) (newcomer Idle) id (ap (λ (x : State (Option S) (View E B)). get_elem? x.views id) (sym e) ∙ at)))),
+        inr (inl (alone e)),
         refl,
       ))
       (λ t. ⊎_elim (λ e. absurd (alive_not (ap (λ (v : View E B). v.phase) (lone (Served 0) id (newcomer Idle) (ap (λ (x : State (Option S) (View E B)). get_elem? x.views id) (sym e) ∙ at)))))
       (λ r. absurd (there (Some r.base) r.base refl (sym (r.each id (newcomer Idle) at (alive Idle tt)).same_base))) t)
       h
+    where
+      -- the newcomer took the empty slot
+      alone : s ≡ empty_lock (some None) Idle
+          → stepped s 2 (get_or s.words 2 0) id [] (newcomer (Served 0)) (takes 0 None) ≡ empty_lock none (Served 0)
+      alone e = (λ i. stepped (e i) 2 (get_or (e i).words 2 0) id [] (newcomer (Served 0)) (takes 0 None))
+          ∙ ap (λ vs. let x : State (Option S) (View E B) = record { words = 0 ∷ 0 ∷ 0 ∷ []; homes = none ∷ []; views = vs } in x)
+          (set_lone Idle (newcomer (Served 0)) (newcomer Idle) id (ap (λ (x : State (Option S) (View E B)). get_elem? x.views id) (sym e) ∙ at))
 
   pub opens : (slots id : ℕ) (m : Me (Option S) (View E B)) → m ≡ (newcomer Idle, []) → Allows (Kept list base_of names) slots id m 2 (λ n. n) (opened (step slots 2 0 0 none) m)
   opens slots id m is = subst (λ x. Allows (Kept list base_of names) slots id x 2 (λ n. n) (opened (step slots 2 0 0 none) x)) (sym is) (opens_first slots id)
 
-  -- the lock with one seat and a state that stands for no entry
-  first_runs : (state : S) → list state ≡ [] → Running list base_of names (record { words = 0 ∷ 0 ∷ 0 ∷ []; homes = some (Some state) ∷ []; views = view_of (Some 0) Idle [] 0 (Some (base_of state)) (Some 1) ∷ [] })
+  -- the view of the one seat, when it has put a state into the slot
+  abbrev first_view : S → View E B
+  first_view state = view_of (Some 0) Idle [] 0 (Some (base_of state)) (Some 1)
+
+  -- the lock with one seat and a state
+  abbrev first_lock : S → State (Option S) (View E B)
+  first_lock state = record { words = 0 ∷ 0 ∷ 0 ∷ []; homes = some (Some state) ∷ []; views = first_view state ∷ [] }
+
+  -- the state stands for no entry
+  first_runs : (state : S) → list state ≡ [] → Running list base_of names (first_lock state)
   first_runs state empty = record {
     base = base_of state;
     now = record { history = []; drawn = 0; passed = 0; by = λ _. 0; made = 1; owner = λ _. 0; keeper = 0 };
@@ -367,10 +420,18 @@ module _ {S E B : Type 0} (list : S → List E) (base_of : S → B) (names : E �
       g = record { history = []; drawn = 0; passed = 0; by = λ _. 0; made = 1; owner = λ _. 0; keeper = 0 }
 
       first : View E B
-      first = view_of (Some 0) Idle [] 0 (Some (base_of state)) (Some 1)
+      first = first_view state
 
       fits_first : Fits names (base_of state) g 0 first
-      fits_first = record { seen = starts_same []; same_base = refl; number = (omega arith, refl, adds_none names 0 []); joined = tt; ended = tt; keeps = (refl, refl); stands = tt }
+      fits_first = record {
+        seen = starts_same [];
+        same_base = refl;
+        number = (omega arith, refl, adds_none names 0 []);
+        joined = tt;
+        ended = tt;
+        keeps = (refl, refl);
+        stands = tt;
+      }
 
       each_first : (id : ℕ) (v : View E B) → get_elem? (first ∷ []) id ≡ some v → v.phase ≢ Spent → Fits names (base_of state) g id v
       each_first zero v at lives = subst (Fits names (base_of state) g 0) (some-injective first v at) fits_first
@@ -380,18 +441,28 @@ module _ {S E B : Type 0} (list : S → List E) (base_of : S → B) (names : E �
       nobody_first zero v at has = subst (λ (u : View E B). HasSlot u.phase) (sym (some-injective first v at)) has
       nobody_first (suc id) v at has = some-ne-none v (sym at)
 
-  founds_first : (slots id : ℕ) (state : S) → list state ≡ [] → Allows (Kept list base_of names) slots id (newcomer (Served 0), (0, Some state) ∷ []) 2 (λ n. n) (founded base_of (step slots 2 0 0 none) (newcomer (Served 0), (0, Some state) ∷ []))
-  founds_first slots id state empty s h deep at fits = let w : View E B = view_of (Some 0) Idle [] 0 (Some (base_of state)) (Some 1) in ⊎_elim
-      (λ e. absurd (alive_not (ap (λ (v : View E B). v.phase) (sym (lone Idle id (newcomer (Served 0)) (ap (λ (x : State (Option S) (View E B)). get_elem? x.views id) (sym e) ∙ at))))))
+  founds_first : (slots id : ℕ) (state : S) → list state ≡ []
+      → Allows (Kept list base_of names) slots id (newcomer (Served 0), (0, Some state) ∷ []) 2 (λ n. n)
+      (founded base_of (step slots 2 0 0 none) (newcomer (Served 0), (0, Some state) ∷ []))
+  founds_first slots id state empty s h deep at fits = ⊎_elim
+      (λ e. absurd (alive_not (ap (λ (v : View E B). v.phase) (sym (lone Idle id (newcomer (Served 0))
+      (ap (λ (x : State (Option S) (View E B)). get_elem? x.views id) (sym e) ∙ at))))))
       (λ t. ⊎_elim (λ e. (
-        w,
+        first_view state,
         gives,
         tt,
-        runs_on _ (subst (Running list base_of names) (sym ((λ i. stepped (e i) 2 (get_or (e i).words 2 0) id ((0, Some state) ∷ []) w gives) ∙ ap (λ vs. let x : State (Option S) (View E B) = record { words = 0 ∷ 0 ∷ 0 ∷ []; homes = some (Some state) ∷ []; views = vs } in x) (set_lone (Served 0) w (newcomer (Served 0)) id (ap (λ (x : State (Option S) (View E B)). get_elem? x.views id) (sym e) ∙ at)))) (first_runs state empty)),
-        λ state' slot'. let same : state ≡ state' = ap (slot_or state) slot' in ap (λ x. let v : View E B = view_of (Some 0) Idle [] 0 (Some (base_of x)) (Some 1) in let y : Me (Option S) (View E B) = (v, []) in y) same,
+        runs_on _ (subst (Running list base_of names) (sym (alone e)) (first_runs state empty)),
+        λ state' slot'. ap (λ x. let y : Me (Option S) (View E B) = (first_view x, []) in y) (ap (slot_or state) slot'),
       ))
       (λ r. absurd (there (Some r.base) r.base refl (sym (r.each id (newcomer (Served 0)) at (alive (Served 0) tt)).same_base))) t)
       h
+    where
+      -- the newcomer left the slot with the state
+      alone : s ≡ empty_lock none (Served 0)
+          → stepped s 2 (get_or s.words 2 0) id ((0, Some state) ∷ []) (first_view state) gives ≡ first_lock state
+      alone e = (λ i. stepped (e i) 2 (get_or (e i).words 2 0) id ((0, Some state) ∷ []) (first_view state) gives)
+          ∙ ap (λ vs. let x : State (Option S) (View E B) = record { words = 0 ∷ 0 ∷ 0 ∷ []; homes = some (Some state) ∷ []; views = vs } in x)
+          (set_lone (Served 0) (first_view state) (newcomer (Served 0)) id (ap (λ (x : State (Option S) (View E B)). get_elem? x.views id) (sym e) ∙ at))
 
   pub founds : (slots id : ℕ) (m : Me (Option S) (View E B)) (state : S) → m ≡ (newcomer (Served 0), (0, Some state) ∷ []) → list state ≡ []
       → Allows (Kept list base_of names) slots id m 2 (λ n. n) (founded base_of (step slots 2 0 0 none) m)

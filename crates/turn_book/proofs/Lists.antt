@@ -1,6 +1,7 @@
 -- Lists of views and lists of entries.
-use Rattle.std.proofs.Common.{◌≡◌, ◌≢◌, ℕ, zero, suc, ◌+◌, ◌<◌, ◌≤◌, ◌⊎◌, List, [], ◌∷◌, ◌++◌, length, set, cond, sym, refl, ap, ◌∙◌, subst, inl, inr, ⊎_elim, arith, length-set, lt-ltb, le-ltb, append-nil, append_assoc}
+use Rattle.std.proofs.Common.{◌≡◌, ◌≢◌, ℕ, zero, suc, ◌+◌, ◌<◌, ◌≤◌, ◌⊎◌, List, [], ◌∷◌, ◌++◌, length, get_or, set, cond, sym, refl, ap, ◌∙◌, subst, inl, inr, ⊎_elim, arith, length-set, lt-ltb, le-ltb, append-nil, append_assoc}
 use Rattle.std.specs.List.{AllByRecursion}
+use Rattle.std.proofs.lemmas.List.{get_or_append_left, get_or_push, length_push}
 use mathlib.Core.Option.{some, some-injective, some-ne-none}
 use mathlib.Core.List.{append_cancel_left}
 use mathlib.Core.Logic.{dite}
@@ -48,6 +49,13 @@ module _ {A : Type 0} where
   at_end (x ∷ xs) a b zero e = inl e
   at_end (x ∷ xs) a b (suc j) e = ⊎_elim inl (λ t. inr (ap suc t.0, t.1)) (at_end xs a b j e)
 
+  -- what holds of each place holds of each where one more came
+  pub each_pushed : (P : ℕ → A → Type 0) (l : List A) (a : A) → ((j : ℕ) (d : A) → j < length l → P j (get_or l j d)) → P (length l) a
+      → (j : ℕ) (d : A) → j < length (l ++ a ∷ []) → P j (get_or (l ++ a ∷ []) j d)
+  each_pushed P l a each new j d inside = let long = length_push l a in dite (ℕ_discrete j (length l))
+      (λ here. subst (λ k. P k (get_or (l ++ a ∷ []) k d)) (sym here) (subst (P (length l)) (sym (get_or_push l a d (length l) refl)) new))
+      (λ before. let low : j < length l = omega arith in subst (P j) (sym (get_or_append_left l (a ∷ []) d j low)) (each j d low))
+
   pub inside : (l : List A) (i : ℕ) (a : A) → get_elem? l i ≡ some a → i < length l
   inside [] i a e = absurd (some-ne-none a (sym e))
   inside (x ∷ xs) zero a e = omega arith
@@ -60,7 +68,8 @@ module _ {A : Type 0} where
   -- the same where one more place came
   pub stay_more : (P : ℕ → A → Type 0) (l : List A) (i : ℕ) (w o : A) → P i w → P (length l) o → ((j : ℕ) (u : A) → j ≢ i → get_elem? l j ≡ some u → P j u)
       → (j : ℕ) (u : A) → get_elem? (set l i w ++ o ∷ []) j ≡ some u → P j u
-  stay_more P l i w o here end else j u at = ⊎_elim (λ t. stay P l i w here else j u t) (λ t. subst (λ (k : ℕ). P k u) (sym (t.0 ∙ length-set l i w)) (subst (P (length l)) t.1 end)) (at_end (set l i w) o u j at)
+  stay_more P l i w o here end else j u at = ⊎_elim (λ t. stay P l i w here else j u t)
+      (λ t. subst (λ (k : ℕ). P k u) (sym (t.0 ∙ length-set l i w)) (subst (P (length l)) t.1 end)) (at_end (set l i w) o u j at)
 
   pub total_set : (f : A → ℕ) (l : List A) (i : ℕ) (a b : A) → get_elem? l i ≡ some a → total f (set l i b) + f a ≡ total f l + f b
   total_set f [] i a b e = absurd (some-ne-none a (sym e))
@@ -143,22 +152,39 @@ module _ {E : Type 0} (names : E → ℕ) (n : ℕ) where
   adds_none h = record { more = []; is = sym (append-nil h); others = tt }
 
   pub adds_more : (seen h t : List E) → AllByRecursion (λ e. names e ≢ n) t → AddsNoneOf names n seen h → AddsNoneOf names n seen (h ++ t)
-  adds_more seen h t new a = record { more = a.more ++ t; is = ap (λ x. x ++ t) a.is ∙ append_assoc seen a.more t; others = each_both (λ e. names e ≢ n) a.more t a.others new }
+  adds_more seen h t new a = record {
+    more = a.more ++ t;
+    is = ap (λ x. x ++ t) a.is ∙ append_assoc seen a.more t;
+    others = each_both (λ e. names e ≢ n) a.more t a.others new;
+  }
 
   split_more : (own seen h : List E) (o : StartsWith seen own) (s : StartsWith h seen) (a : AddsNoneOf names n own h) → a.more ≡ o.more ++ s.more
   split_more own seen h o s a = append_cancel_left own _ _ (sym a.is ∙ (s.is ∙ (ap (λ x. x ++ s.more) o.is ∙ append_assoc own o.more s.more)))
 
   -- the part of what was added that was not seen yet
   pub adds_cut : (own seen h : List E) → StartsWith seen own → StartsWith h seen → AddsNoneOf names n own h → AddsNoneOf names n seen h
-  adds_cut own seen h o s a = record { more = s.more; is = s.is; others = each_right (λ e. names e ≢ n) o.more s.more (subst (AllByRecursion (λ e. names e ≢ n)) (split_more own seen h o s a) a.others) }
+  adds_cut own seen h o s a = record {
+    more = s.more;
+    is = s.is;
+    others = each_right (λ e. names e ≢ n) o.more s.more (subst (AllByRecursion (λ e. names e ≢ n)) (split_more own seen h o s a) a.others);
+  }
 
   -- the part that was
   pub adds_rest : (own seen h : List E) → StartsWith seen own → StartsWith h seen → AddsNoneOf names n own h → AddsNoneOf names n own seen
-  adds_rest own seen h o s a = record { more = o.more; is = o.is; others = each_left (λ e. names e ≢ n) o.more s.more (subst (AllByRecursion (λ e. names e ≢ n)) (split_more own seen h o s a) a.others) }
+  adds_rest own seen h o s a = record {
+    more = o.more;
+    is = o.is;
+    others = each_left (λ e. names e ≢ n) o.more s.more (subst (AllByRecursion (λ e. names e ≢ n)) (split_more own seen h o s a) a.others);
+  }
 
   -- a number that no entry names yet
   pub adds_above : (seen h : List E) → StartsWith h seen → AllByRecursion (λ e. names e < n) h → AddsNoneOf names n seen h
-  adds_above seen h s low = record { more = s.more; is = s.is; others = each_of (λ e. names e < n) (λ e. names e ≢ n) s.more (λ e lt is. omega arith) (each_right (λ e. names e < n) seen s.more (subst (AllByRecursion (λ e. names e < n)) s.is low)) }
+  adds_above seen h s low = record {
+    more = s.more;
+    is = s.is;
+    others = each_of (λ e. names e < n) (λ e. names e ≢ n) s.more (λ e lt is. omega arith)
+        (each_right (λ e. names e < n) seen s.more (subst (AllByRecursion (λ e. names e < n)) s.is low));
+  }
 
   pub adds_starts : (seen h : List E) → AddsNoneOf names n seen h → StartsWith h seen
   adds_starts seen h a = record { more = a.more; is = a.is }

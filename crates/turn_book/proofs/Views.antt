@@ -1,14 +1,12 @@
 -- What stays true of each view where the ledger changes.
-use Rattle.std.proofs.Common.{◌≡◌, ◌≢◌, ℕ, ◌+◌, ◌<◌, ◌≤◌, List, [], ◌∷◌, ◌++◌, length, sym, refl, ap, ◌∙◌, subst, arith, Option, Some, None}
+use Rattle.std.proofs.Common.{◌≡◌, ◌≢◌, ℕ, ◌+◌, List, [], ◌∷◌, ◌++◌, sym, refl, ap, ◌∙◌, subst, arith, Option, Some, None}
 use Rattle.std.specs.List.{AllByRecursion}
-use Rattle.turn_book.specs.Histories.{StartsWith, AddsNoneOf, longer_of, first_or}
+use Rattle.turn_book.specs.Histories.{StartsWith, AddsNoneOf, first_or}
 use Rattle.turn_book.specs.Rule.{Ledger, Stands, HasNumber, IsNumbered, HasEnded, Keeps, Fits, own_list}
-use Rattle.turn_book.specs.Steps.{own_end, either_made}
-use Rattle.turn_book.specs.declared.view.Ended.{Ended}
 use Rattle.turn_book.specs.declared.view.View.{View}
 use Rattle.turn_book.specs.declared.view.Phase.{Phase}
 use Rattle.turn_book.specs.declared.view.Phase.TheVariants.{Idle, Waiting, Served, Done, Spent}
-use Rattle.turn_book.proofs.Lists.{put, put_here, put_else, each_of, each_both, starts_same, starts_more, starts_on, adds_none, adds_more, adds_cut}
+use Rattle.turn_book.proofs.Lists.{put, put_here, put_else, each_of, starts_same, starts_more, starts_on, adds_none, adds_more, adds_cut}
 
 module _ {E : Type 0} where
   -- a ticket is drawn by the view id
@@ -39,12 +37,14 @@ pub taken : (f : ℕ → ℕ) (other id n : ℕ) → f n ≡ other → put (λ x
 taken f other id n is = ap (put (λ x. x) other id) is ∙ put_here (λ x. x) other id
 
 module _ {E B : Type 0} (names : E → ℕ) (base : B) where
-  pub renumber : (g : Ledger E) (id : ℕ) (number : Option ℕ) (old new : Phase) (seen : List E) → number ≢ None → IsNumbered names base g id number old seen → IsNumbered names base g id number new seen
+  pub renumber : (g : Ledger E) (id : ℕ) (number : Option ℕ) (old new : Phase) (seen : List E) → number ≢ None
+      → IsNumbered names base g id number old seen → IsNumbered names base g id number new seen
   renumber g id None old new seen some_number h = absurd (some_number refl)
   renumber g id (Some n) old new seen some_number h = h
 
   -- a view in another phase
-  pub rephase : (g : Ledger E) (id : ℕ) (v : View E B) (phase : Phase) → v.number ≢ None → Stands names base g id v.seen phase → Fits names base g id v → Fits names base g id (record v { phase = phase })
+  pub rephase : (g : Ledger E) (id : ℕ) (v : View E B) (phase : Phase) → v.number ≢ None
+      → Stands names base g id v.seen phase → Fits names base g id v → Fits names base g id (record v { phase = phase })
   rephase g id v phase some_number stands f = record {
     seen = f.seen;
     same_base = f.same_base;
@@ -91,7 +91,8 @@ module _ {E B : Type 0} (names : E → ℕ) (base : B) where
       draw_keeps (Some n) h = h
 
   -- pass: the view me had the turn
-  pass_stands : (g : Ledger E) (me j : ℕ) (seen : List E) (phase : Phase) → g.by g.passed ≡ me → j ≢ me → Stands names base g j seen phase → Stands names base (pass g) j seen phase
+  pass_stands : (g : Ledger E) (me j : ℕ) (seen : List E) (phase : Phase) → g.by g.passed ≡ me → j ≢ me
+      → Stands names base g j seen phase → Stands names base (pass g) j seen phase
   pass_stands g me j seen Idle turn other h = tt
   pass_stands g me j seen (Waiting t) turn other h = let a = h.0 in let apart : t ≢ g.passed = λ e. other (sym h.2 ∙ (ap g.by e ∙ turn)) in (omega arith, h.1, h.2)
   pass_stands g me j seen (Served t) turn other h = absurd (other (sym h.2 ∙ (ap g.by h.0 ∙ turn)))
@@ -99,7 +100,15 @@ module _ {E B : Type 0} (names : E → ℕ) (base : B) where
   pass_stands g me j seen Spent turn other h = tt
 
   pub pass_fits : (g : Ledger E) (j : ℕ) (v : View E B) → Stands names base (pass g) j v.seen v.phase → Fits names base g j v → Fits names base (pass g) j v
-  pass_fits g j v stands f = record { seen = f.seen; same_base = f.same_base; number = pass_number v.number v.phase (own_list v) f.number; joined = f.joined; ended = f.ended; keeps = pass_keeps v.made f.keeps; stands = stands }
+  pass_fits g j v stands f = record {
+    seen = f.seen;
+    same_base = f.same_base;
+    number = pass_number v.number v.phase (own_list v) f.number;
+    joined = f.joined;
+    ended = f.ended;
+    keeps = pass_keeps v.made f.keeps;
+    stands = stands;
+  }
     where
       pass_number : (number : Option ℕ) (phase : Phase) (seen : List E) → IsNumbered names base g j number phase seen → IsNumbered names base (pass g) j number phase seen
       pass_number None phase seen h = h
@@ -113,7 +122,8 @@ module _ {E B : Type 0} (names : E → ℕ) (base : B) where
   pass_other g me j v turn other f = pass_fits g j v (pass_stands g me j v.seen v.phase turn other f.stands) f
 
   -- write: the view me has the turn, and the entry names one of its numbers
-  write_stands : (g : Ledger E) (e : E) (me j : ℕ) (seen : List E) (phase : Phase) → g.by g.passed ≡ me → j ≢ me → Stands names base g j seen phase → Stands names base (write g e) j seen phase
+  write_stands : (g : Ledger E) (e : E) (me j : ℕ) (seen : List E) (phase : Phase) → g.by g.passed ≡ me → j ≢ me
+      → Stands names base g j seen phase → Stands names base (write g e) j seen phase
   write_stands g e me j seen Idle turn other h = tt
   write_stands g e me j seen (Waiting t) turn other h = h
   write_stands g e me j seen (Served t) turn other h = absurd (other (sym h.2 ∙ (ap g.by h.0 ∙ turn)))
@@ -133,7 +143,8 @@ module _ {E B : Type 0} (names : E → ℕ) (base : B) where
     same_base = f.same_base;
     number = numbers v.number v.phase (own_list v) f.number;
     joined = f.joined;
-    ended = each_of (HasEnded names base g j v.number v.seen) (HasEnded names base (write g e) j v.number v.seen) v.ended (λ x h. (write_number g e j x.number x.seen (else x.number h.0.1) h.0, h.1, h.2)) f.ended;
+    ended = each_of (HasEnded names base g j v.number v.seen) (HasEnded names base (write g e) j v.number v.seen) v.ended
+        (λ x h. (write_number g e j x.number x.seen (else x.number h.0.1) h.0, h.1, h.2)) f.ended;
     keeps = write_keeps g e j v.made f.keeps;
     stands = write_stands g e me j v.seen v.phase turn other f.stands;
   }
@@ -146,7 +157,8 @@ module _ {E B : Type 0} (names : E → ℕ) (base : B) where
       numbers (Some n) phase seen h = write_number g e j n seen (else n h.1) h
 
   -- the writer's own view: what it has seen is the history with the entry
-  pub write_own : (g : Ledger E) (e : E) (me t : ℕ) (v : View E B) (seen : List E) → v.phase ≡ Served t → v.number ≡ Some (names e) → v.joined ≡ [] → seen ≡ g.history ++ e ∷ [] → Fits names base g me v
+  pub write_own : (g : Ledger E) (e : E) (me t : ℕ) (v : View E B) (seen : List E)
+      → v.phase ≡ Served t → v.number ≡ Some (names e) → v.joined ≡ [] → seen ≡ g.history ++ e ∷ [] → Fits names base g me v
       → Fits names base (write g e) me (record v { phase = Done t; seen = seen })
   write_own g e me t v seen served number joined is f = let st = subst (Stands names base g me v.seen) served f.stands in record {
     seen = subst (λ x. StartsWith (g.history ++ e ∷ []) x) (sym is) (starts_same (g.history ++ e ∷ []));
@@ -155,7 +167,11 @@ module _ {E B : Type 0} (names : E → ℕ) (base : B) where
         (subst (λ x. HasNumber names base (write g e) me (names e) x) (sym (ap (first_or seen) joined ∙ is)) (at_number.0, at_number.1, adds_none names (names e) (g.history ++ e ∷ [])));
     joined = subst (AllByRecursion (StartsWith seen)) (sym joined) tt;
     ended = each_of (HasEnded names base g me v.number v.seen) (HasEnded names base (write g e) me v.number seen) v.ended
-        (λ x h. (write_number g e me x.number x.seen (λ same. h.2 (number ∙ ap Some same)) h.0, subst (λ y. StartsWith y x.seen) (sym is) (starts_more g.history x.seen (e ∷ []) (subst (λ y. StartsWith y x.seen) st.3 h.1)), h.2)) f.ended;
+        (λ x h. (
+          write_number g e me x.number x.seen (λ same. h.2 (number ∙ ap Some same)) h.0,
+          subst (λ y. StartsWith y x.seen) (sym is) (starts_more g.history x.seen (e ∷ []) (subst (λ y. StartsWith y x.seen) st.3 h.1)),
+          h.2,
+        )) f.ended;
     keeps = write_keeps g e me v.made f.keeps;
     stands = (st.0, st.1, st.2, is);
   }
@@ -164,14 +180,16 @@ module _ {E B : Type 0} (names : E → ℕ) (base : B) where
       at_number = subst (λ k. IsNumbered names base g me k v.phase (own_list v)) number f.number
 
   -- a look at the whole history, in a phase that fits
-  pub look_fits : (g : Ledger E) (id : ℕ) (v : View E B) (phase : Phase) (looks : ℕ) (seen : List E) → seen ≡ g.history → v.number ≢ None → Stands names base g id seen phase → Fits names base g id v
+  pub look_fits : (g : Ledger E) (id : ℕ) (v : View E B) (phase : Phase) (looks : ℕ) (seen : List E)
+      → seen ≡ g.history → v.number ≢ None → Stands names base g id seen phase → Fits names base g id v
       → Fits names base g id (record v { phase = phase; seen = seen; looks = looks; joined = [] })
   look_fits g id v phase looks seen is some_number stands f = record {
     seen = subst (λ x. StartsWith g.history x) (sym is) (starts_same g.history);
     same_base = f.same_base;
     number = numbers v.number f.number some_number;
     joined = tt;
-    ended = each_of (HasEnded names base g id v.number v.seen) (HasEnded names base g id v.number seen) v.ended (λ x h. (h.0, subst (λ y. StartsWith y x.seen) (sym is) (starts_on g.history v.seen x.seen f.seen h.1), h.2)) f.ended;
+    ended = each_of (HasEnded names base g id v.number v.seen) (HasEnded names base g id v.number seen) v.ended
+        (λ x h. (h.0, subst (λ y. StartsWith y x.seen) (sym is) (starts_on g.history v.seen x.seen f.seen h.1), h.2)) f.ended;
     keeps = f.keeps;
     stands = stands;
   }
@@ -182,7 +200,15 @@ module _ {E B : Type 0} (names : E → ℕ) (base : B) where
 
   -- the joined lists are forgotten
   pub learn_fits : (g : Ledger E) (id : ℕ) (v : View E B) → Fits names base g id v → Fits names base g id (record v { joined = [] })
-  learn_fits g id v f = record { seen = f.seen; same_base = f.same_base; number = numbers v.number f.number; joined = tt; ended = f.ended; keeps = f.keeps; stands = f.stands }
+  learn_fits g id v f = record {
+    seen = f.seen;
+    same_base = f.same_base;
+    number = numbers v.number f.number;
+    joined = tt;
+    ended = f.ended;
+    keeps = f.keeps;
+    stands = f.stands;
+  }
     where
       numbers : (number : Option ℕ) → IsNumbered names base g id number v.phase (own_list v) → IsNumbered names base g id number v.phase v.seen
       numbers None h = h
@@ -198,7 +224,8 @@ module _ {E B : Type 0} (names : E → ℕ) (base : B) where
     same_base = f.same_base;
     number = numbers v.number v.phase (own_list v) f.number;
     joined = f.joined;
-    ended = each_of (HasEnded names base g j v.number v.seen) (HasEnded names base (seat_more g new) j v.number v.seen) v.ended (λ x h. (seat_number g new j x.number x.seen h.0, h.1, h.2)) f.ended;
+    ended = each_of (HasEnded names base g j v.number v.seen) (HasEnded names base (seat_more g new) j v.number v.seen) v.ended
+        (λ x h. (seat_number g new j x.number x.seen h.0, h.1, h.2)) f.ended;
     keeps = subst (Keeps names base (seat_more g new) j) (sym none_made) tt;
     stands = stands v.seen v.phase f.stands;
   }
@@ -220,7 +247,8 @@ module _ {E B : Type 0} (names : E → ℕ) (base : B) where
     same_base = f.same_base;
     number = numbers v.number v.phase (own_list v) f.number;
     joined = f.joined;
-    ended = each_of (HasEnded names base g j v.number v.seen) (HasEnded names base (merge g other id) j v.number v.seen) v.ended (λ x h. ((h.0.0, merged g.owner other id j x.number h.0.1 apart, h.0.2), h.1, h.2)) f.ended;
+    ended = each_of (HasEnded names base g j v.number v.seen) (HasEnded names base (merge g other id) j v.number v.seen) v.ended
+        (λ x h. ((h.0.0, merged g.owner other id j x.number h.0.1 apart, h.0.2), h.1, h.2)) f.ended;
     keeps = keeps v.made f.keeps;
     stands = stands v.seen v.phase f.stands;
   }

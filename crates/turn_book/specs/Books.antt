@@ -1,5 +1,5 @@
 -- What a clause reads of a book, a turn and a note.
-use Rattle.std.specs.Prelude.{◌≡◌, ◌≢◌, ℕ, ◌+◌, List, [], ◌∷◌, length, Option, Some, None, slice_index_or, ◌-◌, ◌<◌}
+use Rattle.std.specs.Prelude.{◌≡◌, ◌≢◌, ℕ, ◌+◌, List, [], length, Option, Some, None, slice_index_or, ◌-◌, ◌<◌}
 use Rattle.std.specs.Borrow.{MutBor}
 use Rattle.atomic_table.specs.Seated.{TableId}
 use Rattle.atomic_table.specs.declared.shared.Seat.{Seat}
@@ -59,7 +59,8 @@ module _ {S E B : Type 0} where
   -- the seats of a new book, in the order of their numbers; the last one knows how many there are
   pub record AreNewSeats (id : TableId) (base : Option B) (count : ℕ) (seats : List (Seat (Option S) (View E B))) : Type 0 where
     pub count_is : length seats ≡ count
-    pub each : (place : ℕ) (default : Seat (Option S) (View E B)) → place < length seats → IsNewSeat id base count place (slice_index_or seats place default)
+    pub each : (place : ℕ) (default : Seat (Option S) (View E B)) → place < length seats
+        → IsNewSeat id base count place (slice_index_or seats place default)
 
   -- the list has the first seats of a book, in the order of their numbers, each with whatever it lies in
   pub record AreFirstSeats {T : Type 0} (id : TableId) (seat_in : T → Seat (Option S) (View E B)) (seats : List T) : Type 0 where
@@ -75,7 +76,8 @@ module _ {S E B : Type 0} where
 
   -- the history goes on from what each seat has seen, and no entry past that names the seat
   abbrev pub GoesOnFromEach : {T : Type 0} → (E → ℕ) → (T → Seat (Option S) (View E B)) → List T → List E → Type 0
-  GoesOnFromEach {T} names seat_in seats history = (place : ℕ) (default : T) → place < length seats → AddsNoneOf names place (seen_of (seat_in (slice_index_or seats place default))) history
+  GoesOnFromEach {T} names seat_in seats history = (place : ℕ) (default : T) → place < length seats
+      → AddsNoneOf names place (seen_of (seat_in (slice_index_or seats place default))) history
 
   -- the last seat was told this base
   abbrev pub IsBaseOfLast : {T : Type 0} → (T → Seat (Option S) (View E B)) → List T → B → Type 0

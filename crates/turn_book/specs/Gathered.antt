@@ -12,10 +12,12 @@ use Rattle.turn_book.specs.declared.view.Phase.TheVariants.{Idle}
 
 -- what a view with others joined to it says of the history
 abbrev pub Says : {E B : Type 0} → (E → ℕ) → View E B → List E → Type 0
-Says names v history = AddsNoneOfOwn names v.number (own_list v) history × AllByRecursion (λ e. AddsNoneOf names e.number e.seen history) v.ended
+Says names v history =
+    AddsNoneOfOwn names v.number (own_list v) history × AllByRecursion (λ e. AddsNoneOf names e.number e.seen history) v.ended
 
 -- all seats but a beginning of the list are joined to this one, which is the last
-pub record IsGathered {S E B T : Type 0} (names : E → ℕ) (id : TableId) (seat_in : T → Seat (Option S) (View E B)) (seats left : List T) (all : Seat (Option S) (View E B)) : Type 0 where
+pub record IsGathered {S E B T : Type 0} (names : E → ℕ) (id : TableId) (seat_in : T → Seat (Option S) (View E B))
+    (seats left : List T) (all : Seat (Option S) (View E B)) : Type 0 where
   pub book : all.table_id ≡ id
   pub bare : all.me.1 ≡ []
   pub idle : all.me.0.phase ≡ Idle

@@ -4,7 +4,7 @@
 -- A seat draws a ticket by a fetch-and-add, waits until the lock serves that number, takes the state out of its slot, may add
 -- one entry, puts the state back and passes the lock on by a fetch-and-add. What a seat knows is its view. The rule says how
 -- the three words, the slot and all views fit together between any two atomic steps.
-use Rattle.std.specs.Prelude.{◌≡◌, ◌≢◌, ◌⊎◌, ℕ, ◌+◌, ◌%◌, ◌^◌, ◌<◌, ◌≤◌, List, [], ◌∷◌, ◌++◌, length, Option, Some, None}
+use Rattle.std.specs.Prelude.{◌≡◌, ◌≢◌, ◌⊎◌, ℕ, ◌+◌, ◌%◌, ◌^◌, ◌<◌, ◌≤◌, List, [], ◌∷◌, length, Option, Some, None}
 use Rattle.std.specs.List.{AllByRecursion}
 use mathlib.Core.Option.{some, none}
 use mathlib.Core.Option as maybe
@@ -55,7 +55,16 @@ module _ {E B : Type 0} where
 
   -- a view with nothing joined to it
   abbrev pub view_of : Option ℕ → Phase → List E → ℕ → Option B → Option ℕ → View E B
-  view_of number phase seen looks base made = record { number = number; phase = phase; seen = seen; looks = looks; joined = []; ended = []; base = base; made = made }
+  view_of number phase seen looks base made = record {
+    number = number;
+    phase = phase;
+    seen = seen;
+    looks = looks;
+    joined = [];
+    ended = [];
+    base = base;
+    made = made;
+  }
 
   -- what the seat itself had seen, whatever was joined to it since
   abbrev pub own_list : View E B → List E

@@ -30,7 +30,8 @@ module _ {S E B : Type 0} where
 
   -- the slot comes home with a state, and there is one seat
   abbrev pub founded : (S → B) → Step (Option S) → Me (Option S) (View E B) → ℕ → Me (Option S) (View E B) → Type 0
-  founded base_of st m n m' = (state : S) → m.1 ≡ (0, Some state) ∷ rest m.1 → m' ≡ (view_of (Some 0) Idle [] 0 (Some (base_of state)) (Some 1), rest m.1)
+  founded base_of st m n m' = (state : S) → m.1 ≡ (0, Some state) ∷ rest m.1
+      → m' ≡ (view_of (Some 0) Idle [] 0 (Some (base_of state)) (Some 1), rest m.1)
 
   -- the number found is the ticket
   abbrev pub drew : Step (Option S) → Me (Option S) (View E B) → ℕ → Me (Option S) (View E B) → Type 0
@@ -39,7 +40,8 @@ module _ {S E B : Type 0} where
   module _ (list : S → List E) (base_of : S → B) (names : E → ℕ) where
     -- the slot goes out to the seat, which has then seen the history
     abbrev pub Enters : Me (Option S) (View E B) → ℕ → Me (Option S) (View E B) → Type 0
-    Enters m t m' = (state : S) × (m' ≡ (record m.0 { phase = Served t; seen = list state; looks = m.0.looks + 1; joined = [] }, (0, Some state) ∷ m.1))
+    Enters m t m' = (state : S)
+        × (m' ≡ (record m.0 { phase = Served t; seen = list state; looks = m.0.looks + 1; joined = [] }, (0, Some state) ∷ m.1))
         × (m.0.base ≡ Some (base_of state)) × Tells names m.0 (list state)
 
     -- the lock serves the ticket, or the seat goes on waiting
@@ -57,7 +59,8 @@ module _ {S E B : Type 0} where
 
   -- the number found is the length of the history, which the seat has then seen
   abbrev pub counted : (E → ℕ) → Step (Option S) → Me (Option S) (View E B) → ℕ → Me (Option S) (View E B) → Type 0
-  counted names st m n m' = (history : List E) × (n ≡ length history) × (m' ≡ (record m.0 { seen = history; looks = m.0.looks + 1; joined = [] }, m.1)) × Tells names m.0 history
+  counted names st m n m' = (history : List E) × (n ≡ length history)
+      × (m' ≡ (record m.0 { seen = history; looks = m.0.looks + 1; joined = [] }, m.1)) × Tells names m.0 history
 
   -- what was joined is told, and forgotten
   abbrev pub learnt : (E → ℕ) → Step (Option S) → Me (Option S) (View E B) → ℕ → Me (Option S) (View E B) → Type 0

@@ -6,7 +6,7 @@ use Rattle.atomic_table.specs.declared.shared.Seat.{Seat}
 use Rattle.turn_book.specs.Histories.{AddsNoneOf}
 use Rattle.turn_book.specs.Rule.{view_of}
 use Rattle.turn_book.specs.declared.view.View.{View}
-use Rattle.turn_book.specs.declared.view.Phase.TheVariants.{Idle, Waiting, Served, Done}
+use Rattle.turn_book.specs.declared.view.Phase.TheVariants.{Idle, Waiting, Served}
 
 -- a lock has three words and one slot
 abbrev pub IsSized : TableId → Type 0
@@ -68,7 +68,8 @@ module _ {S E B : Type 0} where
 
   -- the seat has the turn of its ticket, and the slot, whose state is out in the caller's hand
   pub record IsServed (seat : Seat (Option S) (View E B)) (ticket : ℕ) : Type 0 where
-    pub me : seat.me ≡ (view_of (Some (number_of seat)) (Served ticket) (seen_of seat) (looks_of seat) (base_of seat) (made_of seat), (0, None) ∷ [])
+    pub me : seat.me
+        ≡ (view_of (Some (number_of seat)) (Served ticket) (seen_of seat) (looks_of seat) (base_of seat) (made_of seat), (0, None) ∷ [])
     pub based : base_of seat ≢ None
 
   -- the seat that a turn leaves behind it, as its fields end: the book, the seat and the state

@@ -1,7 +1,8 @@
 //! A ticket lock whose state stands for a list of entries.
 //!
 //! Threads take turns at one state, in the order in which they drew their tickets. Each thread has a [`Seat`], and the
-//! contracts tell what it has seen of the history: each turn's state extends it, and no entry past it is the seat's own.
+//! contracts tell what it has seen of the history: each turn's state extends it, and no entry past it is the seat's
+//! own.
 #![tactic(auto)]
 
 pub mod book;

@@ -98,7 +98,8 @@ pub fn wait<S: Serial, R: Wait>(lock: &Lock<S>, rt: &R, seat: &mut Seat<S>, tick
 pub fn pass_on<S: Serial>(lock: &Lock<S>, seat: &mut Seat<S>)
     requires lock { IsSized lock.now.table_id × (seat.old.table_id ≡ lock.now.table_id) }
     requires served { HasSlot seat.old.me.0.phase }
-    requires full { (state : S) × (seat.old.me.1 ≡ (0, Some state) ∷ []) × (S.list state ≡ seen_of seat.old) × (base_of seat.old ≡ Some (S.base state)) }
+    requires full { (state : S) × (seat.old.me.1 ≡ (0, Some state) ∷ []) × (S.list state ≡ seen_of seat.old)
+        × (base_of seat.old ≡ Some (S.base state)) }
     ensures seat { (seat.new.table_id ≡ seat.old.table_id) × (seat.new.id ≡ seat.old.id) }
     ensures idle { seat.new.me ≡ (record seat.old.me.0 { phase = Idle }, []) }
 {

@@ -1,6 +1,7 @@
 //! The rule of the lock, and the names of its atomic steps. `specs/Rule.antt` and `specs/Steps.antt` say what they are.
 ghost use Rattle.turn_book.specs.Rule.{Kept, newcomer};
-ghost use Rattle.turn_book.specs.Steps.{opened, founded, drew, served, committed, passed_on, counted, learnt, same_view, note_of, hands_on, next_of, met, spent};
+ghost use Rattle.turn_book.specs.Steps.{opened, founded, drew, served, committed, passed_on};
+ghost use Rattle.turn_book.specs.Steps.{counted, learnt, same_view, note_of, hands_on, next_of, met, spent};
 ghost use Rattle.turn_book.specs.declared.view.Phase.TheVariants.{Idle};
 
 use crate::serial::Serial;

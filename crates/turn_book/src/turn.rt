@@ -34,7 +34,8 @@ impl<'a, S: Serial> Turn<'a, S> {
         &mut self.state
     }
 
-    /// Adds an entry to the history and ends the turn. The state stands for the list with the entry, which names the seat.
+    /// Adds an entry to the history and ends the turn. The state stands for the list with the entry, which names the
+    /// seat.
     pub fn commit(self, entry: S::Entry)
         requires turn { IsTurn self }
         requires own { S.names entry ≡ number_of (seat_of self) }

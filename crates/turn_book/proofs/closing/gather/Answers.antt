@@ -1,4 +1,4 @@
-use Rattle.std.proofs.Common.{rules, ◌≡◌, ap, sym, subst, ◌∙◌, ◌++◌, ◌∷◌, []}
+use Rattle.std.proofs.Common.{rules, ◌≡◌, ap, subst, ◌∙◌, ◌++◌, ◌∷◌, []}
 use Rattle.turn_book.specs.Gathered.{IsGathered}
 use Rattle.turn_book.specs.Histories.{StartsWith}
 use Rattle.turn_book.specs.Steps.{met}
@@ -21,4 +21,5 @@ pub loop-next-preserved : goal.loop-next-preserved
 loop-next-preserved g c = let kept = c.loop-next.invariant in let left = c.pop-in-loop-next.new.self.items in let next = c.in-Some.next in
     let is : c.loop-next.rest.items ≡ left ++ next ∷ [] = c.in-Some.ensures.items in let all = c.loop-next.all in let join = c.join_seat.ensures in
     gathers_more g.S.Serial.names c.args.lock.now.table_id g.T.Sits.seat c.args.seats.items c.requires.seats left next all c.join_seat.new.seat
-    (subst (λ xs. IsGathered g.S.Serial.names c.args.lock.now.table_id g.T.Sits.seat c.args.seats.items xs all) is kept) (join.0 ∙ kept.book) (join.2 ∙ ap (λ s. (met all.me.0 s.me.0, all.me.1)) c.into_seat.ensures)
+    (subst (λ xs. IsGathered g.S.Serial.names c.args.lock.now.table_id g.T.Sits.seat c.args.seats.items xs all) is kept)
+    (join.0 ∙ kept.book) (join.2 ∙ ap (λ s. (met all.me.0 s.me.0, all.me.1)) c.into_seat.ensures)

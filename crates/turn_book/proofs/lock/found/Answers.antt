@@ -1,4 +1,4 @@
-use Rattle.std.proofs.Common.{rules, ap, sym, ◌∙◌, ◌∷◌, [], Some}
+use Rattle.std.proofs.Common.{rules, ap, ◌∙◌, ◌∷◌, [], Some}
 use Rattle.turn_book.proofs.Keeps.{opens, founds}
 use Rattle.turn_book.proofs.lock.found.Goals as goal
 

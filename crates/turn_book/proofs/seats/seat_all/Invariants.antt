@@ -1,4 +1,4 @@
-use Rattle.std.proofs.Common.{◌≡◌, ◌≢◌, ◌+◌, ◌-◌, ◌<◌, ◌≤◌, [], Some, None, length, slice_index_or}
+use Rattle.std.proofs.Common.{◌≡◌, ◌+◌, ◌-◌, ◌<◌, [], Some, length, slice_index_or}
 use Rattle.std.specs.Prelude.{vec_capacity}
 use Rattle.turn_book.specs.Books.{IsNewSeat}
 use Rattle.turn_book.specs.Rule.{view_of}

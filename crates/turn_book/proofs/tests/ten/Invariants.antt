@@ -1,4 +1,3 @@
-use Rattle.std.proofs.Common.{◌≡◌}
 use Rattle.turn_book.specs.Turns.{SameSeat, IsIdle}
 use Rattle.turn_book.proofs.tests.ten.Given as goal
 
