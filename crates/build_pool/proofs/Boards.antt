@@ -1,8 +1,8 @@
 -- A map whose passable cells are those of a list.
 use Prim.Native.Nat.{zero}
-use Rattle.std.proofs.Common.{◌≡◌, ℕ, ◌+◌, ◌*◌, ◌<◌, ◌≤◌, ◌↔◌, Bool, true, false, cond, List, [], ◌∷◌, ◌++◌, length, get_or, set, take, replicate, All, count_by, max, refl, suc, sym, ap, ◌∙◌, subst, inl, inr, arith}
+use Rattle.std.proofs.Common.{◌≡◌, ℕ, ◌+◌, ◌*◌, ◌<◌, ◌≤◌, ◌↔◌, Bool, true, false, cond, List, [], ◌∷◌, ◌++◌, length, get_or, set, take, replicate, All, count_by, refl, suc, sym, ap, ◌∙◌, subst, inl, inr, arith}
 use Rattle.std.specs.List.{Contains}
-use Rattle.std.proofs.lemmas.Bool.{cases_eq, cases_lt, false≢true}
+use Rattle.std.proofs.lemmas.Bool.{cases_eq, false≢true}
 use Rattle.std.proofs.lemmas.Nat.{mul-le}
 use Rattle.std.proofs.lemmas.List.{get_or-set_same, get_or-set_other, length-set, length-replicate, get_or_default, take_more, take_all}
 use Rattle.std.proofs.lemmas.List.Elements.{Contains-push_cases, Contains-push, Contains-append_left}
@@ -10,7 +10,7 @@ use Rattle.std.proofs.lemmas.List.Sums.{sum_by-set}
 use Rattle.std.proofs.lemmas.List.Folds.{sum_by-replicate}
 use Rattle.moves.specs.declared.Cell.{Cell}
 use Rattle.moves.specs.declared.TheConstants.{MAX_PASSABLE}
-use Rattle.moves.specs.Maps.{Map, IsWithinLimits, IsPassable, IsSearchable, place_of, map_with}
+use Rattle.moves.specs.Maps.{Map, IsWithinLimits, IsSearchable, place_of, map_with}
 use Rattle.moves.specs.ComponentLaws.{HasJust}
 use Rattle.moves.proofs.OneValue.{one_value}
 use Rattle.moves.proofs.RowMajor.{same_cell_from_place, place_inside}
@@ -51,7 +51,8 @@ marked_none cells width height marks blank = record {
   few = let none = sum_by-replicate (λ (mark : Bool). cond {A = ℕ} mark 1 0) (width * height) false in rw blank (omega (arith, none));
 }
 
-module _ (cells : List Cell) (width height : ℕ) (marks : List Bool) (upto : ℕ) (p : AreMarked cells width height marks upto) (all : All (IsInSides width height) cells) (less : upto < length cells) (cell : Cell) (at : cell ≡ get_or cells upto cell) where
+module _ (cells : List Cell) (width height : ℕ) (marks : List Bool) (upto : ℕ) (p : AreMarked cells width height marks upto)
+    (all : All (IsInSides width height) cells) (less : upto < length cells) (cell : Cell) (at : cell ≡ get_or cells upto cell) where
   cell_inside : IsInSides width height cell
   cell_inside = subst (IsInSides width height) (sym at) (all upto cell less)
 
@@ -84,7 +85,8 @@ module _ (cells : List Cell) (width height : ℕ) (marks : List Bool) (upto : �
   }
 
 -- all cells are marked
-module _ (cells : List Cell) (width height : ℕ) (marks : List Bool) (upto : ℕ) (p : AreMarked cells width height marks upto) (all : All (IsInSides width height) cells) (end : upto ≡ length cells) where
+module _ (cells : List Cell) (width height : ℕ) (marks : List Bool) (upto : ℕ) (p : AreMarked cells width height marks upto)
+    (all : All (IsInSides width height) cells) (end : upto ≡ length cells) where
   pub just_marked : HasJust (map_with width height marks) cells
   just_marked =
       let whole : take upto cells ≡ cells = take_all upto cells (omega arith) in
@@ -106,7 +108,8 @@ module _ (cells : List Cell) (width height : ℕ) (marks : List Bool) (upto : �
   few_marked few = omega (arith, p.few)
 
 -- there is a map that has just these cells
-marks_upto : (cells : List Cell) (width height : ℕ) → All (IsInSides width height) cells → (upto : ℕ) → upto ≤ length cells → (marks : List Bool) × AreMarked cells width height marks upto
+marks_upto : (cells : List Cell) (width height : ℕ) → All (IsInSides width height) cells
+    → (upto : ℕ) → upto ≤ length cells → (marks : List Bool) × AreMarked cells width height marks upto
 marks_upto cells width height all zero few = (replicate (width * height) false, marked_none cells width height (replicate (width * height) false) refl)
 marks_upto cells width height all (suc upto) few =
     let before = marks_upto cells width height all upto (omega arith) in

@@ -1,5 +1,5 @@
 -- Connected cells are a component of a map that has just them, and each of them has a first move from each other one.
-use Rattle.std.proofs.Common.{◌≡◌, ◌≢◌, ℕ, ◌+◌, ◌<◌, ◌≤◌, List, [], ◌∷◌, length, get_or, All, sym, ap, ◌∙◌, inl, inr, subst, arith}
+use Rattle.std.proofs.Common.{◌≡◌, ◌≢◌, ℕ, ◌+◌, ◌<◌, ◌≤◌, List, [], ◌∷◌, length, get_or, All, sym, ◌∙◌, inl, inr, subst, arith}
 use Rattle.std.specs.Bool.{Decides}
 use Rattle.std.specs.List.{AllPairs, Contains}
 use Rattle.std.specs.List.Sorted.{IsPermutation}
@@ -20,7 +20,7 @@ use Rattle.moves.specs.Rectangles.{IsOnMap}
 use Rattle.moves.proofs.Connected.{is_cell-true, is_cell-same}
 use Rattle.moves.proofs.RowMajor.{before_differs}
 use Rattle.moves.specs.MoveSets.{Has}
-use Rattle.moves.specs.Paths.{Leads, Reaches}
+use Rattle.moves.specs.Paths.{Leads}
 use Rattle.moves.specs.Components.{IsComponent}
 use Rattle.moves.specs.ComponentLaws.{HasJust}
 use Rattle.moves.specs.StraightPaths.{GoesThrough, IsConnected}
@@ -29,10 +29,13 @@ use Rattle.moves.proofs.BestPaths.{first_move_exists}
 use Rattle.moves.proofs.LawsOfPaths.{leads_to}
 use Rattle.moves.proofs.MovesInSets.{Has-none}
 use Rattle.moves.proofs.StraightPaths.{straight_is_legal}
+use Rattle.cell_order.specs.declared.OrderKind.{OrderKind}
+use Rattle.cell_order.specs.declared.OrderKind.TheVariants.{Rows, Dfs}
+use Rattle.cell_order.specs.Orders.{kind_of}
 use Rattle.row_store.specs.Rows.{row_at, IsRowFrom}
 use Rattle.row_store.specs.Comps.{IsComp}
 use Rattle.row_store.proofs.RowLaws.{HasJust-permuted}
-use Rattle.build_pool.specs.Places.{IsInSides, LieOnMap, AreComponent, AreSources}
+use Rattle.build_pool.specs.Places.{IsInSides, LieOnMap, AreComponent, AreSources, CanBeBuilt}
 use Rattle.build_pool.proofs.Boards.{some_map}
 use Rattle.build_pool.specs.Pieces.{AreRowsBetween}
 
@@ -85,7 +88,8 @@ module _ (map : Map) (cells : List Cell) (p : AreComponent map cells) where
       subst (IsPassable map) has.2 (p.is.passable has.0 (cell_of cells place) has.1)
 
   -- so first sets from one of them to all can be packed
-  pub packable : (place : ℕ) (sets : List ℕ) → place < length cells → length cells ≤ MAX_PASSABLE → AreFirstSets map (cell_of cells place) cells sets → ArePackable sets
+  pub packable : (place : ℕ) (sets : List ℕ) → place < length cells → length cells ≤ MAX_PASSABLE
+      → AreFirstSets map (cell_of cells place) cells sets → ArePackable sets
   packable place sets within few first =
       let size = first.whole in
       record {
@@ -106,6 +110,10 @@ module _ (map : Map) (cells : List Cell) (p : AreComponent map cells) where
 
 -- ---- the cells in another order
 
+pub kind_small : (kind : OrderKind) → kind_of kind ≤ 1
+kind_small Rows = omega arith
+kind_small Dfs = omega arith
+
 cells_decide : (a b : Cell) → Decides (is_cell a b) (a ≡ b)
 cells_decide a b = (λ yes_it_is. sym (is_cell-true a b yes_it_is), λ same. is_cell-same a b (sym same))
 
@@ -119,48 +127,61 @@ apart_permuted order cells same apart =
     (IsDistinct-IsPermutation is_cell cells_flip cells order (IsPermutation-sym order cells same) (IsDistinct-from_AllPairs cells_decide cells apart))
 
 -- a way through cells is one through more cells
-goes_through_more : (cells more : List Cell) → ((c : Cell) → Contains cells c → Contains more c) → (from : Cell) (moves : List Move) (to : Cell) → GoesThrough cells from moves to → GoesThrough more from moves to
+goes_through_more : (cells more : List Cell) → ((c : Cell) → Contains cells c → Contains more c) → (from : Cell) (moves : List Move) (to : Cell)
+    → GoesThrough cells from moves to → GoesThrough more from moves to
 goes_through_more cells more inside from [] to way = way
 goes_through_more cells more inside from (move ∷ moves) to way = (way.0, way.1, way.2, inside way.0 way.3, goes_through_more cells more inside way.0 moves to way.4)
 
--- cells in row-major order that lie on a map, and the same in another order, with a map that has just them
-pub record IsReady (map : Map) (cells order : List Cell) : Type 0 where
+-- cells whose rows can be built, and the same in another order
+pub record AreGiven (cells order : List Cell) : Type 0 where
   pub same : IsPermutation order cells
-  pub some : 0 < length cells
-  pub few : length cells ≤ MAX_PASSABLE
-  pub in_order : AllPairs ComesBefore cells
-  pub connected : IsConnected cells
-  pub on_map : LieOnMap cells
+  pub can : CanBeBuilt cells
+
+module _ (cells order : List Cell) (is : AreGiven cells order) where
+  pub given_size : length order ≡ length cells
+  given_size = sym (length_permutation order cells is.same)
+
+  order_apart : AllPairs (λ a b. a ≢ b) order
+  order_apart = apart_permuted order cells is.same
+      (λ i j d less within equal. before_differs (get_or cells i d) (get_or cells j d) (is.can.in_order i j d less within) equal)
+
+-- and a map that has just them
+pub record IsReady (map : Map) (cells order : List Cell) : Type 0 where
+  pub given : AreGiven cells order
   pub just : HasJust map cells
 
 module _ (map : Map) (cells order : List Cell) (is : IsReady map cells order) where
-  pub size_in_order : length order ≡ length cells
-  size_in_order = sym (length_permutation order cells is.same)
+  same : IsPermutation order cells
+  same = is.given.same
+
+  can : CanBeBuilt cells
+  can = is.given.can
 
   back : IsPermutation cells order
-  back = IsPermutation-sym order cells is.same
+  back = IsPermutation-sym order cells same
 
   pub component_in_order : AreComponent map order
-  component_in_order = record { component = cells; is = component_of_just map cells is.just is.connected is.some is.in_order; order = is.same }
+  component_in_order = record { component = cells; is = component_of_just map cells is.just can.connected can.some can.in_order; order = same }
 
   connected_in_any_order : IsConnected order
   connected_in_any_order = record {
     joined = λ from to has there.
-        (let way = is.connected.joined from to (Contains-permutation order cells from is.same has) (Contains-permutation order cells to is.same there) in
+        (let way = can.connected.joined from to (Contains-permutation order cells from same has) (Contains-permutation order cells to same there) in
         (way.0, goes_through_more cells order (λ c inside. Contains-permutation cells order c back inside) from way.0 to way.1));
   }
 
-  pub comp_in_order : (kind : ℕ) (rows : List (List Run)) → kind ≤ 1 → AreRowsBetween map order 0 (length order) rows → IsComp (record { kind = kind; cells = order; rows = rows })
+  pub comp_in_order : (kind : ℕ) (rows : List (List Run)) → kind ≤ 1 → AreRowsBetween map order 0 (length order) rows
+      → IsComp (record { kind = kind; cells = order; rows = rows })
   comp_in_order kind rows small between =
-      let size = size_in_order in
-      let some = is.some in
-      let few = is.few in
+      let size = given_size cells order is.given in
+      let some = can.some in
+      let few = can.few in
       record {
         kind = small;
         some = omega arith;
         few = omega arith;
-        on_map = All-permutation IsOnMap cells order back (on_map_all cells is.on_map);
-        once = apart_permuted order cells is.same (λ i j d less within equal. before_differs (get_or cells i d) (get_or cells j d) (is.in_order i j d less within) equal);
+        on_map = All-permutation IsOnMap cells order back (on_map_all cells can.on_map);
+        once = order_apart cells order is.given;
         connected = connected_in_any_order;
         rows = record {
           map = map;
@@ -174,44 +195,26 @@ module _ (map : Map) (cells order : List Cell) (is : IsReady map cells order) wh
         };
       }
 
--- cells in row-major order that lie on a map, and the same in another order
-pub record AreGiven (cells order : List Cell) : Type 0 where
-  pub same : IsPermutation order cells
-  pub some : 0 < length cells
-  pub few : length cells ≤ MAX_PASSABLE
-  pub in_order : AllPairs ComesBefore cells
-  pub connected : IsConnected cells
-  pub on_map : LieOnMap cells
-
 module _ (cells order : List Cell) (is : AreGiven cells order) where
   pub ready : (map : Map) → HasJust map order → IsReady map cells order
-  ready map just = record {
-    same = is.same;
-    some = is.some;
-    few = is.few;
-    in_order = is.in_order;
-    connected = is.connected;
-    on_map = is.on_map;
-    just = HasJust-permuted map cells order is.same just;
-  }
-
-  pub given_size : length order ≡ length cells
-  given_size = sym (length_permutation order cells is.same)
+  ready map just = record { given = is; just = HasJust-permuted map cells order is.same just }
 
   order_on_map : LieOnMap order
-  order_on_map = record {
-    width = is.on_map.width;
-    height = is.on_map.height;
-    limits = is.on_map.limits;
-    inside = All-permutation (IsInSides is.on_map.width is.on_map.height) cells order (IsPermutation-sym order cells is.same) is.on_map.inside;
-  }
+  order_on_map =
+      let on_map = is.can.on_map in
+      record {
+        width = on_map.width;
+        height = on_map.height;
+        limits = on_map.limits;
+        inside = All-permutation (IsInSides on_map.width on_map.height) cells order (IsPermutation-sym order cells is.same) on_map.inside;
+      }
 
   pub sources_in_order : AreSources order
   sources_in_order =
       let map = some_map order order_on_map in
-      let size = given_size in
-      let some = is.some in
-      let few = is.few in
+      let size = given_size cells order is in
+      let some = is.can.some in
+      let few = is.can.few in
       let placed = on_map_all order order_on_map in
       record {
         board = map.0;
@@ -221,7 +224,7 @@ module _ (cells order : List Cell) (is : AreGiven cells order) where
         few = omega arith;
         on_map = order_on_map;
         numbered = record {
-          once = apart_permuted order cells is.same (λ i j d less within equal. before_differs (get_or cells i d) (get_or cells j d) (is.in_order i j d less within) equal);
+          once = order_apart cells order is;
           columns = λ k d within. let at = placed k d within in omega (arith, at.column);
           rows = λ k d within. let at = placed k d within in omega (arith, at.row);
           few = omega arith;

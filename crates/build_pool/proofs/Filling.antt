@@ -1,17 +1,16 @@
 -- Rows that are put one by one, in any order.
-use Rattle.std.proofs.Common.{◌≡◌, ◌≢◌, ℕ, ◌+◌, ◌<◌, ◌≤◌, List, [], length, set, replicate, ap, ◌∙◌, inl, inr, arith}
+use Rattle.std.proofs.Common.{◌≡◌, ◌≢◌, ℕ, ◌+◌, ◌<◌, ◌≤◌, List, [], length, replicate, ap, ◌∙◌, inl, inr, arith}
 use Rattle.std.proofs.lemmas.Bool.{cases_eq, cases_lt}
 use Rattle.std.proofs.lemmas.List.{get_or-set_same, get_or-set_other, length-set}
 use Rattle.run_pack.specs.declared.Run.{Run}
 use Rattle.run_pack.specs.Runs.{IsTight}
 use Rattle.moves.specs.declared.Cell.{Cell}
-use Rattle.moves.specs.declared.Move.{Move}
 use Rattle.moves.specs.Maps.{Map}
 use Rattle.moves.specs.ComponentLaws.{HasJust}
 use Rattle.moves.specs.FirstSetLists.{cell_of, AreFirstSets}
 use Rattle.moves.proofs.OneValue.{one_value}
 use Rattle.moves.proofs.SamePaths.{same_first_move, same_passable_back}
-use Rattle.row_store.specs.Rows.{row_at, IsRowFrom}
+use Rattle.row_store.specs.Rows.{row_at}
 use Rattle.row_store.specs.Pools.{PutsPacked}
 use Rattle.row_store.proofs.RowLaws.{same_just}
 use Rattle.build_pool.specs.Pieces.{AreRowsOver, AreFirstOver, IsRowOver, ArePartly, AreWhole, AreDone}
@@ -40,7 +39,8 @@ first_over map cells place sets just first = record {
 pub row_over : (cells : List Cell) (place : ℕ) (sets : List ℕ) (row : List Run) → AreFirstOver cells place sets → IsTight row sets → IsRowOver cells place row
 row_over cells place sets row first tight = record { over = λ map just. record { sets = sets; first = first.over map just; tight = tight } }
 
-module _ (cells : List Cell) (from : ℕ) (rows new : List (List Run)) (index place : ℕ) (sets : List ℕ) (within : index < length rows) (is : from + index ≡ place) (first : AreFirstOver cells place sets) (put : PutsPacked rows new index sets) where
+module _ (cells : List Cell) (from : ℕ) (rows new : List (List Run)) (index place : ℕ) (sets : List ℕ)
+    (within : index < length rows) (is : from + index ≡ place) (first : AreFirstOver cells place sets) (put : PutsPacked rows new index sets) where
   pub put_size : length new ≡ length rows
   put_size = ap length put.there ∙ length-set rows index put.row
 
@@ -64,7 +64,8 @@ module _ (cells : List Cell) (from : ℕ) (rows new : List (List Run)) (index pl
 pub done_none : (cells : List Cell) (from : ℕ) (rows : List (List Run)) → ArePartly cells from rows → AreDone cells from 0 rows
 done_none cells from rows part = record { part = part; done = λ k before. absurd (omega arith) }
 
-pub done_kept : (cells : List Cell) (from upto : ℕ) (rows : List (List Run)) → AreDone cells from upto rows → upto < length rows → (row_at rows upto ≡ [] → ⊥) → AreDone cells from (upto + 1) rows
+pub done_kept : (cells : List Cell) (from upto : ℕ) (rows : List (List Run)) → AreDone cells from upto rows
+    → upto < length rows → (row_at rows upto ≡ [] → ⊥) → AreDone cells from (upto + 1) rows
 done_kept cells from upto rows p within there = record {
   part = p.part;
   done = λ k before. elim (cases_lt k upto) [
@@ -78,7 +79,8 @@ done_kept cells from upto rows p within there = record {
   ];
 }
 
-pub done_put : (cells : List Cell) (from upto : ℕ) (rows new : List (List Run)) (place : ℕ) (sets : List ℕ) → AreDone cells from upto rows → upto < length rows → from + upto ≡ place → AreFirstOver cells place sets → PutsPacked rows new upto sets
+pub done_put : (cells : List Cell) (from upto : ℕ) (rows new : List (List Run)) (place : ℕ) (sets : List ℕ)
+    → AreDone cells from upto rows → upto < length rows → from + upto ≡ place → AreFirstOver cells place sets → PutsPacked rows new upto sets
     → AreDone cells from (upto + 1) new
 done_put cells from upto rows new place sets p within is first put = record {
   part = part_put cells from rows new upto place sets within is first put p.part;
@@ -92,7 +94,8 @@ pub done_all : (cells : List Cell) (from upto count : ℕ) (rows : List (List Ru
 done_all cells from upto count rows p size all = record { size = size; each = λ k within. p.done k (omega arith) }
 
 -- so they are the rows between two places
-pub whole_over : (cells : List Cell) (from count start upto : ℕ) (rows : List (List Run)) → AreWhole cells from count rows → from ≡ start → from + count ≡ upto → AreRowsOver cells start upto rows
+pub whole_over : (cells : List Cell) (from count start upto : ℕ) (rows : List (List Run))
+    → AreWhole cells from count rows → from ≡ start → from + count ≡ upto → AreRowsOver cells start upto rows
 whole_over cells from count start upto rows p begins ends map just = record {
   whole = let size = p.size in omega arith;
   each = λ k within.

@@ -1,5 +1,5 @@
 -- Rows that follow one another.
-use Rattle.std.proofs.Common.{◌≡◌, ◌≢◌, ℕ, suc, ◌+◌, ◌-◌, ◌*◌, ◌/◌, ◌<◌, ◌≤◌, List, [], ◌∷◌, ◌++◌, length, get_or, drop, Result, Ok, Err, IfOk, refl, sym, ap, ◌∙◌, subst, inl, inr, arith}
+use Rattle.std.proofs.Common.{◌≡◌, ℕ, suc, ◌+◌, ◌-◌, ◌*◌, ◌<◌, ◌≤◌, List, [], ◌∷◌, ◌++◌, length, get_or, drop, Result, Ok, IfOk, refl, sym, ap, ◌∙◌, subst, inl, inr, arith}
 use Rattle.std.proofs.lemmas.Bool.{cases_lt}
 use Rattle.std.proofs.lemmas.Nat.{mul-le, le-div}
 use Rattle.std.proofs.Math.Nat.{mul-div_cancel_left, div-le_of_le-mul, div-mul-le_self, zero-div}
@@ -22,7 +22,8 @@ pub between_none : (map : Map) (cells : List Cell) (from : ℕ) → AreRowsBetwe
 between_none map cells from = record { whole = omega arith; each = λ k within. absurd (omega arith) }
 
 -- the rows from one place to a second, and from there to a third
-pub between_joined : (map : Map) (cells : List Cell) (a b c : ℕ) (rows more : List (List Run)) → AreRowsBetween map cells a b rows → AreRowsBetween map cells b c more → AreRowsBetween map cells a c (rows ++ more)
+pub between_joined : (map : Map) (cells : List Cell) (a b c : ℕ) (rows more : List (List Run))
+    → AreRowsBetween map cells a b rows → AreRowsBetween map cells b c more → AreRowsBetween map cells a c (rows ++ more)
 between_joined map cells a b c rows more p q = record {
   whole = omega (arith, p.whole, q.whole, length-append rows more);
   each = λ k within.
@@ -109,7 +110,8 @@ module _ (map : Map) (cells : List Cell) (pieces : ℕ) (all : List (Result (Lis
     }
 
 -- nothing is left of them
-pub joined_all : (map : Map) (cells : List Cell) (pieces : ℕ) (all rest : List (Result (List (List Run)) AllocError)) (rows : List (List Run)) → AreJoined map cells pieces all rest rows → length all ≡ pieces → 0 < pieces
+pub joined_all : (map : Map) (cells : List Cell) (pieces : ℕ) (all rest : List (Result (List (List Run)) AllocError)) (rows : List (List Run))
+    → AreJoined map cells pieces all rest rows → length all ≡ pieces → 0 < pieces
     → length rest ≡ 0 → AreRowsBetween map cells 0 (length cells) rows
 joined_all map cells pieces all rest rows p size some none =
     let end : p.taken ≡ pieces = omega (arith, ap length p.left, length-drop p.taken all, p.few) in

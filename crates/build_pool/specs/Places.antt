@@ -1,10 +1,11 @@
 -- Where the cells of a component lie.
-use Rattle.std.specs.Prelude.{ℕ, ◌<◌, ◌≤◌, ◌↔◌, List, length, All, Contains, IsPermutation}
+use Rattle.std.specs.Prelude.{ℕ, ◌<◌, ◌≤◌, ◌↔◌, List, length, All, AllPairs, Contains, IsPermutation}
 use Rattle.moves.specs.declared.Cell.{Cell}
-use Rattle.moves.specs.Maps.{Map, IsWithinLimits}
+use Rattle.moves.specs.Maps.{Map, ComesBefore, IsSearchable, IsWithinLimits}
 use Rattle.moves.specs.declared.TheConstants.{MAX_PASSABLE}
 use Rattle.moves.specs.Components.{IsComponent}
 use Rattle.moves.specs.ComponentLaws.{HasJust}
+use Rattle.moves.specs.StraightPaths.{IsConnected}
 use Rattle.lane_rows.specs.Tables.{AreNear, IsMutual, IsNumbered}
 
 -- the cell lies inside a map of these sides
@@ -24,6 +25,21 @@ pub record AreComponent (map : Map) (cells : List Cell) : Type 0 where
   pub component : List Cell
   pub is : IsComponent map component
   pub order : IsPermutation cells component
+
+-- the cells have all that it takes to build their rows
+pub record CanBeBuilt (cells : List Cell) : Type 0 where
+  pub some : 0 < length cells
+  pub few : length cells ≤ MAX_PASSABLE
+  pub in_order : AllPairs ComesBefore cells
+  pub connected : IsConnected cells
+  pub on_map : LieOnMap cells
+
+-- the map has just the cells, which are a component of it
+pub record IsBoardOf (map : Map) (cells : List Cell) : Type 0 where
+  pub just : HasJust map cells
+  pub component : AreComponent map cells
+  pub searchable : IsSearchable map
+  pub few : length cells ≤ MAX_PASSABLE
 
 -- cells in some order, of which there is a map that has just them, and that are a component of each such map
 pub record AreSources (cells : List Cell) : Type 0 where

@@ -4,13 +4,12 @@
 //! result is the same for any number of workers. (Botea 2011; Strasser, Harabor and Botea 2014)
 #![tactic(auto)]
 
-ghost use Rattle.std.specs.Prelude.{◌≡◌, ◌+◌, ◌*◌, ◌/◌, ◌<◌, ◌≤◌, AllPairs, length, IfOk};
-ghost use Rattle.moves.specs.Maps.{ComesBefore, IsSearchable};
-ghost use Rattle.moves.specs.StraightPaths.{IsConnected};
+ghost use Rattle.std.specs.Prelude.{◌≡◌, ◌+◌, ◌*◌, ◌/◌, ◌<◌, ◌≤◌, length, IfOk};
+ghost use Rattle.moves.specs.Maps.{IsSearchable};
 ghost use Rattle.moves.specs.FirstSetLists.{cell_of, AreFirstSets};
 ghost use Rattle.cell_order.specs.Orders.{kind_of, ordered};
 ghost use Rattle.row_store.specs.Rows.{IsRowFrom, AreRows};
-ghost use Rattle.build_pool.specs.Places.{LieOnMap, AreComponent};
+ghost use Rattle.build_pool.specs.Places.{CanBeBuilt, AreComponent};
 ghost use Rattle.build_pool.specs.Pieces.{CanBuild, ArePieceRows};
 
 mod board;
@@ -53,11 +52,11 @@ impl Gate for FreeGate {
     fn enter(&self, _piece: u32) {}
 }
 
-/// A component with the rows of its cells in the named order, built by so many workers, from 1 to 64. The cells are from 1
-/// to 32,768 cells in row-major order that are connected by straight moves among themselves and lie on one map.
+/// A component with the rows of its cells in the named order, built by so many workers, from 1 to 64. The cells are
+/// from 1 to 32,768 cells in row-major order that are connected by straight moves among themselves and lie on one map.
 ///
-/// With n cells, piece i has the sources from place i·n / workers to before (i + 1)·n / workers, rounded down. Each piece
-/// passes the gate once, before its rows.
+/// With n cells, piece i has the sources from place i·n / workers to before (i + 1)·n / workers, rounded down. Each
+/// piece passes the gate once, before its rows.
 ///
 /// # Errors
 ///
@@ -70,11 +69,7 @@ pub fn build_rows<R: Threads + Sync, G: Gate>(
     workers: u32,
     gate: &G,
 ) -> Result<CompData, AllocError>
-    requires some { 0 < length cells.now }
-    requires few { length cells.now ≤ MAX_PASSABLE }
-    requires rows { AllPairs ComesBefore cells.now }
-    requires connected { IsConnected cells.now }
-    requires on_map { LieOnMap cells.now }
+    requires cells { CanBeBuilt cells.now }
     requires worker { 0 < workers }
     requires workers { workers ≤ MAX_WORKERS }
     ensures kind { IfOk result (λ comp. comp.kind ≡ kind_of kind) }
@@ -88,8 +83,8 @@ pub fn build_rows<R: Threads + Sync, G: Gate>(
     build_with(rt, alloc, kind, cells, effort, gate)
 }
 
-/// How many workers build, and how often each goes over a tile's places back and forth before it gives up the tile. With
-/// `None` it builds no tile at all, and each row by a plain search.
+/// How many workers build, and how often each goes over a tile's places back and forth before it gives up the tile.
+/// With `None` it builds no tile at all, and each row by a plain search.
 #[derive(Clone, Copy)]
 struct Effort {
     workers: u32,
@@ -119,11 +114,7 @@ fn build_with<R: Threads + Sync, G: Gate>(
     effort: Effort,
     gate: &G,
 ) -> Result<CompData, AllocError>
-    requires some { 0 < length cells.now }
-    requires few { length cells.now ≤ MAX_PASSABLE }
-    requires rows { AllPairs ComesBefore cells.now }
-    requires connected { IsConnected cells.now }
-    requires on_map { LieOnMap cells.now }
+    requires cells { CanBeBuilt cells.now }
     requires worker { 0 < effort.workers }
     requires workers { effort.workers ≤ MAX_WORKERS }
     ensures kind { IfOk result (λ comp. comp.kind ≡ kind_of kind) }

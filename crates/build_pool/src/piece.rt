@@ -1,8 +1,8 @@
 //! The rows of some of a component's cells.
 //!
 //! Sixteen near sources at a time are solved in the lanes of a vector, and the row of each goes to its place. What is
-//! found so is exact wherever it is found. Where a tile isn't solved its rows stay blank, and so the last step goes over
-//! the rows and builds what is blank by a plain search. It is the same row: rows depend on the cells alone.
+//! found so is exact wherever it is found. Where a tile isn't solved its rows stay blank, and so the last step goes
+//! over the rows and builds what is blank by a plain search. It is the same row: rows depend on the cells alone.
 
 ghost use Rattle.std.specs.Prelude.{◌≡◌, ℕ, ◌+◌, ◌*◌, ◌/◌, ◌<◌, ◌≤◌, length, slice_index, IfOk, OnOk};
 ghost use Rattle.lane_rows.specs.Tiles.{IsSolved};
@@ -17,8 +17,8 @@ use moves::{Cell, MAX_PASSABLE};
 use row_store::RowPool;
 use std::alloc::{AllocError, Global};
 
-/// One piece of so many, and how often the places of a tile are gone over back and forth before it is given up, where tiles
-/// are built at all.
+/// One piece of so many, and how often the places of a tile are gone over back and forth before it is given up, where
+/// tiles are built at all.
 #[derive(Clone, Copy)]
 pub(crate) struct Share {
     pub workers: u32,

@@ -2,16 +2,15 @@
 
 ghost use Rattle.std.specs.Prelude.{◌≡◌, ◌+◌, ◌*◌, ◌<◌, ◌≤◌, length, OnOk};
 ghost use Rattle.moves.specs.Maps.{IsSearchable};
-ghost use Rattle.moves.specs.ComponentLaws.{HasJust};
 ghost use Rattle.moves.specs.FirstSetLists.{cell_of, AreFirstSets};
-ghost use Rattle.build_pool.specs.Places.{AreComponent, AreSources};
+ghost use Rattle.build_pool.specs.Places.{AreComponent, AreSources, IsBoardOf};
 ghost use Rattle.build_pool.specs.Pieces.{AreDone, ArePartly, AreWhole};
 
 use crate::board::board_of;
 use crate::rows::PieceRows;
 use first_sets::FirstSets;
 use grid_search::Search;
-use moves::{Cell, Grid, MAX_PASSABLE};
+use moves::{Cell, Grid};
 use std::alloc::{AllocError, Global};
 
 /// What a plain search needs.
@@ -47,10 +46,7 @@ fn put_blank(
     cells: &[Cell],
     rows: &mut PieceRows,
 ) -> Result<(), AllocError>
-    requires just { HasJust board.now cells.now }
-    requires component { AreComponent board.now cells.now }
-    requires searchable { IsSearchable board.now }
-    requires few { length cells.now ≤ MAX_PASSABLE }
+    requires board { IsBoardOf board.now cells.now }
     requires inside { rows.old.from + length rows.old.pool ≤ length cells.now }
     requires part { ArePartly cells.now rows.old.from rows.old.pool }
     ensures whole { OnOk result (AreWhole cells.now rows.old.from (length rows.old.pool) rows.new.pool) }
@@ -76,10 +72,7 @@ fn put_plain(
     bytes: &mut [u8],
     rows: &mut PieceRows,
 ) -> Result<(), AllocError>
-    requires just { HasJust board.now cells.now }
-    requires component { AreComponent board.now cells.now }
-    requires searchable { IsSearchable board.now }
-    requires few { length cells.now ≤ MAX_PASSABLE }
+    requires board { IsBoardOf board.now cells.now }
     requires index { index < length rows.old.pool }
     requires inside { rows.old.from + length rows.old.pool ≤ length cells.now }
     requires done { AreDone cells.now rows.old.from index rows.old.pool }

@@ -1,9 +1,7 @@
 //! Components of small maps, written as their rows with `/` between them, and their rows of first moves.
 
-ghost use Rattle.std.specs.Prelude.{◌≡◌, ◌<◌, ◌≤◌, AllPairs, length, IfOk};
-ghost use Rattle.moves.specs.Maps.{ComesBefore};
-ghost use Rattle.moves.specs.StraightPaths.{IsConnected};
-ghost use Rattle.build_pool.specs.Places.{LieOnMap};
+ghost use Rattle.std.specs.Prelude.{◌≡◌, ◌<◌, ◌≤◌, length, IfOk};
+ghost use Rattle.build_pool.specs.Places.{CanBeBuilt};
 
 use crate::{Effort, FreeGate, Gate, build_rows, build_with};
 use cell_order::OrderKind;
@@ -27,11 +25,7 @@ const TURNS: u64 = 100_000_000;
 
 /// The cells of a map's first component.
 fn first_component(rt: &impl Abort, alloc: Global, grid: &Grid) -> Result<Vec<Cell>, AllocError>
-    ensures some { IfOk result (λ cells. 0 < length cells.items) }
-    ensures few { IfOk result (λ cells. length cells.items ≤ MAX_PASSABLE) }
-    ensures rows { IfOk result (λ cells. AllPairs ComesBefore cells.items) }
-    ensures connected { IfOk result (λ cells. IsConnected cells.items) }
-    ensures on_map { IfOk result (λ cells. LieOnMap cells.items) }
+    ensures { IfOk result (λ cells. CanBeBuilt cells.items) }
 {
     let labels = label(alloc, grid)?;
     assert!(rt; labels.count() > 0);
@@ -269,8 +263,8 @@ fn tiles_of_made_maps(rt: HostRuntime) -> Result<(), Fail> {
     Ok(())
 }
 
-/// The fewest runs of a row that fits these sets, by a plain search over all rows: the least number of pieces, in each of
-/// which all sets have a move in common.
+/// The fewest runs of a row that fits these sets, by a plain search over all rows: the least number of pieces, in each
+/// of which all sets have a move in common.
 fn fewest_runs(alloc: Global, sets: &[u8]) -> Result<u32, AllocError>
     requires { length sets.now ≤ MAX_PASSABLE }
 {

@@ -2,8 +2,7 @@
 use Rattle.std.proofs.Common.{◌≡◌, ℕ, suc, ◌<◌, ◌≤◌, List, [], ◌∷◌, ◌++◌, length, get_or, drop, map, Option, None, Some, IfSome, refl, sym, ap, subst, ◌∙◌, inl, inr, arith}
 use Rattle.std.specs.Option.{option_map}
 use Rattle.std.proofs.lemmas.Bool.{cases_lt}
-use Rattle.std.proofs.lemmas.List.{length_push, get_or_push, get_or_append_left, get_or-map, length-map, drop_all, length-drop, map-append}
-use Rattle.std.proofs.Math.Seq.{drop-cons}
+use Rattle.std.proofs.lemmas.List.{length_push, get_or_push, get_or_append_left, length-map, length-drop, map-append}
 use Rattle.moves.specs.declared.Cell.{Cell}
 use Rattle.moves.specs.Maps.{Map}
 use Rattle.moves.specs.Components.{IsComponentList}
@@ -11,6 +10,7 @@ use Rattle.cell_order.specs.declared.OrderKind.{OrderKind}
 use Rattle.row_store.specs.Comps.{Comp}
 use Rattle.versions.specs.Databases.{component_at, comp_at, no_comp, IsDatabase, IsKeptAs}
 use Rattle.version_build.specs.Plans.{ArePrepared, AreComplete}
+use Rattle.version_build.proofs.Onward.{next_less, next_parts, next_value}
 
 -- some components are there, and the others are still to be put to them
 pub record IsAssembling {A : Type 0} (value : A → Comp) (order : OrderKind) (components : List (List Cell)) (all rest : List (Option A)) (comps : List A) : Type 0 where
@@ -24,23 +24,18 @@ assembling_none value order components all = record { left = refl; few = omega a
 module _ {A : Type 0} (value : A → Comp) (order : OrderKind) (components : List (List Cell)) (all rest : List (Option A)) (known : Option A) (comps : List A)
     (p : IsAssembling value order components all (known ∷ rest) comps) where
   pub left_less : length comps < length all
-  left_less =
-      elim (cases_lt (length comps) (length all)) [
-        | inl less ↦ less
-        | inr end ↦ absurd (let none = ap length (p.left ∙ drop_all (length comps) all end) in omega arith)
-      ]
-
-  parts : known ∷ rest ≡ get_or all (length comps) None ∷ drop (suc (length comps)) all
-  parts = p.left ∙ drop-cons all (length comps) None left_less
+  left_less = next_less all rest known (length comps) p.left
 
   -- what was prepared of the next component
-  pub known_kept : ArePrepared order components (map (option_map value) all) → (comp : A) → known ≡ Some comp → IsKeptAs order (component_at components (length comps)) (value comp)
+  pub known_kept : ArePrepared order components (map (option_map value) all) → (comp : A) → known ≡ Some comp
+      → IsKeptAs order (component_at components (length comps)) (value comp)
   known_kept prepared comp is =
       let size = length-map all (option_map value) in
       let told = prepared.each (length comps) (omega (arith, size, left_less)) in
       let read : get_or (map (option_map value) all) (length comps) None ≡ Some (value comp) =
-      get_or-map (option_map value) all (length comps) None None left_less ∙ ap (option_map value) (sym (ap (λ xs. get_or xs 0 None) parts) ∙ is) in
-      let some : IfSome (Some (value comp)) (IsKeptAs order (component_at components (length comps))) = subst (λ c. IfSome c (IsKeptAs order (component_at components (length comps)))) read told in
+      next_value all rest known (length comps) p.left value ∙ ap (option_map value) is in
+      let some : IfSome (Some (value comp)) (IsKeptAs order (component_at components (length comps))) =
+      subst (λ c. IfSome c (IsKeptAs order (component_at components (length comps)))) read told in
       some
 
   pub assembling_more : (comp : A) → IsKeptAs order (component_at components (length comps)) (value comp) → IsAssembling value order components all rest (comps ++ comp ∷ [])
@@ -49,7 +44,7 @@ module _ {A : Type 0} (value : A → Comp) (order : OrderKind) (components : Lis
       let size = length-map comps value in
       let same : map value (comps ++ comp ∷ []) ≡ map value comps ++ value comp ∷ [] = map-append value comps (comp ∷ []) in
       record {
-        left = (let next : suc (length comps) ≡ length (comps ++ comp ∷ []) = omega arith in ap (drop 1) parts ∙ ap (λ n. drop n all) next);
+        left = (let next : suc (length comps) ≡ length (comps ++ comp ∷ []) = omega arith in ap (drop 1) (next_parts all rest known (length comps) p.left) ∙ ap (λ n. drop n all) next);
         few = omega (arith, long, left_less);
         each = λ label less. subst (λ cs. IsKeptAs order (component_at components label) (comp_at cs label)) (sym same)
             (elim (cases_lt label (length comps)) [

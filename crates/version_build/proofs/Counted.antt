@@ -8,15 +8,16 @@ use Rattle.std.proofs.lemmas.List.FromFn.{get_or-map-range_with_len, length-map-
 use Rattle.std.proofs.lemmas.List.Sorted.{length_permutation}
 use Rattle.std.proofs.lemmas.List.Sums.{sum_by-cons, sum_by_more, sum_by-take-le, length-filter, count_by-le-length}
 use Rattle.moves.specs.declared.Cell.{Cell}
+use Rattle.moves.specs.declared.TheConstants.{MAX_CELLS}
 use Rattle.moves.specs.Maps.{Map, IsWithinLimits, IsPassable, IsSearchable, ComesBefore, cell_at, passable_cells, passable_count}
 use Rattle.moves.specs.Components.{IsComponent, IsComponentList, first_of}
 use Rattle.moves.proofs.RowMajor.{before_differs, contains_later, passable_cells_listed}
 use Rattle.moves.proofs.ComponentLaws.{components_are_connected}
 use Rattle.cell_order.proofs.Permutations.{AreApart, permutation}
-use Rattle.build_pool.specs.Places.{IsInSides}
+use Rattle.build_pool.specs.Places.{CanBeBuilt}
+use Rattle.build_pool.proofs.Connecting.{lies_on_map}
 use Rattle.versions.specs.Databases.{component_at}
 use Rattle.versions.proofs.Determined.{same_component, before_never}
-use Rattle.version_build.specs.Plans.{CanBeBuilt}
 
 -- the elements of all lists, list after list
 abbrev joined : {X : Type 0} → List (List X) → List X
@@ -101,10 +102,11 @@ module _ (m : Map) (limits : IsWithinLimits m.width m.height) (whole : length m.
       let back : (x : Cell) → Contains (passable_cells m) x → Contains (joined components) x = λ x h.
       let found = listed.every_cell x ((all.just_these x).0 h) in
       contains_joined components found.0 found.1 x found.2 found.3 found.4 in
-      let same = permutation (joined components) (passable_cells m) (apart_joined components each_apart disjoint) (λ i j d less within. before_differs _ _ (all.in_order i j d less within)) there back in
+      let same = permutation (joined components) (passable_cells m) (apart_joined components each_apart disjoint)
+      (λ i j d less within. before_differs _ _ (all.in_order i j d less within)) there back in
       omega (arith, length_permutation _ _ same, length_joined components, count_listed m)
 
-  pub count_small : passable_count m ≤ 1048576
+  pub count_small : passable_count m ≤ MAX_CELLS
   count_small = omega (arith, count_by-le-length (λ (mark : Bool). mark) m.passable, limits.cells)
 
   module _ (label : ℕ) (less : label < length components) where
@@ -115,12 +117,10 @@ module _ (m : Map) (limits : IsWithinLimits m.width m.height) (whole : length m.
     pub can_be_built : IsSearchable m → CanBeBuilt (component_at components label)
     can_be_built searchable =
         let component = listed.each label [] less in
-        let inside : All (IsInSides m.width m.height) (component_at components label) =
-        λ k d within. let free = component.passable k d within in record { column = free.inside.column; row = free.inside.row } in
         record {
           some = component.some;
           few = omega (arith, length_within, searchable);
           in_order = component.in_order;
           connected = components_are_connected m (component_at components label) component;
-          on_map = record { width = m.width; height = m.height; limits = limits; inside = inside };
+          on_map = lies_on_map m (component_at components label) limits component;
         }

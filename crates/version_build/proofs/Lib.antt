@@ -1,6 +1,7 @@
 pub mod Counted
 pub mod Among
 pub mod Sharing
+pub mod Onward
 pub mod Assembling
 pub mod Differences
 pub mod Missing

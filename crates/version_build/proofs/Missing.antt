@@ -13,7 +13,8 @@ abbrev pub missing_in : List Cell → Option Comp → ℕ
 missing_in component None = length component
 missing_in component (Some comp) = 0
 
-pub missing_cons : (component : List Cell) (components : List (List Cell)) (comp : Option Comp) (comps : List (Option Comp)) → cells_missing (component ∷ components) (comp ∷ comps) ≡ missing_in component comp + cells_missing components comps
+pub missing_cons : (component : List Cell) (components : List (List Cell)) (comp : Option Comp) (comps : List (Option Comp))
+    → cells_missing (component ∷ components) (comp ∷ comps) ≡ missing_in component comp + cells_missing components comps
 missing_cons component components None comps = refl
 missing_cons component components (Some comp) comps = omega arith
 
@@ -37,7 +38,8 @@ missing_more components comps comp upto long less =
     ∙ missing_push (take upto components) (component_at components upto) comps comp (omega (arith, long, length-take-le upto components (omega arith)))
 
 -- where nothing is there all cells are missing
-pub missing_all : (components : List (List Cell)) (comps : List (Option Comp)) → All (λ comp. comp ≡ None) comps → length comps ≡ length components → cells_missing components comps ≡ sum_by length components
+pub missing_all : (components : List (List Cell)) (comps : List (Option Comp)) → All (λ comp. comp ≡ None) comps
+    → length comps ≡ length components → cells_missing components comps ≡ sum_by length components
 missing_all [] comps none long = refl
 missing_all (c ∷ cs) [] none long = absurd (omega arith)
 missing_all (c ∷ cs) (None ∷ ks) none long = omega (arith, sum_by-cons length c cs, missing_all cs ks (λ k d less. none (suc k) d (omega arith)) (omega arith))

@@ -4,7 +4,7 @@ use Rattle.std.specs.List.{sum_by}
 use Rattle.std.specs.List.Sorted.{IsPermutation}
 use Rattle.std.specs.Option.{option_map}
 use Rattle.std.proofs.lemmas.Bool.{cases_eq, cases_lt}
-use Rattle.std.proofs.lemmas.List.{take_more, length-take-le, length_push, get_or_push, get_or_append_left, get_or-map, length-map, drop_all, length-drop, length-set, get_or-set_same, get_or-set_other}
+use Rattle.std.proofs.lemmas.List.{take_more, length-take-le, length_push, get_or_push, get_or_append_left, get_or-map, length-map, length-drop, length-set, get_or-set_same, get_or-set_other}
 use Rattle.std.proofs.lemmas.List.Elements.{Contains-get_or, All-from_get_or, All-push}
 use Rattle.std.proofs.lemmas.List.Sorted.{IsPermutation-sym, length_permutation}
 use Rattle.std.proofs.lemmas.List.Sums.{sum_by-set, sum_by-le, sum_by-append, sum_by-cons, sum_by_more_le}
@@ -20,25 +20,21 @@ use Rattle.moves.specs.FirstSets.{IsFirstMove}
 use Rattle.moves.specs.MoveSets.{Has}
 use Rattle.moves.specs.declared.Move.{Move}
 use Rattle.cell_order.specs.declared.OrderKind.{OrderKind}
-use Rattle.cell_order.specs.declared.OrderKind.TheVariants.{Rows, Dfs}
 use Rattle.cell_order.specs.Orders.{kind_of, ordered}
 use Rattle.cell_order.proofs.Permuted.{orders_are_permutations}
 use Rattle.row_store.specs.Rows.{row_at, IsRowFrom}
 use Rattle.row_store.specs.Comps.{Comp, IsComp}
 use Rattle.row_store.proofs.RowLaws.{HasJust-permuted, components_keep_each_row}
-use Rattle.build_pool.specs.Places.{AreComponent}
+use Rattle.build_pool.specs.Places.{AreComponent, CanBeBuilt}
 use Rattle.build_pool.specs.Pieces.{AreRowsBetween}
-use Rattle.build_pool.proofs.Connecting.{IsReady, comp_in_order}
+use Rattle.build_pool.proofs.Connecting.{IsReady, comp_in_order, kind_small}
 use Rattle.build_pool.proofs.Joining.{between_none, between_pushed}
 use Rattle.versions.specs.Databases.{IsKeptAs, component_at, no_comp}
-use Rattle.version_build.specs.Plans.{ArePrepared, AreComplete, CanBeBuilt, CanAllBeBuilt, cells_missing}
+use Rattle.version_build.specs.Plans.{ArePrepared, AreComplete, CanAllBeBuilt, cells_missing}
 use Rattle.version_build.specs.Builders.{Parted, no_part, part_at, rows_left, part_from, comp_or, comp_of, AreBegun, IsPart, IsPartFrom, IsUnderWay, PushesRow}
 use Rattle.version_build.proofs.Missing.{missing_in, missing_cons}
+use Rattle.version_build.proofs.Onward.{next_less, next_parts, next_value}
 use Rattle.version_build.proofs.JustThese.{just_map, just_these_cells}
-
-kind_small : (order : OrderKind) → kind_of order ≤ 1
-kind_small Rows = omega arith
-kind_small Dfs = omega arith
 
 -- the cells in their order are the same cells
 in_order : (order : OrderKind) (component : List Cell) → CanBeBuilt component → IsPermutation (ordered order component) component
@@ -67,27 +63,21 @@ parting_none value order components all = record { taken = refl; few = omega ari
 module _ {A : Type 0} (value : A → Comp) (order : OrderKind) (components : List (List Cell)) (all rest : List (Option A)) (known : Option A) (parts : List Parted)
     (p : IsParting value order components all (known ∷ rest) parts) where
   pub part_less : length parts < length all
-  part_less =
-      elim (cases_lt (length parts) (length all)) [
-        | inl less ↦ less
-        | inr end ↦ absurd (let none = ap length (p.taken ∙ drop_all (length parts) all end) in omega arith)
-      ]
+  part_less = next_less all rest known (length parts) p.taken
 
-  both : known ∷ rest ≡ get_or all (length parts) None ∷ drop (suc (length parts)) all
-  both = p.taken ∙ drop-cons all (length parts) None part_less
-
-  pub parting_more : (part : Parted) → length all ≡ length components → CanAllBeBuilt components → part ≡ part_from order (component_at components (length parts)) (option_map value known)
+  pub parting_more : (part : Parted) → length all ≡ length components → CanAllBeBuilt components
+      → part ≡ part_from order (component_at components (length parts)) (option_map value known)
       → IsParting value order components all rest (parts ++ part ∷ [])
   parting_more part long can is =
       let here : length parts < length components = omega (arith, part_less) in
       let next : suc (length parts) ≡ length (parts ++ part ∷ []) = omega (arith, length_push parts part) in
       let read : get_or (map (option_map value) all) (length parts) None ≡ option_map value known =
-      get_or-map (option_map value) all (length parts) None None part_less ∙ ap (option_map value) (sym (ap (λ xs. get_or xs 0 None) both)) in
+      next_value all rest known (length parts) p.taken value in
       let cells : drop (length parts) components ≡ component_at components (length parts) ∷ drop (suc (length parts)) components = drop-cons components (length parts) [] here in
       let now : rows_left part ≡ missing_in (component_at components (length parts)) (option_map value known) =
       ap rows_left is ∙ left_begun order (component_at components (length parts)) (option_map value known) (can (length parts) here) in
       record {
-        taken = ap (drop 1) both ∙ ap (λ n. drop n all) next;
+        taken = ap (drop 1) (next_parts all rest known (length parts) p.taken) ∙ ap (λ n. drop n all) next;
         few = omega (arith, length_push parts part, part_less);
         each = λ label less.
             elim (cases_lt label (length parts)) [
@@ -268,15 +258,7 @@ complete_from map order component cells rows None is can p none =
     let order_of : IsPermutation cells component = subst (λ c. IsPermutation c component) (sym p.0) (in_order order component can) in
     let part : Map = just_map map component in
     let just : HasJust part component = just_these_cells map component is.passable in
-    let ready : IsReady part component cells = record {
-      same = order_of;
-      some = can.some;
-      few = can.few;
-      in_order = can.in_order;
-      connected = can.connected;
-      on_map = can.on_map;
-      just = just;
-    } in
+    let ready : IsReady part component cells = record { given = record { same = order_of; can = can }; just = just } in
     let just_cells : HasJust part cells = HasJust-permuted part cells component (IsPermutation-sym cells component order_of) just in
     let long : length rows ≡ length cells = (let few = p.1 in omega arith) in
     record {

@@ -66,7 +66,8 @@ module _ (order : OrderKind) (before after : List (List Cell)) (comps : List (Op
   sum_next = sum_by_more length after upto [] less
 
   -- one that is there
-  pub sharing_some : (comp : Comp) → IsShared order before (component_at after upto) (Some comp) → IsSharing order before after (comps ++ Some comp ∷ []) (kept + length (component_at after upto)) (upto + 1)
+  pub sharing_some : (comp : Comp) → IsShared order before (component_at after upto) (Some comp)
+      → IsSharing order before after (comps ++ Some comp ∷ []) (kept + length (component_at after upto)) (upto + 1)
   sharing_some comp is = record {
     long = length_push comps (Some comp) ∙ ap (λ n. n + 1) p.long;
     each = each_more (Some comp) is.1;
@@ -84,23 +85,27 @@ module _ (order : OrderKind) (before after : List (List Cell)) (comps : List (Op
   }
 
 -- one component more, which is there or not
-pub sharing_next : {A : Type 0} (value : A → Comp) (order : OrderKind) (before after : List (List Cell)) (items now : List (Option A)) (comp : Option A) (kept counted upto : ℕ) (cells : List Cell) (some : Bool)
+pub sharing_next : {A : Type 0} (value : A → Comp) (order : OrderKind) (before after : List (List Cell)) (items now : List (Option A)) (comp : Option A)
+    (kept counted upto : ℕ) (cells : List Cell) (some : Bool)
     → IsSharing order before after (map (option_map value) items) kept upto → upto < length after → cells ≡ component_at after upto → IsShared order before cells (option_map value comp)
     → now ≡ items ++ comp ∷ [] → some ≡ is_some comp → ((some ≡ true) × (counted ≡ kept + length cells)) ⊎ ((some ≡ false) × (counted ≡ kept))
     → IsSharing order before after (map (option_map value) now) counted (upto + 1)
 sharing_next value order before after items now (Some comp) kept counted upto cells some p less here shared push is branch =
     elim branch [
       | inl there ↦
-          let mapped : map (option_map value) now ≡ map (option_map value) items ++ Some (value comp) ∷ [] = ap (map (option_map value)) push ∙ map-append (option_map value) items (Some comp ∷ []) in
+          let mapped : map (option_map value) now ≡ map (option_map value) items ++ Some (value comp) ∷ [] =
+          ap (map (option_map value)) push ∙ map-append (option_map value) items (Some comp ∷ []) in
           let count : counted ≡ kept + length (component_at after upto) = there.1 ∙ ap (λ cs. kept + length cs) here in
-          rw (mapped, count) (sharing_some order before after (map (option_map value) items) kept upto p less (value comp) (subst (λ cs. IsShared order before cs (Some (value comp))) here shared))
+          rw (mapped, count) (sharing_some order before after (map (option_map value) items) kept upto p less (value comp)
+          (subst (λ cs. IsShared order before cs (Some (value comp))) here shared))
       | inr absent ↦ absurd (false≢true (sym absent.0 ∙ is))
     ]
 sharing_next value order before after items now None kept counted upto cells some p less here shared push is branch =
     elim branch [
       | inl there ↦ absurd (false≢true (sym is ∙ there.0))
       | inr absent ↦
-          let mapped : map (option_map value) now ≡ map (option_map value) items ++ None ∷ [] = ap (map (option_map value)) push ∙ map-append (option_map value) items (None ∷ []) in
+          let mapped : map (option_map value) now ≡ map (option_map value) items ++ None ∷ [] =
+          ap (map (option_map value)) push ∙ map-append (option_map value) items (None ∷ []) in
           rw (mapped, absent.1) (sharing_not order before after (map (option_map value) items) kept upto p less (subst (λ cs. IsShared order before cs None) here shared))
     ]
 
@@ -122,7 +127,13 @@ module _ (order : OrderKind) (before after : List (List Cell)) (comps : List (Op
 
     -- what is not kept is missing
     pub shared_missing : cells_missing after comps + kept ≡ passable_count m
-    shared_missing = omega (arith, ap (λ cs. cells_missing cs comps) (take_all upto after (omega arith)), ap (sum_by length) (take_all upto after (omega arith)), p.missing, sum_is m limits whole after listed)
+    shared_missing = omega (
+      arith,
+      ap (λ cs. cells_missing cs comps) (take_all upto after (omega arith)),
+      ap (sum_by length) (take_all upto after (omega arith)),
+      p.missing,
+      sum_is m limits whole after listed,
+    )
 
     pub shared_counts : (former : Map) → IsComponentList former before → (built : ℕ) → built ≡ passable_count m - kept → AreCounts former m built kept
     shared_counts former known built is = record {
@@ -135,12 +146,14 @@ module _ (order : OrderKind) (before after : List (List Cell)) (comps : List (Op
     }
 
 -- nothing is there
-pub none_prepared : (order : OrderKind) (components : List (List Cell)) (comps : List (Option Comp)) → All (λ comp. comp ≡ None) comps → length comps ≡ length components → ArePrepared order components comps
+pub none_prepared : (order : OrderKind) (components : List (List Cell)) (comps : List (Option Comp))
+    → All (λ comp. comp ≡ None) comps → length comps ≡ length components → ArePrepared order components comps
 none_prepared order components comps none long = record {
   long = long;
   each = λ label less. subst (λ c. IfSome c (IsKeptAs order (component_at components label))) (sym (none label None less)) tt;
 }
 
-pub none_push : {A : Type 0} (value : A → Comp) (items : List (Option A)) → All (λ comp. comp ≡ None) (map (option_map value) items) → All (λ comp. comp ≡ None) (map (option_map value) (items ++ None ∷ []))
+pub none_push : {A : Type 0} (value : A → Comp) (items : List (Option A)) → All (λ comp. comp ≡ None) (map (option_map value) items)
+    → All (λ comp. comp ≡ None) (map (option_map value) (items ++ None ∷ []))
 none_push value items none =
     subst (All (λ comp. comp ≡ None)) (sym (map-append (option_map value) items (None ∷ []))) (All-push (λ comp. comp ≡ None) (map (option_map value) items) None none refl)

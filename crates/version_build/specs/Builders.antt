@@ -51,12 +51,14 @@ comp_of order part = comp_or order part.cells part.rows part.kept
 -- of each component with such a number, what is kept of it or its cells in their order, and no row
 pub record AreBegun (order : OrderKind) (components : List (List Cell)) (comps : List (Option Comp)) (parts : List Parted) : Type 0 where
   pub long : length parts ≡ length comps
-  pub each : (label : ℕ) → label < length parts → part_at parts label ≡ part_from order (component_at components label) (slice_index_or comps label None)
+  pub each : (label : ℕ) → label < length parts
+      → part_at parts label ≡ part_from order (component_at components label) (slice_index_or comps label None)
   pub left : sum_by rows_left parts ≡ cells_missing components comps
 
 -- the component is kept, or it has its cells in their order and the rows of the first of them
 abbrev pub IsPartFrom : Map → OrderKind → List Cell → List Cell → List (List Run) → Option Comp → Type 0
-IsPartFrom map order component cells rows None = (cells ≡ ordered order component) × (length rows ≤ length cells) × AreRowsBetween map cells 0 (length rows) rows
+IsPartFrom map order component cells rows None = (cells ≡ ordered order component) × (length rows ≤ length cells)
+    × AreRowsBetween map cells 0 (length rows) rows
 IsPartFrom map order component cells rows (Some comp) = (cells ≡ []) × (rows ≡ []) × IsKeptAs order component comp
 
 abbrev pub IsPart : Map → OrderKind → List Cell → Parted → Type 0

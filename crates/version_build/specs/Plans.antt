@@ -1,13 +1,11 @@
 -- What is to be built of a version, and what is taken over from a former one.
-use Rattle.std.specs.Prelude.{◌≡◌, ◌≢◌, ℕ, ◌+◌, ◌<◌, ◌≤◌, true, false, List, ◌∷◌, length, slice_index_or, Option, None, Some, IfSome, AllPairs}
+use Rattle.std.specs.Prelude.{◌≡◌, ◌≢◌, ℕ, ◌+◌, ◌<◌, true, false, List, ◌∷◌, length, slice_index_or, Option, None, Some, IfSome}
 use Rattle.moves.specs.declared.Cell.{Cell}
-use Rattle.moves.specs.declared.TheConstants.{MAX_PASSABLE}
-use Rattle.moves.specs.Maps.{Map, ComesBefore, IsSearchable, passable_count}
+use Rattle.moves.specs.Maps.{Map, IsSearchable, passable_count}
 use Rattle.moves.specs.Components.{IsComponentList}
-use Rattle.moves.specs.StraightPaths.{IsConnected}
 use Rattle.cell_order.specs.declared.OrderKind.{OrderKind}
 use Rattle.row_store.specs.Comps.{Comp}
-use Rattle.build_pool.specs.Places.{LieOnMap}
+use Rattle.build_pool.specs.Places.{CanBeBuilt}
 use Rattle.versions.specs.Databases.{Versioned, IsKeptAs, component_at, comp_at}
 use Rattle.versions.specs.Counts.{AreCounts, is_among}
 
@@ -53,21 +51,14 @@ cells_missing (cells ∷ components) (Some comp ∷ comps) = cells_missing compo
 cells_missing _ _ = 0
 
 -- what a plan knows
-pub record IsPlan (map : Map) (order : OrderKind) (components : List (List Cell)) (comps : List (Option Comp)) (built kept : ℕ) : Type 0 where
+pub record IsPlan (map : Map) (order : OrderKind) (components : List (List Cell)) (comps : List (Option Comp))
+    (built kept : ℕ) : Type 0 where
   pub searchable : IsSearchable map
   pub listed : IsComponentList map components
   pub prepared : ArePrepared order components comps
   pub missing : built ≡ cells_missing components comps
   pub sum : built + kept ≡ passable_count map
 
--- the cells have all that it takes to build their rows
-pub record CanBeBuilt (cells : List Cell) : Type 0 where
-  pub some : 0 < length cells
-  pub few : length cells ≤ MAX_PASSABLE
-  pub in_order : AllPairs ComesBefore cells
-  pub connected : IsConnected cells
-  pub on_map : LieOnMap cells
-
--- and so have those of each component
+-- the cells of each component have all that it takes to build their rows
 abbrev pub CanAllBeBuilt : List (List Cell) → Type 0
 CanAllBeBuilt components = (label : ℕ) → label < length components → CanBeBuilt (component_at components label)

@@ -3,8 +3,9 @@
 ghost use Rattle.std.specs.Prelude.{◌≡◌, ◌<◌, ◌≤◌, map, IfOk};
 ghost use Rattle.std.specs.Arc.{arc_value};
 ghost use Rattle.std.specs.Option.{option_map};
+ghost use Rattle.build_pool.specs.Places.{CanBeBuilt};
 ghost use Rattle.versions.specs.Databases.{IsKeptAs, IsVersion};
-ghost use Rattle.version_build.specs.Plans.{ArePrepared, AreComplete, CanBeBuilt, CanAllBeBuilt};
+ghost use Rattle.version_build.specs.Plans.{ArePrepared, AreComplete, CanAllBeBuilt};
 
 use crate::plans::{BuildReport, Plan, Prepared};
 use build_pool::{Gate, MAX_WORKERS, build_rows};
