@@ -83,7 +83,8 @@ IsLegal start history =
     (before : List Entry) (entry : Entry) (later : List Entry) → history ≡ before ++ entry ∷ later → MayFollow start before entry
 
 -- The answer to a query at a history, by the version at a prefix. The answer at a history is that at its published prefix.
-pub record IsAnswerAt (start : Map) (kind : OrderKind) (history : List Entry) (prefix : ℕ) (from goal : Cell) (answer : Answer) : Type 0 where
+pub record IsAnswerAt (start : Map) (kind : OrderKind) (history : List Entry) (prefix : ℕ)
+    (from goal : Cell) (answer : Answer) : Type 0 where
   pub version : Versioned
   pub is_version : IsVersionAt start kind history prefix version
   pub answers : IsAnswer version from goal answer

@@ -13,7 +13,8 @@ use Rattle.path_core.specs.Boards.{MayBePublished}
 -- a history is legal step by step: with one entry more just where it is legal and the entry may follow
 pub record IsLegalByStep (start : Map) : Type 0 where
   pub none : IsLegal start []
-  pub step : (history : List Entry) (entry : Entry) → IsLegal start (history ++ entry ∷ []) ↔ (IsLegal start history × MayFollow start history entry)
+  pub step : (history : List Entry) (entry : Entry)
+      → IsLegal start (history ++ entry ∷ []) ↔ (IsLegal start history × MayFollow start history entry)
 
 abbrev pub LegalStepByStep : Type 0
 LegalStepByStep = (start : Map) → IsLegalByStep start
@@ -34,7 +35,8 @@ LegalHistoriesAreBounded = (start : Map) (history : List Entry) → IsLegal star
 
 -- as a legal history grows, the published version is never replaced by an older one
 abbrev pub PublishedPrefixesRise : Type 0
-PublishedPrefixesRise = (start : Map) (history more : List Entry) → IsLegal start (history ++ more) → published_prefix history ≤ published_prefix (history ++ more)
+PublishedPrefixesRise = (start : Map) (history more : List Entry) → IsLegal start (history ++ more)
+    → published_prefix history ≤ published_prefix (history ++ more)
 
 -- Accepted edits stay as a history grows: so does the map after so many of them, its version, the leave to publish it, and
 -- the answer to a query.
@@ -43,7 +45,8 @@ pub record IsLasting (start : Map) (order : OrderKind) (history more : List Entr
   pub maps : (prefix : ℕ) → prefix ≤ accepted_count history → map_at start (history ++ more) prefix ≡ map_at start history prefix
   pub versions : (prefix : ℕ) (version : Versioned) → prefix ≤ accepted_count history
       → IsVersionAt start order history prefix version → IsVersionAt start order (history ++ more) prefix version
-  pub publications : (version : Versioned) → MayBePublished start order history version → MayBePublished start order (history ++ more) version
+  pub publications : (version : Versioned) → MayBePublished start order history version
+      → MayBePublished start order (history ++ more) version
   pub answers : (prefix : ℕ) (from goal : Cell) (answer : Answer) → prefix ≤ accepted_count history
       → IsAnswerAt start order history prefix from goal answer → IsAnswerAt start order (history ++ more) prefix from goal answer
 

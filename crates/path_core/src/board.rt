@@ -5,7 +5,8 @@ ghost use Rattle.std.specs.Arc.{arc_value};
 ghost use Rattle.path_core.specs.declared.TheConstants.{MAX_ENTRIES};
 ghost use Rattle.path_core.specs.declared.entry.Entry.TheVariants.{Accept, Halt};
 ghost use Rattle.path_core.specs.Boards.{IsFirst, MayBePublished, new_board, with_entry, with_version};
-ghost use Rattle.path_core.specs.Histories.{accepted_count, published_count, published_prefix, IsHalting, IsLegal, IsVersionAt};
+ghost use Rattle.path_core.specs.Histories.{accepted_count, published_count, published_prefix};
+ghost use Rattle.path_core.specs.Histories.{IsHalting, IsLegal, IsVersionAt};
 ghost use Rattle.path_core.specs.Looks.{IsJob, IsLook};
 ghost use Rattle.path_core.specs.Refusals.{IsPublishError, IsRoomUsed, IsSubmitError, MayBeSubmitted};
 
@@ -121,8 +122,8 @@ impl Board {
     ///
     /// # Errors
     ///
-    /// The first cause to refuse the edit at the board's map, and else want of memory where the room is used up. The board
-    /// is as before.
+    /// The first cause to refuse the edit at the board's map, and else want of memory where the room is used up. The
+    /// board is as before.
     pub fn submit(&mut self, pass: u32, edit: Edit) -> Result<u32, SubmitError>
         ensures may { OnOk result (MayBeSubmitted self.old edit) }
         ensures entered { OnOk result (self.new ≡ with_entry self.old (Accept pass edit)) }
@@ -143,8 +144,8 @@ impl Board {
     ///
     /// # Errors
     ///
-    /// `Overtaken` where the published version comes after as many edits or more, and else want of memory where the room
-    /// is used up. The board is as before, and the version is dropped.
+    /// `Overtaken` where the published version comes after as many edits or more, and else want of memory where the
+    /// room is used up. The board is as before, and the version is dropped.
     pub fn publish(&mut self, pass: u32, version: Arc<Version>) -> Result<u32, PublishError>
         requires may { MayBePublished self.old.start self.old.order self.old.history (arc_value version) }
         ensures newer { OnOk result (published_prefix self.old.history < (arc_value version).prefix) }
@@ -165,8 +166,8 @@ impl Board {
         Ok(prefix)
     }
 
-    /// Enters a halt, and gives whether it did: a board that halts already stays as it is. Edits and versions are taken as
-    /// before.
+    /// Enters a halt, and gives whether it did: a board that halts already stays as it is. Edits and versions are taken
+    /// as before.
     ///
     /// # Errors
     ///

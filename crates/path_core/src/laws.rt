@@ -1,6 +1,7 @@
 //! Laws of histories, for proofs. None of these functions does anything: each one's contract is a law.
 
-ghost use Rattle.path_core.specs.HistoryLaws.{AcceptedEditsStay, BeginningsAreLegal, LegalHistoriesAreBounded, LegalStepByStep, PublishedPrefixesRise};
+ghost use Rattle.path_core.specs.HistoryLaws.{AcceptedEditsStay, BeginningsAreLegal, LegalHistoriesAreBounded};
+ghost use Rattle.path_core.specs.HistoryLaws.{LegalStepByStep, PublishedPrefixesRise};
 
 /// A history is legal step by step.
 pub fn legal_step_by_step()

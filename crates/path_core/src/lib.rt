@@ -1,5 +1,5 @@
-//! The board: the edits of a map that were accepted, the versions of it that were published, and whether it halts, in one
-//! list of entries. Each call that adds one is a step of a legal history.
+//! The board: the edits of a map that were accepted, the versions of it that were published, and whether it halts, in
+//! one list of entries. Each call that adds one is a step of a legal history.
 #![tactic(auto)]
 
 pub mod board;
