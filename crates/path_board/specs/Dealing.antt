@@ -21,17 +21,20 @@ pub record AreCopies {A : Type 0} (value : A → Versioned) (board : Boarded) (c
   pub each : All (λ copy. value copy ≡ board.version) copies
 
 -- the seats of a new book over a board with no entries, and as many copies of its version
-pub record IsDeal {A : Type 0} (value : A → Versioned) (id : TableId) (board : Boarded) (seats : List (Seat (Option BoardState) (View Entry Foundation))) (copies : List A) : Type 0 where
+pub record IsDeal {A : Type 0} (value : A → Versioned) (id : TableId) (board : Boarded)
+    (seats : List (Seat (Option BoardState) (View Entry Foundation))) (copies : List A) : Type 0 where
   pub seats_are : AreNewSeats id (Some (foundation_of board)) (length seats) seats
   pub empty : board.history ≡ []
   pub copies_are : AreCopies value board (length seats) copies
 
 -- there is a board of which these are the seats and the copies
-pub record HasDeal {A : Type 0} (value : A → Versioned) (seats : List (Seat (Option BoardState) (View Entry Foundation))) (copies : List A) : Type 0 where
+pub record HasDeal {A : Type 0} (value : A → Versioned)
+    (seats : List (Seat (Option BoardState) (View Entry Foundation))) (copies : List A) : Type 0 where
   pub id : TableId
   pub board : Boarded
   pub is : IsDeal value id board seats copies
 
 -- of whatever board these are the seats and the copies, the passes are its new ones
 abbrev pub DealsTo : {A : Type 0} → (A → Versioned) → List (Seat (Option BoardState) (View Entry Foundation)) → List A → List Pass → Type 0
-DealsTo {A} value seats copies passes = (id : TableId) (board : Boarded) → IsDeal value id board seats copies → AreNewPasses id board (length seats) passes
+DealsTo {A} value seats copies passes = (id : TableId) (board : Boarded)
+    → IsDeal value id board seats copies → AreNewPasses id board (length seats) passes

@@ -1,7 +1,7 @@
 //! A board that threads share by turns.
 //!
-//! Each thread has a [`Pass`]. Its calls answer what the board answers at a history that goes on from all that the pass has
-//! seen, and the pass has then seen that history too, with the entry of its own that the call added.
+//! Each thread has a [`Pass`]. Its calls answer what the board answers at a history that goes on from all that the pass
+//! has seen, and the pass has then seen that history too, with the entry of its own that the call added.
 #![tactic(auto)]
 
 pub mod pass;

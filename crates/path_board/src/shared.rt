@@ -10,7 +10,8 @@ ghost use Rattle.path_core.specs.Looks.{IsJob};
 ghost use Rattle.path_core.specs.Passes.{pass_of, BeginsWith, OthersAdd};
 ghost use Rattle.path_core.specs.Refusals.{IsPublishError, IsRoomUsed, IsSubmitError, MayBeSubmitted};
 ghost use Rattle.path_board.specs.Foundations.{foundation_of};
-ghost use Rattle.path_board.specs.Passes.{base_by, count_of, looks_of, seen_of, IsPassOf, IsUpToDate, KeepsHeld, KeepsOlder, SamePass};
+ghost use Rattle.path_board.specs.Passes.{base_by, count_of, looks_of, seen_of};
+ghost use Rattle.path_board.specs.Passes.{IsPassOf, IsUpToDate, KeepsHeld, KeepsOlder, SamePass};
 ghost use Rattle.path_board.specs.Calls.{AnswersAt, EntersAt, IsLookBut};
 
 use crate::pass::Pass;
@@ -227,8 +228,8 @@ impl SharedBoard {
     ///
     /// # Errors
     ///
-    /// `Moved` where entries were added since the pass last looked and had the published version at hand. There may be no
-    /// later version even so.
+    /// `Moved` where entries were added since the pass last looked and had the published version at hand. There may be
+    /// no later version even so.
     pub fn fresh(&self, pass: &mut Pass) -> Result<(), Moved>
         requires board { IsPassOf (board_id self.now) pass.old }
         ensures same { SamePass pass.old pass.new }

@@ -100,7 +100,8 @@ impl BoardState {
     ///
     /// Those of [`Board::publish`].
     pub fn publish(&mut self, pass: u32, version: Arc<Version>) -> Result<u32, PublishError>
-        requires may { MayBePublished self.old.board.start self.old.board.order (listed self.old.board.history) (arc_value version) }
+        requires may { MayBePublished self.old.board.start self.old.board.order (listed self.old.board.history)
+            (arc_value version) }
         ensures state { IsState self.old }
         ensures newer { OnOk result (published_prefix self.old.board.history < (arc_value version).prefix) }
         ensures entered { OnOk result (AddsEntry self.old self.new (Publish pass (arc_value version).prefix)) }
