@@ -6,3 +6,4 @@ pub mod Homes
 pub mod Answering
 pub mod OneRow
 pub mod OneRowComps
+pub mod Refusals

@@ -42,7 +42,8 @@ fn lone_comp(alloc: Global, x: u16) -> Result<Arc<CompData>, AllocError>
     Ok(Arc::new(alloc, comp)?)
 }
 
-/// The component of three cells: east from the first one, west to it and then east from the second, west from the third.
+/// The component of three cells: east from the first one, west to it and then east from the second, west from the
+/// third.
 fn line_comp(alloc: Global) -> Result<Arc<CompData>, AllocError>
     ensures { IfOk result (λ comp. arc_value comp ≡ line) }
 {

@@ -1,6 +1,7 @@
 //! A version: a map after some edits, and the database of its paths.
 
-ghost use Rattle.std.specs.Prelude.{◌≡◌, ◌≢◌, Contains, ℕ, ◌+◌, ◌-◌, ◌*◌, ◌^◌, ◌<◌, ◌≤◌, map, length, sum_by, slice_index_or, IfOk, IfErr, OnOk, IfSome, IfNone};
+ghost use Rattle.std.specs.Prelude.{◌≡◌, ◌≢◌, Contains, ℕ, ◌+◌, ◌-◌, ◌*◌, ◌^◌, ◌<◌, ◌≤◌, map, length, sum_by};
+ghost use Rattle.std.specs.Prelude.{slice_index_or, IfOk, IfErr, OnOk, IfSome, IfNone};
 ghost use Rattle.std.specs.Arc.{arc_value};
 ghost use Rattle.moves.specs.Maps.{IsPassable, IsSearchable, passable_count};
 ghost use Rattle.moves.specs.Paths.{Reaches};
@@ -62,7 +63,8 @@ impl Model for Version {
 
     ghost Value = { Versioned };
 
-    ghost view = { λ v. record { map = v.grid; prefix = v.prefix; order = v.kind; comps = map arc_value v.comps.items } };
+    ghost view = { λ v.
+        record { map = v.grid; prefix = v.prefix; order = v.kind; comps = map arc_value v.comps.items } };
 
     ghost invariant = { λ v. IsStored v.grid v.kind v.labels (map arc_value v.comps.items) v.totals };
 }
