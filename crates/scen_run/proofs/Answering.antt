@@ -1,6 +1,5 @@
 -- The answer to a query, from the least cost.
-use Rattle.std.proofs.Common.{◌≡◌, ℕ, ◌+◌, ◌<◌, List, [], ◌∷◌, Option, Some, None, Result, Ok, Err, IfErr, refl, sym, ap, subst, ◌∙◌, arith}
-use Rattle.std.specs.Result.{IsOk}
+use Rattle.std.proofs.Common.{◌≡◌, ℕ, ◌+◌, ◌<◌, List, [], ◌∷◌, Option, Some, None, sym, ap, subst, ◌∙◌, arith}
 use Rattle.root_cost.specs.declared.Cost.{Cost}
 use Rattle.moves.specs.declared.Cell.{Cell}
 use Rattle.moves.specs.declared.TheConstants.{MAX_PASSABLE}
@@ -9,10 +8,7 @@ use Rattle.moves.specs.Paths.{IsLeastCost}
 use Rattle.moves.proofs.CostsOfPaths.{moves_of_cost}
 use Rattle.moves.proofs.LawsOfPaths.{same_cost_of_best}
 use Rattle.versions.specs.Databases.{Versioned, IsVersion}
-use Rattle.versions.specs.Queries.{AreEnds, IsRefusal}
-use Rattle.versions.specs.declared.query.End.TheVariants.{Start, Goal}
-use Rattle.versions.specs.declared.query.QueryRefusal.{QueryRefusal}
-use Rattle.versions.specs.declared.query.QueryRefusal.TheVariants.{Outside, Blocked}
+use Rattle.versions.specs.Queries.{AreEnds}
 use Rattle.versions.proofs.BestWalks.{walks_are_best}
 use Rattle.versions.proofs.Homes.{few_moves}
 use Rattle.scen_run.specs.Inside.{IsWalkCost, IsFewSteps}
@@ -84,16 +80,3 @@ results_short version is [] (result ∷ results) are = absurd are
 results_short version is (line ∷ lines) [] are = absurd are
 results_short version is (line ∷ lines) (result ∷ results) are =
     All-cons IsShort result results (result_short version is line result are.0) (results_short version is lines results are.1)
-
--- ends that are passable are not refused
-pub ends_not_refused : (map : Map) (start goal : Cell) (why : QueryRefusal) → IsRefusal map start goal why → AreEnds map start goal → ⊥
-ends_not_refused map start goal (Outside Start) refusal ends = refusal ends.leaves.inside
-ends_not_refused map start goal (Blocked Start) refusal ends = refusal.1 ends.leaves
-ends_not_refused map start goal (Outside Goal) refusal ends = refusal.1 ends.arrives.inside
-ends_not_refused map start goal (Blocked Goal) refusal ends = refusal.2 ends.arrives
-
--- and so a query between them is answered
-pub answered : {X : Type 0} (map : Map) (start goal : Cell) (result : Result X QueryRefusal) → AreEnds map start goal
-    → IfErr result (IsRefusal map start goal) → IsOk result
-answered map start goal (Ok x) ends refused = refl
-answered map start goal (Err why) ends refused = absurd (ends_not_refused map start goal why refused ends)

@@ -14,7 +14,7 @@ use Rattle.versions.specs.declared.query.QueryRefusal.TheVariants.{Outside, Bloc
 use Rattle.scen_run.specs.declared.results.LineResult.{LineResult}
 use Rattle.scen_run.specs.declared.results.LineResult.TheVariants.{Match, Differs, Unreachable, Refused, Scaled}
 use Rattle.scen_run.specs.Results.{IsCostOf, IsLineResult, AreLineResults, LinesHaveOneResult}
-use Rattle.scen_run.proofs.Answering.{ends_not_refused}
+use Rattle.versions.proofs.Refusals.{ends_not_refused}
 
 -- a query is refused for one cause
 one_refusal : (map : Map) (start goal : Cell) (a b : QueryRefusal) → IsRefusal map start goal a → IsRefusal map start goal b → a ≡ b

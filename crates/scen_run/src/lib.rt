@@ -1,5 +1,5 @@
-//! Scenarios on a version: the result of each line of a scenario file, in as many threads as there are processors, and the
-//! report on them. Beside them maps that are made by a formula, and the queries by which such a map is measured.
+//! Scenarios on a version: the result of each line of a scenario file, in as many threads as there are processors, and
+//! the report on them. Beside them maps that are made by a formula, and the queries by which such a map is measured.
 //! (MovingAI scenario format page)
 #![tactic(auto)]
 

@@ -71,8 +71,8 @@ impl QueryTotals {
 }
 
 /// Measures the version of a map by its queries. Query number i, from 0 to 15, goes from the passable cell with the
-/// number 7i + seed to the one with the number 13i + 5, where the passable cells are counted from 0 row by row and round and
-/// round. A map without passable cells has no queries.
+/// number 7i + seed to the one with the number 13i + 5, where the passable cells are counted from 0 row by row and
+/// round and round. A map without passable cells has no queries.
 ///
 /// # Errors
 ///

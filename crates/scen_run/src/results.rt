@@ -34,11 +34,11 @@ pub enum LineResult {
     Scaled,
 }
 
-/// The results of the lines, in their order. The lines are shared among threads, and the list is that of one thread. The
-/// name of the map and the bucket are not compared.
+/// The results of the lines, in their order. The lines are shared among threads, and the list is that of one thread.
+/// The name of the map and the bucket are not compared.
 ///
-/// Each stated length is below 10^16 billionths, as it is in lines that were read. Each cost of a result has a length, so that the
-/// results can be reported.
+/// Each stated length is below 10^16 billionths, as it is in lines that were read. Each cost of a result has a length,
+/// so that the results can be reported.
 ///
 /// # Errors
 ///

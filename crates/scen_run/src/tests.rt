@@ -1,4 +1,5 @@
-//! Scenario files on small maps, written as their rows with `/` between them: worked examples that no proof can vouch for.
+//! Scenario files on small maps, written as their rows with `/` between them: worked examples that no proof can vouch
+//! for.
 
 use super::*;
 use build_pool::FreeGate;
@@ -78,8 +79,8 @@ fn reports(rt: HostRuntime) -> Result<(), Fail> {
     Ok(())
 }
 
-/// For costs of straight, of diagonal and of both moves, the least and the greatest length that matches and the next ones
-/// that do not, by whole numbers.
+/// For costs of straight, of diagonal and of both moves, the least and the greatest length that matches and the next
+/// ones that do not, by whole numbers.
 const EDGES: &str = "version 1\n\
     0 m 4 4 0 0 2 0 1.989999999\n0 m 4 4 0 0 2 0 1.99\n0 m 4 4 0 0 2 0 2.01\n\
     0 m 4 4 0 0 2 0 2.010000001\n0 m 4 4 0 0 1 1 1.404213562\n0 m 4 4 0 0 1 1 1.404213563\n\

@@ -1,6 +1,7 @@
 use Rattle.std.proofs.Common.{IfOk, subst}
 use Rattle.moves.specs.Paths.{IsLeastCost}
-use Rattle.scen_run.proofs.Answering.{answered, cost_answers, few_if_some}
+use Rattle.versions.proofs.Refusals.{answered}
+use Rattle.scen_run.proofs.Answering.{cost_answers, few_if_some}
 use Rattle.scen_run.proofs.Querying.{ends_passable}
 use Rattle.scen_run.proofs.queries.walk_cost.Goals as goal
 
