@@ -1,23 +1,19 @@
 -- The answer to a query, as it is told.
-use Rattle.std.proofs.Common.{◌≡◌, ℕ, ◌+◌, ◌<◌, List, ◌++◌, length, Some, None, Result, Ok, Err, IfErr, refl, sym, ap, ◌∙◌, append_assoc, arith}
+use Rattle.std.proofs.Common.{◌≡◌, ℕ, ◌+◌, ◌<◌, List, ◌++◌, length, Some, None, refl, sym, ap, ◌∙◌, append_assoc, arith}
 use Rattle.std.specs.Prelude.{codes}
 use Rattle.std.specs.Fmt.{decimal}
-use Rattle.std.specs.Result.{IsOk}
 use Rattle.std.proofs.lemmas.List.{append-nil}
 use Rattle.root_cost.specs.declared.Cost.{Cost}
 use Rattle.moves.specs.declared.Cell.{Cell}
 use Rattle.moves.specs.declared.Move.{Move}
 use Rattle.moves.specs.declared.TheConstants.{MAX_PASSABLE}
-use Rattle.moves.specs.Maps.{Map}
 use Rattle.moves.specs.Moves.{move_name}
 use Rattle.moves.specs.Paths.{IsLeastCost, cost_of}
 use Rattle.moves.proofs.LawsOfPaths.{same_cost_of_best}
 use Rattle.versions.specs.Databases.{Versioned}
 use Rattle.versions.specs.Answers.{Answer, refused, path}
 use Rattle.versions.specs.Queries.{AreEnds, IsRefusal, refusal_text}
-use Rattle.versions.specs.declared.query.End.TheVariants.{Start, Goal}
 use Rattle.versions.specs.declared.query.QueryRefusal.{QueryRefusal}
-use Rattle.versions.specs.declared.query.QueryRefusal.TheVariants.{Outside, Blocked}
 use Rattle.walker.specs.Walks.{Walking, IsAhead, Advances, HasFewAhead, BeginsWalk}
 use Rattle.path_replay.specs.Texts.{answer_text, names_text, path_text, query_text}
 use Rattle.path_replay.specs.Inside.{AddsAnswer, AddsNames, SaysAnswer}
@@ -64,18 +60,6 @@ module _ (start walk : Walking) (before text : List ℕ) (turns : ℕ) (p : IsTo
       let left = p.left moves ahead in
       let none = step.ahead left.rest left.ahead in
       sym (left.whole ∙ ap (λ ms. text ++ names_text ms) none.0 ∙ append-nil text)
-
--- ends that are passable are not refused
-ends_not_refused : (map : Map) (start goal : Cell) (why : QueryRefusal) → IsRefusal map start goal why → AreEnds map start goal → ⊥
-ends_not_refused map start goal (Outside Start) refusal ends = refusal ends.leaves.inside
-ends_not_refused map start goal (Blocked Start) refusal ends = refusal.1 ends.leaves
-ends_not_refused map start goal (Outside Goal) refusal ends = refusal.1 ends.arrives.inside
-ends_not_refused map start goal (Blocked Goal) refusal ends = refusal.2 ends.arrives
-
-pub answered : {X : Type 0} (map : Map) (start goal : Cell) (result : Result X QueryRefusal) → AreEnds map start goal
-    → IfErr result (IsRefusal map start goal) → IsOk result
-answered map start goal (Ok x) ends refusal = refl
-answered map start goal (Err why) ends refusal = absurd (ends_not_refused map start goal why refusal ends)
 
 -- ---- what is said of an answer
 

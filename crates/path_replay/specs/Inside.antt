@@ -103,7 +103,8 @@ abbrev pub IsCutShort : Boarded → Holding → Event → Boarded → Type 0
 IsCutShort old pass event new = (new.history ≡ old.history) ⊎ HasEntered old pass event new
 
 -- the line of an event is added to a text
-pub record AddsLine (old : Boarded) (passes : List Holding) (event : Event) (new : Boarded) (after : List Holding) (before text : List ℕ) : Type 0 where
+pub record AddsLine (old : Boarded) (passes : List Holding) (event : Event)
+    (new : Boarded) (after : List Holding) (before text : List ℕ) : Type 0 where
   pub line : List ℕ
   pub is : IsStep old.start old.order (replaying_of old.history passes) event line (replaying_of new.history after)
   pub added : text ≡ before ++ line

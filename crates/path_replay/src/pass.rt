@@ -72,8 +72,8 @@ impl Pass {
         })
     }
 
-    /// Looks, and begins to build the version of all accepted edits, unless it is published already. What was being built is
-    /// dropped.
+    /// Looks, and begins to build the version of all accepted edits, unless it is published already. What was being
+    /// built is dropped.
     pub(crate) fn begin(&mut self, alloc: Global, board: &Board) -> Result<Reply, AllocError>
         requires sound { IsSound board.now self.old }
         requires replayable { IsReplayable board.now }

@@ -1,9 +1,12 @@
 //! Reads events.
 
-ghost use Rattle.std.specs.Prelude.{◌≡◌, ◌-◌, ◌<◌, ◌≤◌, [], ◌∷◌, ◌++◌, None, Some, length, MatchOption, IfOk, IfErr, IfSome, OnOk};
+ghost use Rattle.std.specs.Prelude.{◌≡◌, ◌-◌, ◌<◌, ◌≤◌, [], ◌∷◌, ◌++◌, None, Some, length};
+ghost use Rattle.std.specs.Prelude.{MatchOption, IfOk, IfErr, IfSome, OnOk};
 ghost use Rattle.text_lines.specs.Words.{words_of};
 ghost use Rattle.path_replay.specs.declared.TheConstants.{PASSES, MAX_EVENTS_BYTES};
-ghost use Rattle.path_replay.specs.Events.{AreEventsOf, HavePasses, IsEventsError, ended, first_cell, first_number, first_pass, first_passable, named, only_pass, pass_of, query_said, submit_said, words_said};
+ghost use Rattle.path_replay.specs.Events.{AreEventsOf, HavePasses, IsEventsError, ended, named, pass_of};
+ghost use Rattle.path_replay.specs.Events.{first_cell, first_number, first_pass, first_passable, only_pass};
+ghost use Rattle.path_replay.specs.Events.{query_said, submit_said, words_said};
 ghost use Rattle.path_replay.specs.Inside.{IsReadAs};
 
 use crate::error::EventsError;

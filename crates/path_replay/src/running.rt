@@ -5,7 +5,8 @@ ghost use Rattle.path_replay.specs.declared.TheConstants.{PASSES};
 ghost use Rattle.path_replay.specs.Events.{HavePasses, pass_of};
 ghost use Rattle.path_replay.specs.Replays.{IsCut, IsReplay, IsHalted, IsSubmitted, MayBeReplayed};
 ghost use Rattle.path_replay.specs.Texts.{reply_text};
-ghost use Rattle.path_replay.specs.Inside.{AddsLine, AddsSaid, AreFresh, ArePasses, Grows, IsCutOff, IsCutShort, IsReplayable, IsSound};
+ghost use Rattle.path_replay.specs.Inside.{AddsLine, AddsSaid, AreFresh, ArePasses, Grows};
+ghost use Rattle.path_replay.specs.Inside.{IsCutOff, IsCutShort, IsReplayable, IsSound};
 
 use crate::PASSES;
 use crate::event::Event;
@@ -24,7 +25,8 @@ use text_lines::Text;
 ///
 /// # Errors
 ///
-/// `AllocError` where memory runs out. The board has the history then that the first of the events leave, up to some event.
+/// `AllocError` where memory runs out. The board has the history then that the first of the events leave, up to some
+/// event.
 pub fn run_events(
     alloc: Global,
     board: &mut Board,

@@ -91,20 +91,30 @@ fn lines_of_replays(rt: HostRuntime) -> Result<(), Fail> {
         (
             3,
             "...",
-            "submit 0 0 0 0\nbegin 0\nsubmit 1 0 0 1\nbegin 1\npublish 1\nrow 0\nrow 0\npublish 0\nlook 0\n",
-            "0 accepted 1\n0 job 1 rows 2\n1 accepted 2\n1 job 2 rows 0\n1 published 2 built 0 kept 3\n0 row left 1\n0 row left 0\n0 overtaken 2\n0 version 2 accepted 2\n",
+            "submit 0 0 0 0\nbegin 0\nsubmit 1 0 0 1\nbegin 1\npublish 1\nrow 0\nrow 0\n\
+             publish 0\nlook 0\n",
+            "0 accepted 1\n0 job 1 rows 2\n1 accepted 2\n1 job 2 rows 0\n\
+             1 published 2 built 0 kept 3\n0 row left 1\n0 row left 0\n0 overtaken 2\n\
+             0 version 2 accepted 2\n",
         ),
         (
             3,
             "...",
-            "begin 0\nrow 0\npublish 0\nhalt 0\nhalt 1\nsubmit 0 5 0 1\nquery 0 0 0 5 0\nquery 0 0 0 2 0\n",
-            "0 nothing new 0\n0 no row\n0 no job\n0 halting\n1 halted\n0 outside\n0 version 0 outside goal\n0 version 0 cost 2 0 moves E E\n",
+            "begin 0\nrow 0\npublish 0\nhalt 0\nhalt 1\nsubmit 0 5 0 1\nquery 0 0 0 5 0\n\
+             query 0 0 0 2 0\n",
+            "0 nothing new 0\n0 no row\n0 no job\n0 halting\n1 halted\n0 outside\n\
+             0 version 0 outside goal\n0 version 0 cost 2 0 moves E E\n",
         ),
         (
             3,
             "...",
-            "submit 0 1 0 0\nbegin 0\npublish 0\nrow 0\nquery 0 0 0 2 0\nrow 0\nrow 0\npublish 0\nquery 0 0 0 2 0\nlook 0\nquery 0 0 0 2 0\nquery 1 0 0 2 0\n",
-            "0 accepted 1\n0 job 1 rows 2\n0 not ready 2\n0 row left 1\n0 version 0 cost 2 0 moves E E\n0 row left 0\n0 no row\n0 published 1 built 2 kept 0\n0 version 0 cost 2 0 moves E E\n0 version 1 accepted 1\n0 version 1 unreachable\n1 version 0 cost 2 0 moves E E\n",
+            "submit 0 1 0 0\nbegin 0\npublish 0\nrow 0\nquery 0 0 0 2 0\nrow 0\nrow 0\n\
+             publish 0\nquery 0 0 0 2 0\nlook 0\nquery 0 0 0 2 0\nquery 1 0 0 2 0\n",
+            "0 accepted 1\n0 job 1 rows 2\n0 not ready 2\n0 row left 1\n\
+             0 version 0 cost 2 0 moves E E\n0 row left 0\n0 no row\n\
+             0 published 1 built 2 kept 0\n0 version 0 cost 2 0 moves E E\n\
+             0 version 1 accepted 1\n0 version 1 unreachable\n\
+             1 version 0 cost 2 0 moves E E\n",
         ),
     ];
     for (width, row, events, lines) in table {
