@@ -1,5 +1,5 @@
 -- The answer to a query, as it is told.
-use Rattle.std.proofs.Common.{◌≡◌, ℕ, ◌+◌, ◌<◌, List, ◌++◌, length, Some, None, refl, sym, ap, ◌∙◌, append_assoc, arith}
+use Rattle.std.proofs.Common.{◌≡◌, ℕ, ◌+◌, ◌<◌, List, ◌++◌, Some, None, refl, sym, ap, ◌∙◌, append_assoc}
 use Rattle.std.specs.Prelude.{codes}
 use Rattle.std.specs.Fmt.{decimal}
 use Rattle.std.proofs.lemmas.List.{append-nil}
@@ -14,52 +14,31 @@ use Rattle.versions.specs.Databases.{Versioned}
 use Rattle.versions.specs.Answers.{Answer, refused, path}
 use Rattle.versions.specs.Queries.{AreEnds, IsRefusal, refusal_text}
 use Rattle.versions.specs.declared.query.QueryRefusal.{QueryRefusal}
-use Rattle.walker.specs.Walks.{Walking, IsAhead, Advances, HasFewAhead, BeginsWalk}
+use Rattle.walker.specs.Walks.{Walking, Advances, HasFewAhead, BeginsWalk}
+use Rattle.walker.proofs.Following.{IsFollowed, followed_none, followed_more, followed_all, turns_left}
 use Rattle.path_replay.specs.Texts.{answer_text, names_text, path_text, query_text}
 use Rattle.path_replay.specs.Inside.{AddsAnswer, AddsNames, SaysAnswer}
 
--- what is left to be told of some moves that were ahead at the start
-pub record IsLeft (walk : Walking) (before text : List ℕ) (turns : ℕ) (moves : List Move) : Type 0 where
-  pub rest : List Move
-  pub ahead : IsAhead walk rest
-  pub whole : before ++ names_text moves ≡ text ++ names_text rest
-  pub long : length moves ≡ turns + length rest
-
 -- a walk that was told for some turns
-pub record IsTold (start walk : Walking) (before text : List ℕ) (turns : ℕ) : Type 0 where
-  pub left : (moves : List Move) → IsAhead start moves → IsLeft walk before text turns moves
-  pub few : HasFewAhead start
+abbrev pub IsTold : Walking → Walking → List ℕ → List ℕ → ℕ → Type 0
+IsTold start walk before text turns = IsFollowed (λ moves. before ++ names_text moves) (λ told rest. told ++ names_text rest) start walk text turns
 
 pub told_none : (start : Walking) (text : List ℕ) → HasFewAhead start → IsTold start start text text 0
-told_none start text few = record { left = λ moves ahead. record { rest = moves; ahead = ahead; whole = refl; long = omega arith }; few = few }
+told_none start text few =
+    followed_none (λ moves. text ++ names_text moves) (λ told rest. told ++ names_text rest) start text (λ moves. refl) few
 
 module _ (start walk : Walking) (before text : List ℕ) (turns : ℕ) (p : IsTold start walk before text turns) where
   pub turns_to_come : turns < MAX_PASSABLE
-  turns_to_come = let left = p.left p.few.0 p.few.1 in let few = p.few.2 in let long = left.long in omega arith
+  turns_to_come = turns_left _ _ start walk text turns p
 
   pub told_more : (next : Walking) (after : List ℕ) (move : Move) → Advances walk next (Some move) → after ≡ text ++ (codes " " ++ move_name move)
       → IsTold start next before after (turns + 1)
-  told_more next after move step is = record {
-    left = λ moves ahead.
-        (let left = p.left moves ahead in
-        let taken = step.ahead left.rest left.ahead in
-        let count = ap length taken.1 in
-        let long = left.long in
-        record {
-          rest = taken.0;
-          ahead = taken.2;
-          whole = left.whole ∙ ap (λ ms. text ++ names_text ms) taken.1 ∙ sym (append_assoc text (codes " " ++ move_name move) (names_text taken.0))
-              ∙ ap (λ t. t ++ names_text taken.0) (sym is);
-          long = omega arith;
-        });
-    few = p.few;
-  }
+  told_more next after move step is =
+      followed_more _ _ start walk text turns p next after move step
+      (λ rest. sym (append_assoc text (codes " " ++ move_name move) (names_text rest)) ∙ ap (λ t. t ++ names_text rest) (sym is))
 
   pub told_all : (next : Walking) → Advances walk next None → AddsNames start before text
-  told_all next step = λ moves ahead.
-      let left = p.left moves ahead in
-      let none = step.ahead left.rest left.ahead in
-      sym (left.whole ∙ ap (λ ms. text ++ names_text ms) none.0 ∙ append-nil text)
+  told_all next step = λ moves ahead. sym (followed_all _ _ start walk text turns p next step moves ahead ∙ append-nil text)
 
 -- ---- what is said of an answer
 
