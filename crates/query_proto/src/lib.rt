@@ -1,7 +1,7 @@
 //! The frames by which a client and the server talk: requests and replies as bytes, each with one spelling.
 //!
-//! A request is sent behind its length in two bytes, a reply behind its length in four. In every number the highest byte
-//! comes first. Nothing here takes memory.
+//! A request is sent behind its length in two bytes, a reply behind its length in four. In every number the highest
+//! byte comes first. Nothing here takes memory.
 #![tactic(auto)]
 
 mod kinds;

@@ -1,11 +1,23 @@
 //! Numbers in the bytes of a frame.
 
-ghost use Rattle.std.specs.Prelude.{◌≡◌, ◌+◌, ◌<◌, ◌≤◌, ◌++◌, ◌∷◌, drop, length};
+ghost use Rattle.std.specs.Prelude.{◌≡◌, ◌≢◌, ◌+◌, ◌<◌, ◌≤◌, ◌++◌, ◌∷◌, drop, length, IfNone, IfSome};
 ghost use Rattle.query_proto.specs.Frames.{IsFlagOf, cell_bytes};
 ghost use Rattle.byteorder.specs.Endian.{big_bytes};
 
 use byteorder::{BigEndian, ByteOrder};
 use moves::Cell;
+
+/// What is spelled by the kind of a frame alone.
+pub fn alone<T: Copy>(frame: &[u8], what: T) -> Option<T>
+    requires { 0 < length frame.now }
+    ensures some { IfSome result (λ found. (found ≡ what) × (length frame.now ≡ 1)) }
+    ensures none { IfNone result (length frame.now ≢ 1) }
+{
+    if frame.len() != 1 {
+        return None;
+    }
+    Some(what)
+}
 
 /// The byte at that place.
 pub fn byte_at(frame: &[u8], at: usize) -> u8

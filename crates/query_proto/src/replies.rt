@@ -4,13 +4,15 @@ ghost use Rattle.std.specs.Prelude.{◌≡◌, ◌≢◌, ◌<◌, ◌≤◌, �
 ghost use Rattle.byteorder.specs.Endian.{big_bytes};
 ghost use Rattle.query_proto.specs.declared.replies.Reply.TheVariants.{EditRefused, Refused};
 ghost use Rattle.query_proto.specs.declared.replies.Reply.TheVariants as reply;
-ghost use Rattle.query_proto.specs.Frames.{CanBeSent, HeadAtFront, IsNoReply, IsRefusalOf, IsReplyFrame, IsReplyRead, IsSpelledCost, StandsAtFront, head_bytes, moves_behind, refusal_byte, status_front};
+ghost use Rattle.query_proto.specs.Frames.{CanBeSent, HeadAtFront, IsNoReply, IsRefusalOf, IsReplyFrame, IsReplyRead};
+ghost use Rattle.query_proto.specs.Frames.{IsSpelledCost, StandsAtFront, head_bytes, moves_behind, refusal_byte};
+ghost use Rattle.query_proto.specs.Frames.{status_front};
 
 use crate::kinds::{
     ACCEPTED, BOARD, DONE, EDIT_REFUSED, MALFORMED, NO_MEMORY, NOTHING_NEW, OVERTAKEN, PATH,
     PUBLISHED, REFUSED, UNREACHABLE,
 };
-use crate::reading::{byte_at, flag_of, long_at, number_at, short_at};
+use crate::reading::{alone, byte_at, flag_of, long_at, number_at, short_at};
 use crate::writing::{byte_of_flag, put_byte, put_long, put_number, put_short};
 use crate::{HEAD_ROOM, MAX_MOVES, MAX_REPLY, Malformed};
 use byteorder::{BigEndian, ByteOrder};
@@ -152,18 +154,6 @@ fn reply_in(frame: &[u8]) -> Option<Reply>
         NO_MEMORY => alone(frame, Reply::NoMemory),
         _ => None,
     }
-}
-
-/// The reply that is spelled by its kind alone.
-fn alone(frame: &[u8], reply: Reply) -> Option<Reply>
-    requires { 0 < length frame.now }
-    ensures some { IfSome result (λ found. (found ≡ reply) × (length frame.now ≡ 1)) }
-    ensures none { IfNone result (length frame.now ≢ 1) }
-{
-    if frame.len() != 1 {
-        return None;
-    }
-    Some(reply)
 }
 
 /// The number that is all behind the kind of a frame.
@@ -317,9 +307,9 @@ fn malformed_in(frame: &[u8]) -> Option<Reply>
     Some(Reply::Malformed { kind, length })
 }
 
-/// Writes a reply as it is sent, without the moves of a path, to the front of `room`: the length of its frame, which counts
-/// the moves, and the frame's bytes before them. It says how many bytes that are. The others stay as they are. It takes no
-/// memory.
+/// Writes a reply as it is sent, without the moves of a path, to the front of `room`: the length of its frame, which
+/// counts the moves, and the frame's bytes before them. It says how many bytes that are. The others stay as they are.
+/// It takes no memory.
 pub fn reply_head(reply: &Reply, room: &mut [u8; HEAD_ROOM]) -> usize
     requires { CanBeSent reply.now }
     ensures { HeadAtFront reply.now room.old room.new result }
@@ -396,7 +386,8 @@ fn put_one(out: &mut [u8], kind: u8, number: u32) -> usize
 /// Writes a kind and three numbers.
 fn put_three(out: &mut [u8], kind: u8, first: u32, second: u32, third: u32) -> usize
     requires { 13 ≤ length out.old }
-    ensures front { StandsAtFront (kind ∷ big_bytes 4 first ++ big_bytes 4 second ++ big_bytes 4 third) out.old out.new result }
+    ensures front { StandsAtFront
+        (kind ∷ big_bytes 4 first ++ big_bytes 4 second ++ big_bytes 4 third) out.old out.new result }
     ensures limit { result ≡ 13 }
     ensures len { length out.new ≡ length out.old }
 {

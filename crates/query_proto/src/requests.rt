@@ -2,10 +2,11 @@
 
 ghost use Rattle.std.specs.Prelude.{◌≡◌, ◌≢◌, ◌<◌, ◌≤◌, [], ◌∷◌, ◌++◌, length, slice_index, IfErr, IfOk, IfNone, IfSome};
 ghost use Rattle.edit_log.specs.Edits.{changes_of};
-ghost use Rattle.query_proto.specs.Frames.{FrameAtFront, IsNoRequest, IsRequestFrame, IsRequestRead, RequestAtFront, StandsAtFront, cell_bytes, change_bytes};
+ghost use Rattle.query_proto.specs.Frames.{FrameAtFront, IsNoRequest, IsRequestFrame, IsRequestRead, RequestAtFront};
+ghost use Rattle.query_proto.specs.Frames.{StandsAtFront, cell_bytes, change_bytes};
 
 use crate::kinds::{BUILD, BYE, CHANGE, QUERY, STATUS, STOP};
-use crate::reading::{byte_at, cell_at, flag_of};
+use crate::reading::{alone, byte_at, cell_at, flag_of};
 use crate::writing::{byte_of_flag, put_byte, put_cell};
 use crate::{HEAD_ROOM, MAX_REQUEST, Malformed};
 use byteorder::{BigEndian, ByteOrder};
@@ -93,18 +94,6 @@ fn change_in(frame: &[u8]) -> Option<Request>
     let byte = byte_at(frame, 5);
     let passable = flag_of(byte)?;
     Some(Request::Change(Edit::one(CellChange { cell, passable })))
-}
-
-/// The request that is spelled by its kind alone.
-fn alone(frame: &[u8], request: Request) -> Option<Request>
-    requires { 0 < length frame.now }
-    ensures some { IfSome result (λ found. (found ≡ request) × (length frame.now ≡ 1)) }
-    ensures none { IfNone result (length frame.now ≢ 1) }
-{
-    if frame.len() != 1 {
-        return None;
-    }
-    Some(request)
 }
 
 /// Writes a request as it is sent, its length and its frame, to the front of `room`, and says how many bytes that are.
