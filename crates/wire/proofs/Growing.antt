@@ -25,7 +25,9 @@ appends_joined (Some x) (Some y) None first second p q = q
 appends_joined (Some x) (Some y) (Some z) first second p q = q ∙ ap (λ bytes. bytes ++ second) p ∙ append_assoc x first second
 
 -- the next part of a text follows what was put of it
-pub appends_on : (before between after : Option (List ℕ)) (text : List ℕ) (done more : ℕ) → Appends before between (take done text) → Appends between after (take more (drop done text)) → Appends before after (take (done + more) text)
+pub appends_on : (before between after : Option (List ℕ)) (text : List ℕ) (done more : ℕ)
+    → Appends before between (take done text) → Appends between after (take more (drop done text))
+    → Appends before after (take (done + more) text)
 appends_on before between after text done more p q =
     rw (take-add done more text) (appends_joined before between after _ _ p q)
 

@@ -10,7 +10,9 @@ known_none (Some bytes) = ap Some (appends_none (Some bytes))
 known_none None = refl
 
 -- the next part of a text follows what is known of it
-known_on : (known : Option (List ℕ)) (text : List ℕ) (done more : ℕ) → append_known (append_known known (take done text)) (take more (drop done text)) ≡ append_known known (take (done + more) text)
+known_on : (known : Option (List ℕ)) (text : List ℕ) (done more : ℕ)
+    → append_known (append_known known (take done text)) (take more (drop done text))
+    ≡ append_known known (take (done + more) text)
 known_on (Some bytes) text done more =
     ap Some (appends_on (Some bytes) (Some (bytes ++ take done text)) (Some (bytes ++ take done text ++ take more (drop done text))) text done more refl refl)
 known_on None text done more = refl
@@ -21,11 +23,15 @@ sent_none (Some talk) = ap (λ sent. Some (record talk { sent = sent })) (known_
 sent_none None = refl
 
 -- the next part of a text follows what was sent of it
-pub sent_on : (told between after : Option Talk) (text : List ℕ) (done more : ℕ) → between ≡ with_sent told (take done text) → after ≡ with_sent between (take more (drop done text)) → after ≡ with_sent told (take (done + more) text)
+pub sent_on : (told between after : Option Talk) (text : List ℕ) (done more : ℕ)
+    → between ≡ with_sent told (take done text) → after ≡ with_sent between (take more (drop done text))
+    → after ≡ with_sent told (take (done + more) text)
 sent_on told between after text done more first second =
     second ∙ ap (λ talk. with_sent talk (take more (drop done text))) first ∙ both told
   where
-    both : (talk : Option Talk) → with_sent (with_sent talk (take done text)) (take more (drop done text)) ≡ with_sent talk (take (done + more) text)
+    both : (talk : Option Talk)
+        → with_sent (with_sent talk (take done text)) (take more (drop done text))
+        ≡ with_sent talk (take (done + more) text)
     both (Some talk) =
         ap (λ sent. Some (record talk { sent = sent })) (known_on talk.sent text done more)
     both None = refl

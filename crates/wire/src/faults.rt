@@ -1,5 +1,5 @@
-//! Faults of the outside, and how they are counted.
-ghost use Rattle.std.specs.Prelude.{◌≡◌, ◌≤◌, ◌==◌};
+//! Faults of the outside, how they are counted, and what is planned for a call in memory.
+ghost use Rattle.std.specs.Prelude.{◌≡◌, ◌≤◌, ◌==◌, ◌-◌, ◌^◌, slice_index_or};
 ghost use Rattle.std.specs.List.{list_any};
 ghost use Rattle.wire.specs.Causes.{one_more};
 
@@ -17,6 +17,13 @@ pub(crate) fn count_fault(faults: &mut u64)
     ensures later { faults.old ≤ faults.new }
 {
     *faults = faults.saturating_add(1);
+}
+
+// The most bytes that a call gives or takes, of which so many came before it: all that fit, past the end of the cuts.
+pub(crate) fn cut_at(cuts: &[usize], calls: u64) -> usize
+    ensures { result ≡ slice_index_or cuts.now calls (2 ^ 64 - 1) }
+{
+    cuts.get(calls as usize).copied().unwrap_or(usize::MAX)
 }
 
 // Whether the call of this number is planned to fail.

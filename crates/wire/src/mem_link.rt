@@ -3,7 +3,7 @@ ghost use Rattle.std.specs.Prelude.{◌≡◌, ◌<◌, ◌≤◌, ◌++◌, ◌
 ghost use Rattle.wire.specs.SinkInMemory.{next_count, put_fails, with_piece, with_fault};
 ghost use Rattle.wire.specs.LinkInMemory.{talk_of, next_given, recv_fails, with_recv, with_read_fault, with_output};
 
-use crate::faults::{count_fault, is_planned};
+use crate::faults::{count_fault, cut_at, is_planned};
 use crate::unread::Unread;
 use crate::{Failed, Link, MemSink, Sink};
 use std::alloc::{AllocError, Global};
@@ -115,11 +115,7 @@ impl Link for MemLink {
         ensures unfilled { OnErr result (room.new ≡ room.old) }
         ensures later { self.old.faults ≤ self.new.faults }
     {
-        let most = self
-            .cuts
-            .get(self.calls as usize)
-            .copied()
-            .unwrap_or(usize::MAX);
+        let most = cut_at(&self.cuts, self.calls);
         self.calls = self.calls.saturating_add(1);
         if is_planned(&self.fails, self.calls) {
             count_fault(&mut self.faults);

@@ -1,7 +1,7 @@
 //! A sink in memory, with planned faults.
 ghost use Rattle.std.specs.Prelude.{◌≡◌, ◌≤◌, [], take, IfOk, OnErr, IsErr, IsTrue, ◌↔◌};
 
-use crate::faults::{count_fault, is_planned};
+use crate::faults::{count_fault, cut_at, is_planned};
 use crate::{Failed, Sink};
 use std::alloc::{AllocError, Global};
 use std::marker::Model;
@@ -99,11 +99,7 @@ impl Sink for MemSink {
         ensures fault { OnErr result (self.new ≡ with_fault self.old) }
         ensures later { self.old.faults ≤ self.new.faults }
     {
-        let most = self
-            .cuts
-            .get(self.calls as usize)
-            .copied()
-            .unwrap_or(usize::MAX);
+        let most = cut_at(&self.cuts, self.calls);
         let count = piece.len().min(self.room - self.bytes.len()).min(most);
         self.calls = self.calls.saturating_add(1);
         if is_planned(&self.fails, self.calls) || (count == 0 && !piece.is_empty()) {
