@@ -9,9 +9,8 @@
 # all that follow are refused too, only the last requests go unfelt, behind the last reply. Prints only where that is not
 # so.
 set -u
-here=$(cd "$(dirname "$(readlink -f "${BASH_SOURCE[0]}")")" && pwd) || exit 1
-program="$here/../crates/path_server/out/path_server"
-[ -x "$program" ] || { echo "allocs.sh: $program is not built; ./build builds it" >&2; exit 1; }
+# shellcheck source=tests/built.bash
+. "$(dirname "$(readlink -f "${BASH_SOURCE[0]}")")/built.bash" || exit 1
 command -v gcc >/dev/null || { echo "allocs.sh: skipped, there is no gcc" >&2; exit 0; }
 folder=$(mktemp -d) || exit 1
 trap 'rm -rf "$folder"' EXIT

@@ -3,9 +3,8 @@
 # is answered with, that a file of scenarios made from printed paths matches line by line, and that no number of workers
 # changes a byte. Prints a line for each that is not so. Status: 0 all are so; 1 one is not.
 set -u
-here=$(cd "$(dirname "$(readlink -f "${BASH_SOURCE[0]}")")" && pwd) || exit 1
-program="$here/../crates/path_server/out/path_server"
-[ -x "$program" ] || { echo "files.sh: $program is not built; ./build builds it" >&2; exit 1; }
+# shellcheck source=tests/built.bash
+. "$(dirname "$(readlink -f "${BASH_SOURCE[0]}")")/built.bash" || exit 1
 room=$(mktemp -d) || exit 1
 trap 'rm -rf "$room"' EXIT
 cd "$room" || exit 1

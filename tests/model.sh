@@ -2,9 +2,8 @@
 # The built program beside a plain model in Python that shares nothing with it: `path` and `check` on random maps, and
 # `replay` on random lists of events. Status: 0 no answer differs; 1 one does, and it is printed.
 set -u
-here=$(cd "$(dirname "$(readlink -f "${BASH_SOURCE[0]}")")" && pwd) || exit 1
-program="$here/../crates/path_server/out/path_server"
-[ -x "$program" ] || { echo "model.sh: $program is not built; ./build builds it" >&2; exit 1; }
+# shellcheck source=tests/built.bash
+. "$(dirname "$(readlink -f "${BASH_SOURCE[0]}")")/built.bash" || exit 1
 export PYTHONDONTWRITEBYTECODE=1
 status=0
 python3 "$here/paths.py" --maps 200 || status=1

@@ -3,20 +3,16 @@
 # side, each request and each printed answer of `ask`, peers that lie or hang up, a port that is taken, and a server that
 # is started again at once. Prints only where something is not as it should be.
 set -u
-here=$(cd "$(dirname "$(readlink -f "${BASH_SOURCE[0]}")")" && pwd) || exit 1
-program="$here/../crates/path_server/out/path_server"
-[ -x "$program" ] || { echo "serve.sh: $program is not built; ./build builds it" >&2; exit 1; }
+# shellcheck source=tests/built.bash
+. "$(dirname "$(readlink -f "${BASH_SOURCE[0]}")")/built.bash" || exit 1
+export PYTHONPATH="$here" PYTHONDONTWRITEBYTECODE=1
 exec python3 - "$program" "$here/maps/row.map" <<'END'
 import os, random, socket, struct, subprocess, sys, tempfile, threading, time
 
-program, row = sys.argv[1:]
-failed = 0
+from judging import Judge
 
-def judge(what, found, wanted):
-    global failed
-    if found != wanted:
-        failed = 1
-        print(f"serve.sh: {what}\n  wanted: {wanted}\n  found:  {found}", file=sys.stderr)
+program, row = sys.argv[1:]
+judge = Judge("serve.sh")
 
 def free_port():
     """A port at which nobody listens."""
@@ -166,5 +162,5 @@ for name, data in (("too long", "0000800D"), ("half a frame", "0000000582000000"
                    ("half a length", "0000"), ("no reply", "0000000101"), ("a request", "000104")):
     judge(f"a peer that sends {name}", answer_of(bytes.fromhex(data)), BAD)
 judge("a peer that answers", answer_of(bytes.fromhex(UNREACHABLE))[0::2], ("version 0\nunreachable\n", 0))
-sys.exit(failed)
+sys.exit(judge.failed)
 END

@@ -6,9 +6,8 @@
 # standard error behind '! '. Lines that begin with '#' are comments. Words are cut at spaces; '' is the empty word, and
 # \377 a byte that is no text.
 set -u
-here=$(cd "$(dirname "$(readlink -f "${BASH_SOURCE[0]}")")" && pwd) || exit 1
-program="$here/../crates/path_server/out/path_server"
-[ -x "$program" ] || { echo "stderr.sh: $program is not built; ./build builds it" >&2; exit 1; }
+# shellcheck source=tests/built.bash
+. "$(dirname "$(readlink -f "${BASH_SOURCE[0]}")")/built.bash" || exit 1
 cd "$here/maps" || exit 1
 mkdir -p folder
 scratch=$(mktemp -d) || exit 1

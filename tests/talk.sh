@@ -3,20 +3,16 @@
 # inside a frame or with a length that no frame has, and random bytes come in. Prints only where something is not as it
 # should be.
 set -u
-here=$(cd "$(dirname "$(readlink -f "${BASH_SOURCE[0]}")")" && pwd) || exit 1
-program="$here/../crates/path_server/out/path_server"
-[ -x "$program" ] || { echo "talk.sh: $program is not built; ./build builds it" >&2; exit 1; }
+# shellcheck source=tests/built.bash
+. "$(dirname "$(readlink -f "${BASH_SOURCE[0]}")")/built.bash" || exit 1
+export PYTHONPATH="$here" PYTHONDONTWRITEBYTECODE=1
 exec python3 - "$program" "$here/maps/row.map" <<'END'
 import os, random, select, struct, subprocess, sys, time
 
-program, row = sys.argv[1:]
-failed = 0
+from judging import Judge
 
-def judge(what, found, wanted):
-    global failed
-    if found != wanted:
-        failed = 1
-        print(f"talk.sh: {what}\n  wanted: {wanted}\n  found:  {found}", file=sys.stderr)
+program, row = sys.argv[1:]
+judge = Judge("talk.sh")
 
 def start(*words):
     return subprocess.Popen([program, "talk", *words], stdin=subprocess.PIPE, stdout=subprocess.PIPE,
@@ -102,5 +98,5 @@ while time.monotonic() < end:
         judge("the kind of a reply", 0x81 <= kind <= 0x8C, True)
         at += 4 + struct.unpack_from(">I", sent, at)[0]
     judge("whole replies", at, len(sent))
-sys.exit(failed)
+sys.exit(judge.failed)
 END
