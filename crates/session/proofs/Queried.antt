@@ -32,7 +32,7 @@ no_walk version told none =
     subst (λ p. MatchOption p (no_moves ≡ []) (λ at. IsWalk version.map version.comps at.start at.goal no_moves)) (sym none) refl
 
 -- a reply that is no path
-pub told_alone : (place : Place) (asked : Request) (old new : Standing) (version : Versioned) (told : Reply) (answered : Answered)
+told_alone : (place : Place) (asked : Request) (old new : Standing) (version : Versioned) (told : Reply) (answered : Answered)
     → answered.reply ≡ told → answered.path ≡ None → ends_of asked told ≡ None → ServesRequest place asked old told [] new
     → Answers place asked old version answered new
 told_alone place asked old new version told answered is none no_ends serves = record {
@@ -41,6 +41,14 @@ told_alone place asked old new version told answered is none no_ends serves = re
   path = none ∙ sym (ap (ends_of asked) is ∙ no_ends);
   walk = no_walk version answered.path none;
 }
+
+-- the same, for what the request was found to be
+pub told_for : (place : Place) (asked found : Request) (old new : Standing) (version : Versioned) (told : Reply) (answered : Answered)
+    → asked ≡ found → answered.reply ≡ told → answered.path ≡ None → ends_of found told ≡ None → ServesRequest place found old told [] new
+    → Answers place asked old version answered new
+told_for place asked found old new version told answered same is none no_ends serves =
+    subst (λ a. Answers place a old version answered new) (sym same)
+    (told_alone place found old new version told answered is none no_ends serves)
 
 -- a cost that was measured is that of the walk, which is the answer
 pub path_answered : (version : Versioned) (start goal : Cell) (cost : Cost) → IsVersion version → AreEnds version.map start goal

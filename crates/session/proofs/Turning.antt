@@ -11,7 +11,7 @@ use Rattle.session.specs.declared.sessions.SessionFault.{SessionFault}
 use Rattle.session.specs.declared.sessions.SessionFault.TheVariants as fault
 use Rattle.session.specs.Conversations.{Exchange}
 use Rattle.session.specs.Standing.{Place, Standing}
-use Rattle.session.specs.Turns.{Exchanges, HoldsFrame, HoldsMore, Steps, StepsOver, StepsUnsent, StopsSo, TellsBack}
+use Rattle.session.specs.Turns.{Exchanges, HoldsFrame, HoldsMore, IsNext, Steps, StepsOver, StepsUnsent, StopsSo, TellsBack}
 
 -- a frame behind its length, and what is behind it
 frame_cut : (held : List ℕ) (size : ℕ) → take 2 held ≡ big_bytes 2 size → 2 + size ≤ length held
@@ -46,7 +46,7 @@ module _ (place : Place) (ahead : Bool) (old : Standing) (before mid : Option Ta
       let long : 1 ≡ size = sym (ap (λ (l : List ℕ). length l) one) ∙ ap (λ (l : List ℕ). length l) is ∙ frame_long in
       drop_all (2 + size) now (f.alone (sym long))
 
-  pub steps_over : (end : Option Ended) (new : Standing) (after : Option Talk) (left : List ℕ) → TellsBack place (take size (drop 2 now)) old mid (Ok end) new after
+  steps_over : (end : Option Ended) (new : Standing) (after : Option Talk) (left : List ℕ) → TellsBack place (take size (drop 2 now)) old mid (Ok end) new after
       → left ≡ drop (2 + size) now → Steps place ahead old before held (Ok end) new after left
   steps_over None new after left t e = subst (StepsOver place ahead old before held None new after) (sym e) (record {
     exchange = t.exchange;
@@ -78,7 +78,7 @@ module _ (place : Place) (ahead : Bool) (old : Standing) (before mid : Option Ta
   steps_over (Some ended.Quiet) new after left t e = absurd t.sends.0
   steps_over (Some ended.Spent) new after left t e = absurd t.sends.0
 
-  pub steps_unsent : (why : Failed) (new : Standing) (after : Option Talk) (left : List ℕ) → TellsBack place (take size (drop 2 now)) old mid (Err why) new after
+  steps_unsent : (why : Failed) (new : Standing) (after : Option Talk) (left : List ℕ) → TellsBack place (take size (drop 2 now)) old mid (Err why) new after
       → left ≡ drop (2 + size) now → Steps place ahead old before held (Err fault.WriteFault) new after left
   steps_unsent why new after left t e = subst (StepsUnsent place old before held new after) (sym e) (record {
     exchange = t.exchange;
@@ -87,6 +87,24 @@ module _ (place : Place) (ahead : Bool) (old : Standing) (before mid : Option Ta
     unsent = t.sends;
     begun = let most = f.most in let behind = length-drop (2 + size) now in omega arith;
   })
+
+-- the same, as the code has them: the frame that was found, and its bytes
+module _ (place : Place) (ahead : Bool) (old : Standing) (before mid : Option Talk) (held now : List ℕ) (found : Option ℕ) (size : ℕ) (frame : List ℕ)
+    (p : HoldsMore before mid held now) (next : IsNext ahead now mid (Ok found)) (is : found ≡ Some size) (same : frame ≡ take size (drop 2 now)) where
+  holds : HoldsFrame ahead now size
+  holds = subst (λ o. IsNext ahead now mid (Ok o)) is next
+
+  pub over_at : (end : Option Ended) (new : Standing) (after : Option Talk) (left : List ℕ) → TellsBack place frame old mid (Ok end) new after
+      → left ≡ drop (2 + size) now → Steps place ahead old before held (Ok end) new after left
+  over_at end new after left t e =
+      steps_over place ahead old before mid held now size p holds end new after left
+      (subst (λ bytes. TellsBack place bytes old mid (Ok end) new after) same t) e
+
+  pub unsent_at : (why : Failed) (new : Standing) (after : Option Talk) (left : List ℕ) → TellsBack place frame old mid (Err why) new after
+      → left ≡ drop (2 + size) now → Steps place ahead old before held (Err fault.WriteFault) new after left
+  unsent_at why new after left t e =
+      steps_unsent place ahead old before mid held now size p holds why new after left
+      (subst (λ bytes. TellsBack place bytes old mid (Err why) new after) same t) e
 
 -- no frame came
 pub steps_not : (place : Place) (ahead : Bool) (old : Standing) (before after : Option Talk) (held now : List ℕ) (why : SessionFault) → HoldsMore before after held now

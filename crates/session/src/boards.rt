@@ -52,9 +52,9 @@ struct Parted<D: Door> {
     failed: bool,
 }
 
-/// Serves a board at its doors, side by side, each by a pass of its own, and builds at each ring of the ear, by one pass more.
-/// It ends when the loops at all doors have ended: the bell is shut then, and the builder ends. All memory but that of edits,
-/// builds and halts is taken before the first knock.
+/// Serves a board at its doors, side by side, each by a pass of its own, and builds at each ring of the ear, by one
+/// pass more. It ends when the loops at all doors have ended: the bell is shut then, and the builder ends. All memory
+/// but that of edits, builds and halts is taken before the first knock.
 ///
 /// # Errors
 ///

@@ -52,7 +52,8 @@ fn worker_at<'a, D: Door, B: Bell>(
     }
 }
 
-/// Makes a worker for each door, that of the last door first. The doors and passes leave their lists, whose memory stays.
+/// Makes a worker for each door, that of the last door first. The doors and passes leave their lists, whose memory
+/// stays.
 pub(crate) fn hire<'a, D: Door, B: Bell>(
     board: &'a SharedBoard,
     bell: &'a B,

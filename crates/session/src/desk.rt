@@ -74,12 +74,13 @@ pub trait Desk {
         ensures job { IfOk result (IsJobAt (place self.old) (seen self.new) known) }
         ensures some { OnErr result (known ≢ accepted_count (seen self.new)) };
 
-    /// Publishes a version, and gives its prefix. The version that is held then is that one, or still the one from before.
+    /// Publishes a version, and gives its prefix. The version that is held then is that one, or still the one from
+    /// before.
     ///
     /// # Errors
     ///
-    /// `Overtaken` where the published version comes after as many edits or more, and else want of memory where the board's
-    /// room is used up.
+    /// `Overtaken` where the published version comes after as many edits or more, and else want of memory where the
+    /// board's room is used up.
     fn publish<R: Wait>(&mut self, rt: &R, next: Arc<Version>) -> Result<u32, PublishError>
         requires may { MayBePublished (place self.old).start (place self.old).order (seen self.old)
             (arc_value next) }

@@ -29,8 +29,8 @@ pub enum DoorEnded {
     Failed,
 }
 
-/// Serves the connections that come to a door, one after the other, until the board halts, nobody will come any more, or a
-/// knock fails. Each connection is handed back to the door, however its session ended.
+/// Serves the connections that come to a door, one after the other, until the board halts, nobody will come any more,
+/// or a knock fails. Each connection is handed back to the door, however its session ended.
 pub fn door_loop<K: Desk, D: Door, R: Threads + Wait + Sync, G: Gate>(
     rt: &R,
     alloc: Global,

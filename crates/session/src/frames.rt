@@ -50,8 +50,9 @@ impl Held {
         }
     }
 
-    /// Takes the next frame: how many bytes it has behind its length, which is held too. `None` where the input ends between
-    /// frames. Where a further frame may be taken and this one can't end the session, the next length may come with it.
+    /// Takes the next frame: how many bytes it has behind its length, which is held too. `None` where the input ends
+    /// between frames. Where a further frame may be taken and this one can't end the session, the next length may come
+    /// with it.
     ///
     /// # Errors
     ///
@@ -169,8 +170,8 @@ impl Held {
         short_in(&self.room)
     }
 
-    /// Takes what comes in until so many bytes are held that are wanted, and no more than `most`. Says whether they are: else
-    /// the input ended before.
+    /// Takes what comes in until so many bytes are held that are wanted, and no more than `most`. Says whether they
+    /// are: else the input ended before.
     ///
     /// # Errors
     ///
@@ -227,8 +228,8 @@ fn short_in(bytes: &[u8]) -> u16
     BigEndian::read_u16(bytes)
 }
 
-/// The most bytes that may be held for a frame which wants so many: those of the next length too, where a further frame may be
-/// taken and this one can't end the session.
+/// The most bytes that may be held for a frame which wants so many: those of the next length too, where a further frame
+/// may be taken and this one can't end the session.
 fn most_wanted(want: usize, ahead: bool) -> usize
     requires { want ≤ LENGTH + MAX_REQUEST }
     ensures least { want ≤ result }

@@ -4,8 +4,8 @@ ghost use Rattle.std.specs.Prelude.{◌≡◌, ◌+◌};
 use crate::{MAX_DOORS, MAX_REQUESTS};
 use turn_book::MAX_SEATS;
 
-/// How many requests a session may have, and how many doors a board. A board has a seat for the pass of each door, one for
-/// that of the builder, and one to spare.
+/// How many requests a session may have, and how many doors a board. A board has a seat for the pass of each door, one
+/// for that of the builder, and one to spare.
 pub fn limits_are_these()
     ensures requests { MAX_REQUESTS ≡ 1048576 }
     ensures doors { MAX_DOORS ≡ 64 }

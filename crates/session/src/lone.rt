@@ -9,7 +9,8 @@ use std::alloc::AllocError;
 use std::sync::{Arc, Wait};
 use versions::Version;
 
-/// A board of one's own, and the number of the pass that uses it. It holds the published version, and doesn't count its looks.
+/// A board of one's own, and the number of the pass that uses it. It holds the published version, and doesn't count its
+/// looks.
 #[derive(Drop)]
 pub struct Lone {
     /// The board.

@@ -56,8 +56,8 @@ pub enum SessionFault {
     WriteFault,
 }
 
-/// Answers the frames that come in over a link, one after the other, until one of them ends the session, the input ends, or
-/// the link fails. It takes memory for a change, a build and a stop alone.
+/// Answers the frames that come in over a link, one after the other, until one of them ends the session, the input
+/// ends, or the link fails. It takes memory for a change, a build and a stop alone.
 ///
 /// # Errors
 ///
@@ -116,7 +116,8 @@ fn serve_frames<K: Desk, L: Link, R: Threads + Wait + Sync, G: Gate>(
     Ok(Ended::Spent)
 }
 
-/// Takes the next frame and answers it. `None` where the session goes on. `ahead` says that a further frame may be taken.
+/// Takes the next frame and answers it. `None` where the session goes on. `ahead` says that a further frame may be
+/// taken.
 fn serve_next<K: Desk, L: Link, R: Threads + Wait + Sync, G: Gate>(
     rt: &R,
     alloc: Global,

@@ -18,49 +18,22 @@ loop-count-init g c =
 
 pub returns-in-Ok-Some-clause-talk : goal.returns-in-Ok-Some-clause-talk
 returns-in-Ok-Some-clause-talk g c =
-    let place = g.K.Desk.place c.args.desk.now in
-    let old = standing (g.K.Desk.seen c.args.desk.now) (g.K.Desk.version c.args.desk.now) (g.K.Desk.looks c.args.desk.now) in
-    let before = g.L.Link.talk c.args.link.now in
-    let desk = c.loop-count.desk in
-    let point = standing (g.K.Desk.seen desk) (g.K.Desk.version desk) (g.K.Desk.looks desk) in
-    let now = g.L.Link.talk c.loop-count.link in
-    let next = c.serve_next.new.desk in
-    let new = standing (g.K.Desk.seen next) (g.K.Desk.version next) (g.K.Desk.looks next) in
-    let after = g.L.Link.talk c.serve_next.new.link in
     let inv = c.loop-count.invariant in
-    talk_ends_at place old before c.loop-count.count point now c.loop-count.held inv.talk (g.K.Desk.place desk) _ c.in-Ok-Some.field-0 c.in-Ok-Some.ended new after
-    c.serve_next.new.held inv.place c.in-Ok-Some.field-0-is c.in-Ok-Some.ensures.steps c.loop-count-test.true
+    talk_ends_at _ _ _ _ _ _ _ inv.talk _ _ _ _ _ _ c.serve_next.new.held inv.place c.in-Ok-Some.field-0-is
+    c.in-Ok-Some.ensures.steps c.loop-count-test.true
 
 pub returns-in-Err-clause-talk : goal.returns-in-Err-clause-talk
 returns-in-Err-clause-talk g c =
-    let place = g.K.Desk.place c.args.desk.now in
-    let old = standing (g.K.Desk.seen c.args.desk.now) (g.K.Desk.version c.args.desk.now) (g.K.Desk.looks c.args.desk.now) in
-    let before = g.L.Link.talk c.args.link.now in
-    let desk = c.loop-count.desk in
-    let point = standing (g.K.Desk.seen desk) (g.K.Desk.version desk) (g.K.Desk.looks desk) in
-    let now = g.L.Link.talk c.loop-count.link in
-    let next = c.serve_next.new.desk in
-    let new = standing (g.K.Desk.seen next) (g.K.Desk.version next) (g.K.Desk.looks next) in
-    let after = g.L.Link.talk c.serve_next.new.link in
     let inv = c.loop-count.invariant in
-    talk_fails_at place old before c.loop-count.count point now c.loop-count.held inv.talk (g.K.Desk.place desk) (nat_lt (c.loop-count.count + 1) MAX_REQUESTS) c.in-Err.fault new after
-    c.serve_next.new.held inv.place c.in-Err.ensures.steps c.loop-count-test.true
+    talk_fails_at _ _ _ _ _ _ _ inv.talk _ (nat_lt (c.loop-count.count + 1) MAX_REQUESTS) c.in-Err.fault _ _ c.serve_next.new.held
+    inv.place c.in-Err.ensures.steps c.loop-count-test.true
 
 pub loop-count-preserved : goal.loop-count-preserved
 loop-count-preserved g c =
-    let place = g.K.Desk.place c.args.desk.now in
-    let old = standing (g.K.Desk.seen c.args.desk.now) (g.K.Desk.version c.args.desk.now) (g.K.Desk.looks c.args.desk.now) in
-    let before = g.L.Link.talk c.args.link.now in
-    let desk = c.loop-count.desk in
-    let point = standing (g.K.Desk.seen desk) (g.K.Desk.version desk) (g.K.Desk.looks desk) in
-    let now = g.L.Link.talk c.loop-count.link in
-    let next = c.serve_next.new.desk in
-    let new = standing (g.K.Desk.seen next) (g.K.Desk.version next) (g.K.Desk.looks next) in
-    let after = g.L.Link.talk c.serve_next.new.link in
     let inv = c.loop-count.invariant in
     record {
-      talk = talk_more_at place old before c.loop-count.count point now c.loop-count.held inv.talk (g.K.Desk.place desk) _ c.in-Ok-None.field-0 new after
-          c.serve_next.new.held inv.place c.in-Ok-None.field-0-is c.in-Ok-None.ensures.steps (λ e. no_more (c.loop-count.count + 1) e);
+      talk = talk_more_at _ _ _ _ _ _ _ inv.talk _ _ _ _ _ c.serve_next.new.held inv.place c.in-Ok-None.field-0-is
+          c.in-Ok-None.ensures.steps (λ e. no_more (c.loop-count.count + 1) e);
       place = c.in-Ok-None.ensures.place ∙ inv.place;
       reads = omega (arith, inv.reads, c.in-Ok-None.ensures.reads);
       writes = omega (arith, inv.writes, c.in-Ok-None.ensures.writes);
@@ -68,11 +41,5 @@ loop-count-preserved g c =
 
 pub returns-clause-talk : goal.returns-clause-talk
 returns-clause-talk g c =
-    let place = g.K.Desk.place c.args.desk.now in
-    let old = standing (g.K.Desk.seen c.args.desk.now) (g.K.Desk.version c.args.desk.now) (g.K.Desk.looks c.args.desk.now) in
-    let before = g.L.Link.talk c.args.link.now in
-    let desk = c.loop-count.desk in
-    let point = standing (g.K.Desk.seen desk) (g.K.Desk.version desk) (g.K.Desk.looks desk) in
-    let now = g.L.Link.talk c.loop-count.link in
-    talk_spent place old before c.loop-count.count point now c.loop-count.held c.loop-count.invariant.talk
+    talk_spent _ _ _ _ _ _ _ c.loop-count.invariant.talk
     (omega (arith, c.loop-count-test.false, c.loop-count.auto.count-end))
