@@ -21,8 +21,10 @@ use wire::{Failed, Link, send_all};
 /// - `NoMemory` for want of memory.
 pub fn ask<L: Link>(alloc: Global, link: &mut L, request: Request) -> Result<Heard, ClientFault>
     ensures asked { Asked request (L.talk link.old) result (L.talk link.new) }
-    ensures read_cause { IsErrOf result ClientFault.ReadFault → Rose (L.read_faults link.old) (L.read_faults link.new) }
-    ensures write_cause { IsErrOf result ClientFault.WriteFault → Rose (L.write_faults link.old) (L.write_faults link.new) }
+    ensures read_cause { IsErrOf result ClientFault.ReadFault
+        → Rose (L.read_faults link.old) (L.read_faults link.new) }
+    ensures write_cause { IsErrOf result ClientFault.WriteFault
+        → Rose (L.write_faults link.old) (L.write_faults link.new) }
     ensures read_later { L.read_faults link.old ≤ L.read_faults link.new }
     ensures write_later { L.write_faults link.old ≤ L.write_faults link.new }
 {

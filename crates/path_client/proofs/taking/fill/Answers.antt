@@ -13,11 +13,15 @@ returns-in_err-count-clause-part g c =
     c.in_err-count.ensures.none)
 
 pub loop-count-preserved : goal.loop-count-preserved
-loop-count-preserved g c = record {
-  within = omega (arith, c.in_ok-count.ensures.count);
-  takes = subst (λ l. Takes (g.L.Link.talk c.args.link.now) (g.L.Link.talk c.take_some.new.link) l)
-      (sym (filled c.loop-count.room c.take_some.new.room c.loop-count.count (length c.loop-count.room - c.loop-count.count) c.in_ok-count.field-0 (omega arith) (omega (arith, c.in_ok-count.ensures.count))))
-      (takes_more _ _ _ _ _ c.loop-count.invariant.takes c.in_ok-count.ensures.taken);
-  later = omega (arith, c.in_ok-count.ensures.later);
-  other = search rules;
-}
+loop-count-preserved g c =
+    let room = c.loop-count.room in
+    let count = c.loop-count.count in
+    record {
+      within = omega (arith, c.in_ok-count.ensures.count);
+      takes = subst (λ l. Takes (g.L.Link.talk c.args.link.now) (g.L.Link.talk c.take_some.new.link) l)
+          (sym (filled room c.take_some.new.room count (length room - count) c.in_ok-count.field-0 (omega arith)
+          (omega (arith, c.in_ok-count.ensures.count))))
+          (takes_more _ _ _ _ _ c.loop-count.invariant.takes c.in_ok-count.ensures.taken);
+      later = omega (arith, c.in_ok-count.ensures.later);
+      other = search rules;
+    }
