@@ -56,7 +56,9 @@ first_of_dash x xs c dash first = one_some c x (sym first ∙ first_char x xs (o
 abbrev HasNoShort : List Rule → Type 0
 HasNoShort rules = (x : ℕ) → arg_by_short rules x ≡ None
 
-bundle_refused : (rules : List Rule) (again : Bool) (x : ℕ) (xs : Text) (c : ℕ) (h : Held) → slice_get (chars (x ∷ xs)) 0 ≡ Some c → HasNoShort rules → h.skip ≡ 0 → bundle_fault rules again (x ∷ xs) h ≡ UnknownArgument ∷ []
+bundle_refused : (rules : List Rule) (again : Bool) (x : ℕ) (xs : Text) (c : ℕ) (h : Held)
+    → slice_get (chars (x ∷ xs)) 0 ≡ Some c → HasNoShort rules → h.skip ≡ 0
+    → bundle_fault rules again (x ∷ xs) h ≡ UnknownArgument ∷ []
 unfolding flags_fault
 bundle_refused rules again x xs c h first none start =
     ap₂ (λ c n. bundle_step_fault rules again c (x ∷ xs) n (record h { skip = 0 }) (flags_fault rules again (length xs))) first start
@@ -67,7 +69,9 @@ short_refused : (s : Shape) (x : ℕ) (xs : Text) (c position : ℕ) (h : Held) 
     → turn_fault s [] (walk_at h position) (45 ∷ x ∷ xs) ≡ UnknownArgument ∷ []
 short_refused s x xs c position h first other none start =
     let word = 45 ∷ x ∷ xs in
-    let found : word_fault s [] false idle word h ≡ UnknownArgument ∷ [] = rw (not_dashes x xs other, not_long x xs other, is_short x xs other) (bundle_refused s.rules s.args_override_self x xs c h first none start) in
+    let found : word_fault s [] false idle word h ≡ UnknownArgument ∷ [] =
+    rw (not_dashes x xs other, not_long x xs other, is_short x xs other)
+    (bundle_refused s.rules s.args_override_self x xs c h first none start) in
     let met = word_met s.rules [] false idle position word h in
     ap (λ kinds. or_else kinds (step_fault s position met.0 met.1)) found
 
@@ -75,7 +79,9 @@ short_refused s x xs c position h first other none start =
 abbrev HasTwoLong : List Rule → Type 0
 HasTwoLong rules = (name : Text) → IsUnknown name → arg_by_long rules name ≡ None
 
-long_refused : (s : Shape) (x : ℕ) (xs : Text) (position : ℕ) (h : Held) → HasTwoLong s.rules → IsUnknown (name_and_value (x ∷ xs)).0 → turn_fault s [] (walk_at h position) (45 ∷ 45 ∷ x ∷ xs) ≡ UnknownArgument ∷ []
+long_refused : (s : Shape) (x : ℕ) (xs : Text) (position : ℕ) (h : Held)
+    → HasTwoLong s.rules → IsUnknown (name_and_value (x ∷ xs)).0
+    → turn_fault s [] (walk_at h position) (45 ∷ 45 ∷ x ∷ xs) ≡ UnknownArgument ∷ []
 long_refused s x xs position h none unknown =
     let word = 45 ∷ 45 ∷ x ∷ xs in
     let found : word_fault s [] false idle word h ≡ UnknownArgument ∷ [] = rw (none (name_and_value (x ∷ xs)).0 unknown) refl in
@@ -124,11 +130,23 @@ path_fault (a ∷ []) after word plain option =
 path_fault (a ∷ b ∷ []) after word plain option =
     fault-1 a (b ∷ word ∷ after) plain.0 ∙ fault-2 a b (word ∷ after) plain.1.0 ∙ path_option word after 3 (walk-2 a b).held refl option
 path_fault (a ∷ b ∷ c ∷ []) after word plain option =
-    fault-1 a (b ∷ c ∷ word ∷ after) plain.0 ∙ fault-2 a b (c ∷ word ∷ after) plain.1.0 ∙ fault-3 a b c (word ∷ after) plain.1.1.0 ∙ path_option word after 4 (walk-3 a b c).held refl option
+    fault-1 a (b ∷ c ∷ word ∷ after) plain.0
+    ∙ fault-2 a b (c ∷ word ∷ after) plain.1.0
+    ∙ fault-3 a b c (word ∷ after) plain.1.1.0
+    ∙ path_option word after 4 (walk-3 a b c).held refl option
 path_fault (a ∷ b ∷ c ∷ d ∷ []) after word plain option =
-    fault-1 a (b ∷ c ∷ d ∷ word ∷ after) plain.0 ∙ fault-2 a b (c ∷ d ∷ word ∷ after) plain.1.0 ∙ fault-3 a b c (d ∷ word ∷ after) plain.1.1.0 ∙ fault-4 a b c d (word ∷ after) plain.1.1.1.0 ∙ path_option word after 5 (walk-4 a b c d).held refl option
+    fault-1 a (b ∷ c ∷ d ∷ word ∷ after) plain.0
+    ∙ fault-2 a b (c ∷ d ∷ word ∷ after) plain.1.0
+    ∙ fault-3 a b c (d ∷ word ∷ after) plain.1.1.0
+    ∙ fault-4 a b c d (word ∷ after) plain.1.1.1.0
+    ∙ path_option word after 5 (walk-4 a b c d).held refl option
 path_fault (a ∷ b ∷ c ∷ d ∷ e ∷ []) after word plain option =
-    fault-1 a (b ∷ c ∷ d ∷ e ∷ word ∷ after) plain.0 ∙ fault-2 a b (c ∷ d ∷ e ∷ word ∷ after) plain.1.0 ∙ fault-3 a b c (d ∷ e ∷ word ∷ after) plain.1.1.0 ∙ fault-4 a b c d (e ∷ word ∷ after) plain.1.1.1.0 ∙ fault-5 a b c d e (word ∷ after) plain.1.1.1.1.0 ∙ path_option word after 6 (walk-5 a b c d e).held refl option
+    fault-1 a (b ∷ c ∷ d ∷ e ∷ word ∷ after) plain.0
+    ∙ fault-2 a b (c ∷ d ∷ e ∷ word ∷ after) plain.1.0
+    ∙ fault-3 a b c (d ∷ e ∷ word ∷ after) plain.1.1.0
+    ∙ fault-4 a b c d (e ∷ word ∷ after) plain.1.1.1.0
+    ∙ fault-5 a b c d e (word ∷ after) plain.1.1.1.1.0
+    ∙ path_option word after 6 (walk-5 a b c d e).held refl option
 path_fault (a ∷ b ∷ c ∷ d ∷ e ∷ f ∷ rest) after word plain option =
     path_stray a b c d e f (rest ++ word ∷ after) plain.0 plain.1.0 plain.1.1.0 plain.1.1.1.0 plain.1.1.1.1.0 plain.1.1.1.1.1.0
 

@@ -205,7 +205,8 @@ unfolding defaults_fault walk_fault
 found-5 a b c d e p q r s t = faults_are path_built (a ∷ b ∷ c ∷ d ∷ e ∷ []) (walk-5 a b c d e) (end-5 a b c d e p q r s t)
     ∙ ap (λ kinds. or_else kinds []) (fault-1 a (b ∷ c ∷ d ∷ e ∷ []) p ∙ fault-2 a b (c ∷ d ∷ e ∷ []) q ∙ fault-3 a b c (d ∷ e ∷ []) r ∙ fault-4 a b c d (e ∷ []) s ∙ fault-5 a b c d e [] t)
 
-path_rows : (a b c d e : Text) → IsPlain a → IsPlain b → IsPlain c → IsPlain d → IsPlain e → matches_of (app_for Path) (codes "path" ∷ a ∷ b ∷ c ∷ d ∷ e ∷ []) ≡ finished top.rules (walk-5 a b c d e).held
+path_rows : (a b c d e : Text) → IsPlain a → IsPlain b → IsPlain c → IsPlain d → IsPlain e
+    → matches_of (app_for Path) (codes "path" ∷ a ∷ b ∷ c ∷ d ∷ e ∷ []) ≡ finished top.rules (walk-5 a b c d e).held
 unfolding app_for command_app
 path_rows a b c d e p q r s t = ap (λ (w : Walk). finished top.rules w.held) (end-5 a b c d e p q r s t)
 

@@ -1,10 +1,10 @@
 -- A board that is served at the doors of a house, what is put of it, and how it ends.
-use Rattle.std.specs.Prelude.{◌≡◌, ◌⊎◌, ℕ, ◌+◌, ◌<◌, Bool, true, false, List, [], ◌∷◌, ◌++◌, All, codes, cond, length, Option}
+use Rattle.std.specs.Prelude.{◌≡◌, ◌⊎◌, ℕ, ◌+◌, ◌<◌, ◌≤◌, Bool, true, false, List, [], ◌∷◌, ◌++◌, All, codes, cond, length, Option}
 use Rattle.std.specs.Fmt.{decimal}
 use Rattle.std.specs.Io.KnownBytes.{Appends}
 use Rattle.wire.specs.Causes.{Rose}
 use Rattle.wire.specs.Contents.{PutsPrefix}
-use Rattle.wire.specs.Houses.{Lendings, HasNoTalk, TellsPort, with_doors_back, with_doors_given}
+use Rattle.wire.specs.Houses.{HasLentDoors, Lendings, HasNoTalk, TellsPort, with_doors_back, with_doors_given}
 use Rattle.wire.specs.Talks.{EndedTalk}
 use Rattle.wire.specs.declared.house.DoorsAsked.{DoorsAsked}
 use Rattle.wire.specs.declared.house.HouseError.{HouseError}
@@ -13,6 +13,7 @@ use Rattle.path_core.specs.declared.entry.Entry.{Entry}
 use Rattle.path_core.specs.Boards.{Boarded}
 use Rattle.path_core.specs.Histories.{accepted_count, published_count, published_prefix, IsLegal}
 use Rattle.path_core.specs.Passes.{pass_of}
+use Rattle.session.specs.declared.boards.TheConstants.{MAX_DOORS}
 use Rattle.session.specs.declared.builder.BuildTotals.{BuildTotals}
 use Rattle.session.specs.ServedBoards.{AreServed, FailedSo, IsBuiltBy}
 use Rattle.path_server.specs.declared.status.Status.{Status}
@@ -23,6 +24,7 @@ use Rattle.path_server.specs.Requests.{serve}
 use Rattle.path_server.specs.Runs.{Asks, FailsByFile, IsCause, Run}
 use Rattle.path_server.specs.Talks.{IsFirstBoard}
 use Rattle.path_server.specs.Texts.{line}
+use Rattle.path_server.specs.Words.{AreWorkers}
 use Rattle.clap.specs.Walk.{Text}
 
 -- ---- the texts
@@ -130,6 +132,19 @@ pub record IsUnrung (ear : RunEar) : Type 0 where
   pub unshut : ear.over ≡ false
 
 -- ---- how a board is served at doors that are open
+
+-- what has to hold before: the board has no entries yet; of the doors, which the house lent, none is closed and none has
+-- failed; they and the workers are as many as there may be; and no bell was shut
+pub record CanBeServed (D C : Type 0) (closed : D → Bool) (faults : D → ℕ) (board : Boarded) (doors : List D)
+    (workers : ℕ) (lendings : Option (Lendings D C)) (over : Bool) : Type 0 where
+  pub unedited : board.history ≡ []
+  pub some : 0 < length doors
+  pub few : length doors ≤ MAX_DOORS
+  pub unclosed : All (λ door. closed door ≡ false) doors
+  pub no_fault : All (λ door. faults door ≡ 0) doors
+  pub lent : HasLentDoors lendings (length doors)
+  pub hands : AreWorkers workers
+  pub waiting : over ≡ false
 
 -- the board was served at these doors, and was such in the end; its last pass built at each ring until the
 -- bell was shut

@@ -1,12 +1,13 @@
 //! A board that is served at the doors of a house, beside one builder.
 
-ghost use Rattle.std.specs.Prelude.{◌≡◌, ◌≢◌, ◌<◌, ◌≤◌, ◌∷◌, [], false, All, IfErr, IfOk, IsTrue, OnOk, length, string_bytes};
+ghost use Rattle.std.specs.Prelude.{◌≡◌, ◌≢◌, ◌<◌, ◌≤◌, ◌∷◌, [], false, IfErr, IfOk, IsTrue, OnOk, string_bytes};
 ghost use Rattle.std.specs.Io.KnownBytes.{Appends};
 ghost use Rattle.wire.specs.Causes.{Rose};
 ghost use Rattle.wire.specs.Houses.{HasLentDoors};
 ghost use Rattle.session.specs.declared.boards.TheConstants.{MAX_DOORS};
 ghost use Rattle.path_server.specs.declared.status.Status.{Status};
-ghost use Rattle.path_server.specs.Serving.{EndsAt, EndsBegun, FailsToBegin, Puts, PutsCause, PutsClosing, PutsLine, ServeEnds};
+ghost use Rattle.path_server.specs.Serving.{CanBeServed, EndsAt, EndsBegun, FailsToBegin, Puts, PutsCause, PutsClosing};
+ghost use Rattle.path_server.specs.Serving.{PutsLine, ServeEnds};
 ghost use Rattle.path_server.specs.Serving.{closing_text, doors_over, ear_over, history_text, serving_text};
 ghost use Rattle.path_server.specs.Words.{AreWorkers};
 
@@ -22,8 +23,8 @@ use std::sync::Wait;
 use std::thread::Threads;
 use wire::{Bell, DoorsAsked, Ear, House, Sink, put_all};
 
-/// Serves a board at doors of the house, side by side, and builds its versions beside them. What is put is a line before
-/// the first knock, and lines that tell the board's history when all is over. The doors are handed back by then.
+/// Serves a board at doors of the house, side by side, and builds its versions beside them. What is put is a line
+/// before the first knock, and lines that tell the board's history when all is over. The doors are handed back by then.
 ///
 /// # Errors
 ///
@@ -84,14 +85,8 @@ fn serve_at<H: House, O: Sink, B: Bell, E: Ear, G: Gate, R: Threads + Wait + Syn
     ear: &mut E,
     gate: &G,
 ) -> Status
-    requires some { 0 < length doors.items }
-    requires few { length doors.items ≤ MAX_DOORS }
-    requires open { All (λ door. H.Door.closed door ≡ false) doors.items }
-    requires no_fault { All (λ door. H.Door.faults door ≡ 0) doors.items }
-    requires workers { AreWorkers workers }
-    requires unedited { board.history ≡ [] }
-    requires lent { HasLentDoors (H.lent house.old) (length doors.items) }
-    requires waiting { E.over ear.old ≡ false }
+    requires { CanBeServed H.Door H.Conn H.Door.closed H.Door.faults board doors.items workers
+        (H.lent house.old) (E.over ear.old) }
     ensures ends { EndsAt H.Door H.Conn
         (doors_over H.Door.talks H.Door.closed H.Door.faults H.Door.port H.lent H.door_faults
         house.old house.new)
@@ -129,14 +124,8 @@ fn serve_begun<H: House, O: Sink, B: Bell, E: Ear, G: Gate, R: Threads + Wait + 
     ear: &mut E,
     gate: &G,
 ) -> Status
-    requires some { 0 < length doors.items }
-    requires few { length doors.items ≤ MAX_DOORS }
-    requires open { All (λ door. H.Door.closed door ≡ false) doors.items }
-    requires no_fault { All (λ door. H.Door.faults door ≡ 0) doors.items }
-    requires workers { AreWorkers workers }
-    requires unedited { board.history ≡ [] }
-    requires lent { HasLentDoors (H.lent house.old) (length doors.items) }
-    requires waiting { E.over ear.old ≡ false }
+    requires { CanBeServed H.Door H.Conn H.Door.closed H.Door.faults board doors.items workers
+        (H.lent house.old) (E.over ear.old) }
     ensures ends { EndsBegun H.Door H.Conn
         (doors_over H.Door.talks H.Door.closed H.Door.faults H.Door.port H.lent H.door_faults
         house.old house.new)

@@ -7,7 +7,9 @@ use Rattle.path_server.proofs.CommandLemmas.{bare_command, next_command}
 use Rattle.path_server.proofs.commands.command.Goals as goal
 
 pub loop-field-init : goal.loop-field-init
-loop-field-init c = bare_command c.new.result c.disable_help_flag.result c.disable_version_flag-command.result (verb_name c.args.verb) (c.new.ensures.app ∙ ap new_app c.name-name.ensures) c.disable_help_flag.ensures c.disable_version_flag-command.ensures
+loop-field-init c =
+    bare_command c.new.result c.disable_help_flag.result c.disable_version_flag-command.result (verb_name c.args.verb)
+    (c.new.ensures.app ∙ ap new_app c.name-name.ensures) c.disable_help_flag.ensures c.disable_version_flag-command.ensures
 
 pub loop-field-preserved : goal.loop-field-preserved
 loop-field-preserved c =
