@@ -1,6 +1,6 @@
 //! Rows of runs in one list of words, each found again by where it starts and how many words it has.
 
-ghost use Rattle.std.specs.Prelude.{◌≡◌, ◌+◌, ◌*◌, ◌^◌, ◌<◌, ◌≤◌, [], ◌∷◌, ◌++◌, map, take, length, replicate, sum_by, All, IfOk, OnOk, OnErr};
+ghost use Rattle.std.specs.Prelude.{◌≡◌, ◌+◌, ◌*◌, ◌^◌, ◌<◌, ◌≤◌, [], ◌∷◌, ◌++◌, map, take, length, replicate, slice_set, sum_by, All, IfOk, OnOk, OnErr};
 ghost use Rattle.run_pack.specs.Runs.{ArePackable, word_of, run_of_word};
 ghost use Rattle.row_store.specs.Rows.{row_at};
 ghost use Rattle.row_store.specs.Pools.{CanBeKept, PushesPacked, PutsPacked};
@@ -117,6 +117,25 @@ impl RowPool {
         let start = self.words.len();
         append_words(&mut self.words, sets)?;
         self.spans[place] = span_from(start, self.words.len());
+        Ok(())
+    }
+
+    /// Puts a row that is kept as words in the place of a row without runs.
+    ///
+    /// # Errors
+    ///
+    /// `AllocError` where memory runs out. The pool is as before then.
+    pub fn put_words(&mut self, place: usize, words: &[u32]) -> Result<(), AllocError>
+        requires place { place < length self.old }
+        requires empty { row_at self.old place ≡ [] }
+        requires few { length words.now ≤ MAX_PLACES }
+        ensures ok { OnOk result (self.new ≡ slice_set self.old place (map run_of_word words.now)) }
+        ensures refused { OnErr result (self.new ≡ self.old) }
+    {
+        let start = self.words.len();
+        self.words.extend_from_slice(words)?;
+        let span = span_from(start, self.words.len());
+        self.spans[place] = span;
         Ok(())
     }
 

@@ -219,6 +219,17 @@ pub fn word(run: Run) -> u32
     run.start * 8 + u32::from(run.mv)
 }
 
+/// The word of a run that starts at a place and keeps the least of these moves.
+pub fn least_word(start: u32, moves: u8) -> u32
+    requires start { start < MAX_PLACES }
+    requires some { 0 < moves }
+    ensures start { (run_of_word result).start ≡ start }
+    ensures least { IsLeastIn moves (run_of_word result).mv }
+{
+    let common = moves;
+    word(Stretch { start, common }.run())
+}
+
 /// The run that a word stands for.
 pub fn run_of(word: u32) -> Run
     ensures { result ≡ run_of_word word }
