@@ -10,3 +10,6 @@ pub mod Taking
 pub mod Exact
 pub mod First
 pub mod Rowing
+pub mod LanePacking
+pub mod Owning
+pub mod PackedRows

@@ -36,11 +36,11 @@ solved near sources keys sets waits keys' sets' waits' count more filled long st
       none = swept.last lane l ∙ start lane l;
     }
 
-pub tile_solved : (near near' : List (List ℕ)) (lanes : List ℕ) (count : ℕ) (sources : List ℕ) (keys sets keys' sets' : List (List ℕ)) → near' ≡ near → keys' ≡ keys → sets' ≡ sets
+pub tile_solved : (near near' : List (List ℕ)) (lanes : List ℕ) (count : ℕ) (sources : List ℕ) (keys sets keys' sets' words : List (List ℕ)) → near' ≡ near → keys' ≡ keys → sets' ≡ sets
     → ((lane : ℕ) → lane < 16 → slice_index lanes lane ≡ slice_index sources lane)
     → ((lane : ℕ) → lane < 16 → AreSolved near' (slice_index lanes lane) (lane_of keys lane) (lane_of sets lane))
-    → length near ≡ count → IsSolved near (record { count = count; sources = sources; keys = keys'; sets = sets' })
-tile_solved near near' lanes count sources keys sets keys' sets' same k s at all places = record {
+    → length near ≡ count → IsSolved near (record { count = count; sources = sources; keys = keys'; sets = sets'; words = words })
+tile_solved near near' lanes count sources keys sets keys' sets' words same k s at all places = record {
   places = places;
   lanes = λ lane l.
       subst (λ xs. AreSolved near (slice_index sources lane) (lane_of xs lane) (lane_of sets' lane)) (sym k)

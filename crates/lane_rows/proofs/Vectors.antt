@@ -4,18 +4,20 @@ use Rattle.std.proofs.lemmas.List.{get_or-map, length-map}
 use Rattle.std.proofs.lemmas.Simd.{Each1-from_get_or, length-zip2, get_or-zip2, get_or-replicate, length-replicate, length-sel_l, get_or-sel_l, tops_compared, mask_l-mod, bit_mask_l}
 use Rattle.std.proofs.lemmas.Nat.Bits.{bit_at-zero}
 use lib.Lanes.{zip2, sel_l, mask_l, top, Each1}
+use mir.Syntax.{Width}
+use mir.Val.{bits, hbits}
 
 -- ---- a choice by a comparison
 
 abbrev pub mask_of : ℕ → Bool → ℕ
 mask_of all b = cond b all 0
 
-module _ (t : ℕ → ℕ → Bool) (us vs : List ℕ) (long : length us ≡ 16) (long' : length vs ≡ 16) where
+module _ (width : Width) (t : ℕ → ℕ → Bool) (us vs : List ℕ) (long : length us ≡ 16) (long' : length vs ≡ 16) where
   abbrev tests : List Bool
-  tests = map (top 31) (zip2 (λ a b. cond (t a b) (2 ^ 32 - 1) 0) us vs)
+  tests = map (top (hbits width)) (zip2 (λ a b. cond (t a b) (2 ^ bits width - 1) 0) us vs)
 
   tests_are : tests ≡ zip2 t us vs
-  tests_are = tops_compared w32 t us vs
+  tests_are = tops_compared width t us vs
 
   length_tests : length tests ≡ 16
   length_tests = ap length tests_are ∙ length-zip2 t us vs (long ∙ sym long') ∙ long
@@ -138,11 +140,11 @@ module _ (t : ℕ → ℕ → Bool) (us vs : List ℕ) (long : length us ≡ 16)
   picked = sel_l (map (top 31) (zip2 (λ a b. cond (t a b) (2 ^ 32 - 1) 0) us vs)) (replicate 16 x) (replicate 16 y)
 
   pub length_picked : length picked ≡ 16
-  length_picked = length_chosen t us vs long long' (replicate 16 x) (replicate 16 y) (length-replicate 16 x) (length-replicate 16 y)
+  length_picked = length_chosen w32 t us vs long long' (replicate 16 x) (replicate 16 y) (length-replicate 16 x) (length-replicate 16 y)
 
   pub pick_at : (i : ℕ) → i < 16 → get_or picked i 0 ≡ cond (t (get_or us i 0) (get_or vs i 0)) x y
   pick_at i l =
-      chosen t us vs long long' (replicate 16 x) (replicate 16 y) (length-replicate 16 x) (length-replicate 16 y) i l
+      chosen w32 t us vs long long' (replicate 16 x) (replicate 16 y) (length-replicate 16 x) (length-replicate 16 y) i l
       ∙ ap (λ a. cond (t (get_or us i 0) (get_or vs i 0)) a (get_or (replicate 16 y) i 0)) (get_or-replicate 16 i x 0 l)
       ∙ ap (cond (t (get_or us i 0) (get_or vs i 0)) x) (get_or-replicate 16 i y 0 l)
 

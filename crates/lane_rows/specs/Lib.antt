@@ -5,3 +5,4 @@ pub mod Visits
 pub mod Tiles
 pub mod Laws
 pub mod Rows
+pub mod Packed

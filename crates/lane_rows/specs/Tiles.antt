@@ -1,14 +1,17 @@
 -- A tile: searches from sixteen sources, one in each lane.
-use Rattle.std.specs.Prelude.{◌≡◌, ◌≢◌, ℕ, ◌+◌, ◌<◌, Bool, true, false, List, length, slice_index, slice_index_or, All, Contains}
+use Rattle.std.specs.Prelude.{◌≡◌, ◌≢◌, ℕ, ◌+◌, ◌<◌, ◌≤◌, Bool, true, false, List, length, slice_index, slice_index_or, All, Contains}
+use Rattle.run_pack.specs.declared.TheConstants.{MAX_PLACES}
 use Rattle.lane_rows.specs.Equations.{lane_of}
 use Rattle.lane_rows.specs.Visits.{AreSolved}
 
--- how many places there are, the source of each lane, and the keys and sets of each place in all lanes
+-- how many places there are, the source of each lane, the keys and sets of each place in all lanes, and the words of the
+-- rows that were packed
 pub record Tile : Type 0 where
   pub count : ℕ
   pub sources : List ℕ
   pub keys : List (List ℕ)
   pub sets : List (List ℕ)
+  pub words : List (List ℕ)
 
 -- in each lane all places meet their equations
 pub record IsSolved (near : List (List ℕ)) (tile : Tile) : Type 0 where
@@ -32,6 +35,7 @@ pub record IsRowOf (tile : Tile) (lane : ℕ) (row : List ℕ) : Type 0 where
 
 -- a row for each place and one behind the last, of keys, of sets, of who waits, and of the plain search
 pub record HasRoom (count : ℕ) (keys sets : List (List ℕ)) (waits search : List ℕ) : Type 0 where
+  pub few : count ≤ MAX_PLACES
   pub key_rows : length keys ≡ count + 1
   pub set_rows : length sets ≡ count + 1
   pub wait_rows : length waits ≡ count + 1

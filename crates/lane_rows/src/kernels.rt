@@ -80,7 +80,7 @@ pub(crate) fn has_full(set: u8x16) -> bool
 
 /// Whether a set in some lane is empty.
 #[inline(always)]
-fn has_empty(set: u8x16) -> bool
+pub(crate) fn has_empty(set: u8x16) -> bool
     ensures { IsFalse result → (lane : ℕ) → lane < 16 → slice_index set lane ≡ 0 → ⊥ }
 {
     set.simd_eq(u8x16::splat(0)).any()

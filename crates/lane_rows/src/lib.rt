@@ -11,9 +11,11 @@
 
 mod edges;
 mod kernels;
+mod lane_words;
 pub mod laws;
 mod near;
 mod order;
+mod packing;
 mod places;
 mod solve;
 mod sweeps;

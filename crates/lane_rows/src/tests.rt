@@ -1,6 +1,6 @@
 //! Tiles against a plain search on made maps, and against sets that are known.
 
-ghost use Rattle.std.specs.Prelude.{◌≡◌, ℕ, ◌<◌, ◌≤◌, IfOk, IfSome, IsTrue, false, true, length, slice_index, slice_index_or};
+ghost use Rattle.std.specs.Prelude.{◌≡◌, ℕ, ◌<◌, ◌≤◌, IfOk, IfSome, IsTrue, OnOk, false, true, length, slice_index, slice_index_or};
 ghost use Rattle.lane_rows.specs.Tables.{IsNumbered};
 
 use super::*;
@@ -185,26 +185,60 @@ fn next_wanted(wanted: &[bool]) -> Option<u16>
     None
 }
 
-/// Compares the rows of a tile's sources with those of the plain search.
+/// Compares the rows of a tile's sources with those of the plain search, as sets and as packed words.
 fn lanes_agree(
     rt: &impl Abort,
     alloc: Global,
-    tiles: &Tiles,
+    tiles: &mut Tiles,
     count: usize,
     table: &[Edges],
     row: &mut [u8],
 ) -> Result<(), AllocError>
+    requires some { 0 < tiles.old.count }
     requires lanes { count ≤ 16 }
-    requires room { length row.old ≡ tiles.now.count }
+    requires room { length row.old ≡ tiles.old.count }
     requires sources { (lane : ℕ) → lane < 16
-        → slice_index tiles.now.sources lane < tiles.now.count }
+        → slice_index tiles.old.sources lane < tiles.old.count }
+    ensures { OnOk result (tiles.new.count ≡ tiles.old.count) }
 {
     for lane in 0..count {
         tiles.sets_of(lane, row);
         let plain = plain_sets(alloc, table, usize::from(tiles.source(lane)))?;
         assert!(rt; *row == *plain.as_slice(), "the rows of lane {lane} differ");
     }
+    tiles.pack()?;
+    for lane in 0..count {
+        let plain = plain_sets(alloc, table, usize::from(tiles.source(lane)))?;
+        let words = plain_words(alloc, &plain)?;
+        assert!(rt;
+            *tiles.words(lane) == *words.as_slice(),
+            "the words of lane {lane} differ"
+        );
+    }
     Ok(())
+}
+
+/// The words of the row of these sets: each run begins where the one before can go no further, and keeps its least move.
+fn plain_words(alloc: Global, sets: &[u8]) -> Result<Vec<u32>, AllocError> {
+    let mut words = Vec::new(alloc);
+    let mut start = 0;
+    let mut common: u8 = 255;
+    for (place, set) in sets.iter().enumerate() {
+        if common & *set == 0 {
+            words.push(plain_word(start, common))?;
+            start = place;
+            common = *set;
+        }
+        common &= *set;
+    }
+    words.push(plain_word(start, common))?;
+    Ok(words)
+}
+
+/// A word with a run's start in all bits but the lowest three, and its least move in these.
+fn plain_word(start: usize, common: u8) -> u32 {
+    let start = u32::try_from(start).unwrap_or(0);
+    start.wrapping_mul(8).wrapping_add(common.trailing_zeros())
 }
 
 /// Makes the rows of all cells by tiles, and compares each with that of the plain search. It says how many tiles
@@ -235,7 +269,7 @@ fn tiles_agree(
                 unsolved = unsolved.wrapping_add(1);
             }
             assert!(rt; tiles.run(near, 64), "somebody waits");
-            lanes_agree(rt, alloc, &tiles, count, table, row.as_mut_slice())?;
+            lanes_agree(rt, alloc, &mut tiles, count, table, row.as_mut_slice())?;
         }
     }
     Ok(unsolved)

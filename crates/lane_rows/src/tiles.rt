@@ -3,14 +3,17 @@
 //! A tile takes the nearest wanted places of a component as its sources, finds keys and sets by guesses, and lets each
 //! place look at its neighbours until all meet their equations. What the equations say is then exact, whatever was guessed.
 
-ghost use Rattle.std.specs.Prelude.{◌≡◌, ℕ, ◌+◌, ◌<◌, ◌≤◌, false, true, All, IfOk, IsTrue, List, length, slice_index, slice_index_or, slice_set, take};
+ghost use Rattle.std.specs.Prelude.{◌≡◌, ◌≢◌, ℕ, ◌+◌, ◌<◌, ◌≤◌, false, true, All, IfOk, OnOk, IsTrue, List, length, slice_index, slice_index_or, slice_set, take};
 ghost use Rattle.lane_rows.specs.Rows.{HasFirstSets, HasMoves};
 ghost use Rattle.lane_rows.specs.Equations.{lane_of};
 ghost use Rattle.lane_rows.specs.Tiles.{AreTaken, IsRowOf, IsSolved, Tile};
+ghost use Rattle.lane_rows.specs.Packed.{HavePackedRows, words_in};
 
 use crate::Near;
 use crate::kernels::FULL;
+use crate::lane_words::LaneWords;
 use crate::order::{Queues, search};
+use crate::packing::pack_lanes;
 use crate::solve::{Plan, solve};
 use std::alloc::{AllocError, Global};
 use std::marker::Model;
@@ -29,6 +32,7 @@ pub struct Tiles {
     search_keys: Vec<u32>,
     queues: Queues,
     order: Vec<u16>,
+    words: LaneWords,
     count: usize,
 }
 
@@ -38,7 +42,7 @@ impl Model for Tiles {
     ghost Value = { Tile };
 
     ghost view = { λ t.
-        record { count = t.count; sources = t.sources; keys = t.keys.items; sets = t.sets.items } };
+        record { count = t.count; sources = t.sources; keys = t.keys.items; sets = t.sets.items; words = t.words } };
 
     ghost invariant = { λ t.
         HasRoom t.count t.keys.items t.sets.items t.waits.items t.search_keys.items };
@@ -58,6 +62,7 @@ impl Tiles {
             search_keys: vec![in alloc; 0; count + 1]?,
             queues: Queues::new(alloc, count)?,
             order: Vec::with_capacity(alloc, count)?,
+            words: LaneWords::new(alloc)?,
             count,
         })
     }
@@ -128,6 +133,32 @@ impl Tiles {
         self.write_row(lane, row);
     }
 
+    /// Packs the rows of all lanes, each with all moves at its source. The sets are used up by it.
+    ///
+    /// # Errors
+    ///
+    /// `AllocError` where memory runs out.
+    pub fn pack(&mut self) -> Result<(), AllocError>
+        requires some { 0 < self.old.count }
+        requires sources { (lane : ℕ) → lane < 16
+            → slice_index self.old.sources lane < self.old.count }
+        ensures count { self.new.count ≡ self.old.count }
+        ensures sources { self.new.sources ≡ self.old.sources }
+        ensures rows { OnOk result (HavePackedRows self.old self.new.words) }
+    {
+        fill_own(self.sets.as_mut_slice(), self.sources);
+        pack_lanes(&self.sets[..self.count], &mut self.words)?;
+        Ok(())
+    }
+
+    /// The words of the packed row of a lane, one a run.
+    pub fn words(&self, lane: usize) -> &[u32]
+        requires { lane < 16 }
+        ensures { result.now ≡ words_in self.now.words lane }
+    {
+        self.words.of(lane)
+    }
+
     /// Writes the sets of one lane as they stand, with all moves at the source.
     fn write_row(&self, lane: usize, row: &mut [u8])
         requires lane { lane < 16 }
@@ -190,6 +221,31 @@ fn give_up(wanted: &mut [bool], place: u16)
     ensures { wanted.new ≡ slice_set wanted.old place false }
 {
     wanted[usize::from(place)] = false;
+}
+
+/// Gives each lane's source all moves in that lane: a path without moves has any first move.
+fn fill_own(sets: &mut [u8x16], sources: [u16; 16])
+    requires { (lane : ℕ) → lane < 16 → slice_index sources lane < length sets.old }
+    ensures own { (lane : ℕ) → lane < 16
+        → lane_of sets.new lane (slice_index sources lane) ≡ 255 }
+    ensures others { (lane place : ℕ) → lane < 16 → place ≢ slice_index sources lane
+        → lane_of sets.new lane place ≡ lane_of sets.old lane place }
+{
+    for lane in 0..LANES {
+        let at = usize::from(sources[lane]);
+        sets[at] = with_all(sets[at], lane);
+    }
+}
+
+/// The sets with all moves in one lane.
+fn with_all(set: u8x16, lane: usize) -> u8x16
+    requires { lane < 16 }
+    ensures own { slice_index result lane ≡ 255 }
+    ensures others { (other : ℕ) → other ≢ lane → slice_index result other ≡ slice_index set other }
+{
+    let mut moves = set.to_array();
+    moves[lane] = FULL;
+    u8x16::from_array(moves)
 }
 
 /// Copies the sets of one lane.
