@@ -1,9 +1,10 @@
 -- Rows that are put one by one, in any order.
-use Rattle.std.proofs.Common.{◌≡◌, ◌≢◌, ℕ, ◌+◌, ◌<◌, ◌≤◌, List, [], length, replicate, ap, ◌∙◌, inl, inr, arith}
+use Rattle.std.proofs.Common.{◌≡◌, ◌≢◌, ℕ, ◌+◌, ◌<◌, ◌≤◌, List, [], length, replicate, set, slice_index, ap, ◌∙◌, inl, inr, arith}
 use Rattle.std.proofs.lemmas.Bool.{cases_eq, cases_lt}
-use Rattle.std.proofs.lemmas.List.{get_or-set_same, get_or-set_other, length-set}
+use Rattle.std.proofs.lemmas.List.{get_or-set_same, get_or-set_other, length-map, length-set}
 use Rattle.run_pack.specs.declared.Run.{Run}
-use Rattle.run_pack.specs.Runs.{IsTight}
+use Rattle.run_pack.specs.Runs.{run_of_word, IsTight}
+use Rattle.run_pack.proofs.RowLemmas.{length-row}
 use Rattle.moves.specs.declared.Cell.{Cell}
 use Rattle.moves.specs.Maps.{Map}
 use Rattle.moves.specs.ComponentLaws.{HasJust}
@@ -13,7 +14,10 @@ use Rattle.moves.proofs.SamePaths.{same_first_move, same_passable_back}
 use Rattle.row_store.specs.Rows.{row_at}
 use Rattle.row_store.specs.Pools.{PutsPacked}
 use Rattle.row_store.proofs.RowLaws.{same_just}
-use Rattle.build_pool.specs.Pieces.{AreRowsOver, AreFirstOver, IsRowOver, ArePartly, AreWhole, AreDone}
+use Rattle.lane_rows.specs.Tiles.{Tile, IsSolved}
+use Rattle.lane_rows.specs.Packed.{words_in, IsPackedFrom, HavePackedRows}
+use Rattle.build_pool.specs.Places.{AreWithNear}
+use Rattle.build_pool.specs.Pieces.{AreRowsOver, AreFirstOver, IsRowOver, AreWordsOver, ArePartly, AreWhole, AreDone}
 
 -- blank rows
 pub part_blank : (cells : List Cell) (from count : ℕ) (rows : List (List Run)) → rows ≡ replicate count [] → ArePartly cells from rows
@@ -39,19 +43,19 @@ first_over map cells place sets just first = record {
 pub row_over : (cells : List Cell) (place : ℕ) (sets : List ℕ) (row : List Run) → AreFirstOver cells place sets → IsTight row sets → IsRowOver cells place row
 row_over cells place sets row first tight = record { over = λ map just. record { sets = sets; first = first.over map just; tight = tight } }
 
-module _ (cells : List Cell) (from : ℕ) (rows new : List (List Run)) (index place : ℕ) (sets : List ℕ)
-    (within : index < length rows) (is : from + index ≡ place) (first : AreFirstOver cells place sets) (put : PutsPacked rows new index sets) where
+module _ (cells : List Cell) (from : ℕ) (rows new : List (List Run)) (index place : ℕ) (row : List Run)
+    (within : index < length rows) (is : from + index ≡ place) (over : IsRowOver cells place row) (there : new ≡ set rows index row) where
   pub put_size : length new ≡ length rows
-  put_size = ap length put.there ∙ length-set rows index put.row
+  put_size = ap length there ∙ length-set rows index row
 
   -- the row stands at its place
   pub put_here : IsRowOver cells (from + index) (row_at new index)
   put_here =
-      let read : row_at new index ≡ put.row = ap (λ xs. row_at xs index) put.there ∙ get_or-set_same rows index put.row [] within in
-      rw (is, read) (row_over cells place sets put.row first put.packed.tight)
+      let read : row_at new index ≡ row = ap (λ xs. row_at xs index) there ∙ get_or-set_same rows index row [] within in
+      rw (is, read) over
 
   pub put_other : (k : ℕ) → k ≢ index → row_at new k ≡ row_at rows k
-  put_other k other = ap (λ xs. row_at xs k) put.there ∙ get_or-set_other rows index k put.row [] other
+  put_other k other = ap (λ xs. row_at xs k) there ∙ get_or-set_other rows index k row [] other
 
   pub part_put : ArePartly cells from rows → ArePartly cells from new
   part_put p = record {
@@ -83,12 +87,29 @@ pub done_put : (cells : List Cell) (from upto : ℕ) (rows new : List (List Run)
     → AreDone cells from upto rows → upto < length rows → from + upto ≡ place → AreFirstOver cells place sets → PutsPacked rows new upto sets
     → AreDone cells from (upto + 1) new
 done_put cells from upto rows new place sets p within is first put = record {
-  part = part_put cells from rows new upto place sets within is first put p.part;
+  part = part_put cells from rows new upto place put.row within is over put.there p.part;
   done = λ k before. elim (cases_lt k upto) [
-    | inl early ↦ rw (put_other cells from rows new upto place sets within is first put k (λ same. absurd (omega arith))) (p.done k early)
-    | inr late ↦ let same : k ≡ upto = omega arith in rw same (put_here cells from rows new upto place sets within is first put)
+    | inl early ↦ rw (put_other cells from rows new upto place put.row within is over put.there k (λ same. absurd (omega arith))) (p.done k early)
+    | inr late ↦ let same : k ≡ upto = omega arith in rw same (put_here cells from rows new upto place put.row within is over put.there)
   ];
 }
+  where
+    over : IsRowOver cells place put.row
+    over = row_over cells place sets put.row first put.packed.tight
+
+-- the packed rows of a solved tile
+pub packed_over : (cells : List Cell) (near : List (List ℕ)) (tile : Tile) (words : List (List ℕ)) → AreWithNear cells near → IsSolved near tile
+    → HavePackedRows tile words → (lane : ℕ) → lane < 16 → AreWordsOver cells (slice_index tile.sources lane) (words_in words lane)
+packed_over cells near tile words with solved packed lane l = record {
+  few =
+      (let row = from with.sources.board with.sources.just in
+      let size = length-map (words_in words lane) run_of_word in
+      omega (arith, length-row _ _ row.tight.row, row.first.whole, with.sources.few));
+  row = record { over = λ map just. (let row = from map just in record { sets = row.sets; first = row.first; tight = row.tight }) };
+}
+  where
+    from : (map : Map) → HasJust map cells → IsPackedFrom map cells (cell_of cells (slice_index tile.sources lane)) (words_in words lane)
+    from map just = packed lane l map cells near (record { just = just; numbered = with.sources.numbered; edges = with.edges; pairs = with.pairs }) solved
 
 pub done_all : (cells : List Cell) (from upto count : ℕ) (rows : List (List Run)) → AreDone cells from upto rows → length rows ≡ count → count ≤ upto → AreWhole cells from count rows
 done_all cells from upto count rows p size all = record { size = size; each = λ k within. p.done k (omega arith) }

@@ -1,12 +1,16 @@
 -- The rows of a component in pieces, each of which is built on its own.
-use Rattle.std.specs.Prelude.{◌≡◌, ℕ, ◌+◌, ◌*◌, ◌/◌, ◌<◌, ◌≤◌, ◌⊎◌, List, [], length}
+use Rattle.std.specs.Prelude.{◌≡◌, ℕ, ◌+◌, ◌*◌, ◌/◌, ◌<◌, ◌≤◌, ◌⊎◌, List, [], length, map, slice_index}
 use Rattle.run_pack.specs.declared.Run.{Run}
+use Rattle.run_pack.specs.declared.TheConstants.{MAX_PLACES}
+use Rattle.run_pack.specs.Runs.{run_of_word}
 use Rattle.moves.specs.declared.Cell.{Cell}
 use Rattle.moves.specs.declared.TheConstants.{MAX_PASSABLE}
 use Rattle.moves.specs.Maps.{Map}
 use Rattle.moves.specs.ComponentLaws.{HasJust}
 use Rattle.moves.specs.FirstSetLists.{cell_of, AreFirstSets}
 use Rattle.row_store.specs.Rows.{row_at, IsRowFrom}
+use Rattle.lane_rows.specs.Tiles.{Tile}
+use Rattle.lane_rows.specs.Packed.{words_in}
 use Rattle.build_pool.specs.declared.TheConstants.{MAX_WORKERS}
 use Rattle.build_pool.specs.Places.{AreWithNear}
 
@@ -41,6 +45,15 @@ pub record AreFirstOver (cells : List Cell) (place : ℕ) (sets : List ℕ) : Ty
 -- the row from the cell at a place, over each map that has just these cells
 pub record IsRowOver (cells : List Cell) (place : ℕ) (row : List Run) : Type 0 where
   pub over : (map : Map) → HasJust map cells → IsRowFrom map cells (cell_of cells place) row
+
+-- the words of the row from the cell at a place, over each map that has just these cells
+pub record AreWordsOver (cells : List Cell) (place : ℕ) (words : List ℕ) : Type 0 where
+  pub few : length words ≤ MAX_PLACES
+  pub row : IsRowOver cells place (map run_of_word words)
+
+-- in each lane of the tile the words of the row from its source
+abbrev pub ArePackedOver : List Cell → Tile → Type 0
+ArePackedOver cells tile = (lane : ℕ) → lane < 16 → AreWordsOver cells (slice_index tile.sources lane) (words_in tile.words lane)
 
 -- each row is blank, or that of its place
 pub record ArePartly (cells : List Cell) (from : ℕ) (rows : List (List Run)) : Type 0 where

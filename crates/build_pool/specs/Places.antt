@@ -1,5 +1,5 @@
 -- Where the cells of a component lie.
-use Rattle.std.specs.Prelude.{ℕ, ◌<◌, ◌≤◌, ◌↔◌, List, length, All, AllPairs, Contains, IsPermutation}
+use Rattle.std.specs.Prelude.{ℕ, ◌<◌, ◌≤◌, List, length, All, AllPairs, IsPermutation}
 use Rattle.moves.specs.declared.Cell.{Cell}
 use Rattle.moves.specs.Maps.{Map, ComesBefore, IsSearchable, IsWithinLimits}
 use Rattle.moves.specs.declared.TheConstants.{MAX_PASSABLE}

@@ -4,10 +4,9 @@
 //! found so is exact wherever it is found. Where a tile isn't solved its rows stay blank, and so the last step goes
 //! over the rows and builds what is blank by a plain search. It is the same row: rows depend on the cells alone.
 
-ghost use Rattle.std.specs.Prelude.{◌≡◌, ℕ, ◌+◌, ◌*◌, ◌/◌, ◌<◌, ◌≤◌, length, slice_index, IfOk, OnOk};
-ghost use Rattle.lane_rows.specs.Tiles.{IsSolved};
+ghost use Rattle.std.specs.Prelude.{◌≡◌, ◌+◌, ◌*◌, ◌/◌, ◌<◌, ◌≤◌, length, IfOk, OnOk};
 ghost use Rattle.build_pool.specs.Places.{AreSources, AreWithNear};
-ghost use Rattle.build_pool.specs.Pieces.{cut, CanBuild, ArePartly, ArePieceRows};
+ghost use Rattle.build_pool.specs.Pieces.{cut, CanBuild, ArePackedOver, ArePartly, ArePieceRows};
 
 use crate::plain::put_rest;
 use crate::rows::PieceRows;
@@ -64,7 +63,6 @@ struct Workbench {
     tiles: Tiles,
     /// The places that no tile has taken yet.
     wanted: Vec<bool>,
-    sets: Vec<u8>,
     sweeps: u32,
 }
 
@@ -92,7 +90,6 @@ fn put_tiles(
     let mut bench = Workbench {
         tiles: Tiles::new(alloc, near.len())?,
         wanted: wanted_between(alloc, near.len(), from, upto)?,
-        sets: vec![in alloc; 0u8; near.len()]?,
         sweeps,
     };
     for first in from..upto {
@@ -113,11 +110,9 @@ fn put_tile(
     requires first { first < length near.now }
     requires count { bench.old.tiles.count ≡ length near.now }
     requires marks { length bench.old.wanted.items ≡ length near.now }
-    requires sets { length bench.old.sets.items ≡ length cells.now }
     requires part { ArePartly cells.now rows.old.from rows.old.pool }
     ensures count { OnOk result (bench.new.tiles.count ≡ length near.now) }
     ensures marks { OnOk result (length bench.new.wanted.items ≡ length near.now) }
-    ensures sets { OnOk result (length bench.new.sets.items ≡ length cells.now) }
     ensures from { OnOk result (rows.new.from ≡ rows.old.from) }
     ensures whole { OnOk result (length rows.new.pool ≡ length rows.old.pool) }
     ensures part { OnOk result (ArePartly cells.now rows.old.from rows.new.pool) }
@@ -129,14 +124,8 @@ fn put_tile(
     if !bench.tiles.run(near, bench.sweeps) {
         return Ok(());
     }
-    put_lanes(
-        &bench.tiles,
-        count,
-        near,
-        cells,
-        bench.sets.as_mut_slice(),
-        rows,
-    )?;
+    bench.tiles.pack()?;
+    put_lanes(&bench.tiles, count, cells, rows)?;
     Ok(())
 }
 
@@ -157,30 +146,22 @@ fn wanted_between(
     Ok(wanted)
 }
 
-/// Puts the rows of a solved tile, lane by lane.
+/// Puts the packed rows of a tile, lane by lane.
 fn put_lanes(
     tiles: &Tiles,
     count: usize,
-    near: &Near,
     cells: &[Cell],
-    sets: &mut [u8],
     rows: &mut PieceRows,
 ) -> Result<(), AllocError>
     requires lanes { count ≤ 16 }
-    requires sources { AreWithNear cells.now near.now }
-    requires solved { IsSolved near.now tiles.now }
-    requires inside { (lane : ℕ) → lane < 16 → slice_index tiles.now.sources lane < tiles.now.count }
-    requires sets { length sets.old ≡ length cells.now }
+    requires packed { ArePackedOver cells.now tiles.now }
     requires part { ArePartly cells.now rows.old.from rows.old.pool }
     ensures from { OnOk result (rows.new.from ≡ rows.old.from) }
     ensures whole { OnOk result (length rows.new.pool ≡ length rows.old.pool) }
     ensures part { OnOk result (ArePartly cells.now rows.old.from rows.new.pool) }
 {
-    // The neighbours are here for the contract alone.
-    let _ = near;
     for lane in 0..count {
-        tiles.sets_of(lane, sets);
-        rows.put(cells, usize::from(tiles.source(lane)), sets)?;
+        rows.put(cells, usize::from(tiles.source(lane)), tiles.words(lane))?;
     }
     Ok(())
 }

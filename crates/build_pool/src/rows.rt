@@ -2,9 +2,8 @@
 
 ghost use Rattle.std.specs.Prelude.{◌≡◌, ◌+◌, ◌-◌, ◌<◌, ◌≤◌, [], length, replicate, IfOk, OnOk, IsTrue};
 ghost use Rattle.moves.specs.Maps.{Map};
-ghost use Rattle.run_pack.specs.Runs.{ArePackable};
 ghost use Rattle.row_store.specs.Rows.{row_at};
-ghost use Rattle.build_pool.specs.Pieces.{AreDone, AreFirstOver, ArePartly, AreWhole};
+ghost use Rattle.build_pool.specs.Pieces.{AreDone, ArePartly, AreWhole, AreWordsOver};
 
 use moves::{Cell, MAX_PASSABLE};
 use row_store::RowPool;
@@ -31,7 +30,7 @@ impl PieceRows {
         Ok(PieceRows { from, pool })
     }
 
-    /// Puts the row of these first sets where their source is in the piece and has no row yet.
+    /// Puts the row that these words keep where its source is in the piece and has no row yet.
     ///
     /// # Errors
     ///
@@ -40,11 +39,10 @@ impl PieceRows {
         &mut self,
         cells: &[Cell],
         place: usize,
-        sets: &[u8],
+        words: &[u32],
     ) -> Result<(), AllocError>
         requires part { ArePartly cells.now self.old.from self.old.pool }
-        requires first { AreFirstOver cells.now place sets.now }
-        requires packable { ArePackable sets.now }
+        requires words { AreWordsOver cells.now place words.now }
         ensures from { self.new.from ≡ self.old.from }
         ensures whole { OnOk result (length self.new.pool ≡ length self.old.pool) }
         ensures part { OnOk result (ArePartly cells.now self.old.from self.new.pool) }
@@ -56,7 +54,7 @@ impl PieceRows {
         }
         let index = place - self.from;
         if index < self.pool.len() && self.is_blank(index) {
-            self.pool.put_sets(index, sets)?;
+            self.pool.put_words(index, words)?;
         }
         Ok(())
     }

@@ -1,4 +1,4 @@
-use Rattle.std.proofs.Common.{◌≡◌, List, get_or, arith}
+use Rattle.std.proofs.Common.{List, get_or, arith}
 use Rattle.std.proofs.lemmas.List.{get_or_default}
 use Rattle.moves.specs.declared.Cell.{Cell}
 use Rattle.build_pool.proofs.Boards.{marked_more, just_marked}

@@ -6,6 +6,5 @@ abbrev pub invariant-loop-lane : goal.invariant-loop-lane
 invariant-loop-lane l = record {
   from : l.rows.from ≡ l.fn.rows.from;
   whole : length l.rows.pool ≡ length l.fn.rows.pool;
-  sets : length l.sets ≡ length l.cells;
   part : ArePartly l.cells l.fn.rows.from l.rows.pool;
 }

@@ -6,7 +6,6 @@ abbrev pub invariant-loop-first : goal.invariant-loop-first
 invariant-loop-first l = record {
   count : l.bench.tiles.count ≡ length l.near;
   marks : length l.bench.wanted.items ≡ length l.near;
-  sets : length l.bench.sets.items ≡ length l.cells;
   from : l.rows.from ≡ l.fn.rows.from;
   whole : length l.rows.pool ≡ length l.fn.rows.pool;
   part : ArePartly l.cells l.fn.rows.from l.rows.pool;
