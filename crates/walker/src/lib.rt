@@ -70,6 +70,7 @@ impl<'a> Walk<'a> {
     }
 
     /// The next move of the walk; `None` exactly at the goal.
+    #[inline(always)]
     pub fn step(&mut self) -> Option<Move>
         ensures { Advances self.old self.new result }
     {
