@@ -12,6 +12,6 @@ for work in "open 4" "blocked 3"; do
     same 2 "${fills[@]}"
     search="$ours search $kind {}" count="bench/build/search $kind sources"
     filled=$((repeats * sources)) searched=$(($($count $((2 * repeats))) - $($count $repeats)))
-    medians $repeats "$filled $filled $filled $filled $searched" "${fills[@]}" "$search" |
+    doubled $repeats "$filled $filled $filled $filled $searched" "${fills[@]}" "$search" |
         report "first sets of a source, $kind" us "two bodies" arithmetic branches "our search"
 done

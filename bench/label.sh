@@ -5,5 +5,5 @@ labels=4
 for blocked in 0 2 4; do
     commands=("$ours label $blocked {}" "bench/build/label $blocked {}")
     same 1 "${commands[@]}"
-    medians $labels $labels "${commands[@]}" | report "labelling, $blocked of 8 cells blocked" ms C++
+    doubled $labels $labels "${commands[@]}" | report "labelling, $blocked of 8 cells blocked" ms C++
 done

@@ -55,28 +55,30 @@ time_of() {
     { time repeated "$@" >/dev/null 2>&3; } 3>&2 2>&1
 }
 
-# In each round every command runs in turn with FROM repeats, and then every one with UPTO. A round's figure is the
-# difference of a command's two times, so that starting up and all that is done once are left out. Prints a line for
-# each command: the median of the rounds, in nanoseconds an item. ITEMS is how many items the repeats between have, one
-# number for all commands or one for each: FROM UPTO ITEMS COMMAND..
+# In each round every command runs in turn with FROM repeats, and then every one with UPTO. Of a command's times with as
+# many repeats the least one counts, for what else the machine does only adds to them, and the figure is the difference
+# of the two, so that starting up and all that is done once are left out. Prints a line for each command: nanoseconds an
+# item. ITEMS is how many items the repeats between have, one number for all commands or one for each:
+# FROM UPTO ITEMS COMMAND..
 between() {
     local from=$1 upto=$2 round i
-    local -a items few many commands=("${@:4}")
+    local -a items commands=("${@:4}")
     read -ra items <<<"$3"
     for ((round = 0; round < rounds; round++)); do
-        for i in "${!commands[@]}"; do few[i]=$(time_of "${commands[i]}" "$from"); done
-        for i in "${!commands[@]}"; do many[i]=$(time_of "${commands[i]}" "$upto"); done
-        for i in "${!commands[@]}"; do echo "$i ${few[i]} ${many[i]} ${items[i]:-${items[0]}}"; done
-    done | awk '{ print $1, ($3 - $2) * 1e9 / $4 }' | sort -k 1,1n -k 2,2g |
-        awk -v rounds="$rounds" '(NR - 1) % rounds == int(rounds / 2) { print $2 }'
+        for i in "${!commands[@]}"; do echo "$i few $(time_of "${commands[i]}" "$from") ${items[i]:-${items[0]}}"; done
+        for i in "${!commands[@]}"; do echo "$i many $(time_of "${commands[i]}" "$upto") ${items[i]:-${items[0]}}"; done
+    done | awk '
+        !(($1, $2) in least) || $3 < least[$1, $2] { least[$1, $2] = $3 }
+        { items[$1] = $4; if ($1 > last) last = $1 }
+        END { for (i = 0; i <= last; i++) print (least[i, "many"] - least[i, "few"]) * 1e9 / items[i] }'
 }
 
 # `between` N repeats and 2N: N ITEMS COMMAND..
-medians() {
+doubled() {
     between "$1" $((2 * $1)) "${@:2}"
 }
 
-# Prints what `medians` has found as a row of the table: ours, the twins, and the ratios of ours to them. UNIT is ns, us
+# Prints what `doubled` has found as a row of the table: ours, the twins, and the ratios of ours to them. UNIT is ns, us
 # or ms, and the names are those of the twins: WHAT UNIT NAME..
 report() {
     local IFS=,

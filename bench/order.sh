@@ -4,4 +4,4 @@ orders=150
 commands=("$ours order {}" "bench/build/order {}")
 
 same 1 "${commands[@]}"
-medians $orders $orders "${commands[@]}" | report "ordering 32,768 cells" us C++
+doubled $orders $orders "${commands[@]}" | report "ordering 32,768 cells" us C++

@@ -11,8 +11,8 @@ for kind in made open rooms blocked; do
     sets=$(wc -l <"$row")
     runs=$($ours pack $kind 0 0)
     what="$kind, $sets sets in ${runs%% *} runs"
-    medians $packs $((packs * sets)) "$ours pack $kind {} 0" "$twin $row {} 0" |
+    doubled $packs $((packs * sets)) "$ours pack $kind {} 0" "$twin $row {} 0" |
         report "packing a set: $what" ns C++
-    medians $finds $((finds * 32768)) "$ours pack $kind 0 {}" "$twin $row 0 {}" |
+    doubled $finds $((finds * 32768)) "$ours pack $kind 0 {}" "$twin $row 0 {}" |
         report "looking a move up: $what" ns C++
 done

@@ -4,4 +4,4 @@ readings=50
 commands=("$ours read {}" "bench/build/read {}")
 
 same 3 "${commands[@]}"
-medians $readings $readings "${commands[@]}" | report "reading 2 MiB" ms C++
+doubled $readings $readings "${commands[@]}" | report "reading 2 MiB" ms C++

@@ -4,8 +4,8 @@ build_twin label
 for edit in opened closed; do
     commands=("$ours label $edit {}" "$ours label rooms {}" "bench/build/label $edit {}")
     same 3 "${commands[0]}" "${commands[2]}"
-    medians 60 60 "${commands[@]}" | report "labels after a door is $edit" ms "from nothing" "C++ from nothing"
+    doubled 60 60 "${commands[@]}" | report "labels after a door is $edit" ms "from nothing" "C++ from nothing"
 done
 commands=("$ours label edits {}" "$ours label rooms {}" "bench/build/label edits {}")
 same 30 "${commands[0]}" "${commands[2]}"
-medians 200 200 "${commands[@]}" | report "labels after each edit" ms "from nothing" "C++ from nothing"
+doubled 200 200 "${commands[@]}" | report "labels after each edit" ms "from nothing" "C++ from nothing"

@@ -4,7 +4,7 @@ lines=10000 scen="rooms 100 rows"
 one="taskset -c ${CPU:-0} $ours"
 commands=("$one scen lines $scen $lines {}" "$one scen walks $scen $lines {}")
 same 2 "$ours scen lines $scen $lines {}" "${commands[@]}"
-medians 20 $((20 * lines)) "${commands[@]}" | report "a line, one thread" us "bare walks"
+doubled 20 $((20 * lines)) "${commands[@]}" | report "a line, one thread" us "bare walks"
 clock=R
-medians 20 $((20 * lines)) "$ours scen lines $scen $lines {}" "${commands[0]}" |
+doubled 20 $((20 * lines)) "$ours scen lines $scen $lines {}" "${commands[0]}" |
     report "a line, $(nproc) threads, by the clock" us "one thread"

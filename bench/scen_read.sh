@@ -4,4 +4,4 @@ readings=5
 commands=("$ours scen_read 260000 {}" "bench/build/scen_read 260000 {}")
 
 same 2 "${commands[@]}"
-medians $readings $readings "${commands[@]}" | report "reading scenarios of 16 MiB" ms C++
+doubled $readings $readings "${commands[@]}" | report "reading scenarios of 16 MiB" ms C++

@@ -7,5 +7,5 @@ for kind in open blocked; do
     commands=("$ours search $kind {}" "$twin $kind queues {}" "$twin $kind heap {}")
     same 50 "${commands[@]}"
     searched=$(($($twin $kind sources $((2 * repeats))) - $($twin $kind sources "$repeats")))
-    medians "$repeats" $searched "${commands[@]}" | report "a search, $kind" us "two queues" "std's heap"
+    doubled "$repeats" $searched "${commands[@]}" | report "a search, $kind" us "two queues" "std's heap"
 done

@@ -4,5 +4,5 @@ clock=R turns=400000
 for threads in 1 2 4; do
     commands=("$ours turns $threads {}" "bench/build/turns $threads {}")
     same 1000 "${commands[@]}"
-    medians $turns $((turns * threads)) "${commands[@]}" | report "a turn, $threads threads" ns C++
+    doubled $turns $((turns * threads)) "${commands[@]}" | report "a turn, $threads threads" ns C++
 done

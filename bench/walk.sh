@@ -7,7 +7,7 @@ while read -r kind side walks; do
         commands=("$ours walk $kind $side $order {}" "bench/build/walk $map $order {}")
         same 2 "${commands[@]}"
         read -r moves _ <<<"$(repeated "${commands[1]}" 1)"
-        medians "$walks" $((walks * moves)) "${commands[@]}" |
+        doubled "$walks" $((walks * moves)) "${commands[@]}" |
             report "a move, $kind, $order, $((moves / 256)) moves a walk" ns C++
     done
 done < <(xargs -n 3 <<<"open 95 300 blocked25 110 300 rooms 100 300 maze2 117 300")

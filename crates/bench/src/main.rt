@@ -9,6 +9,7 @@ mod builds;
 mod fills;
 mod kinds;
 mod labels;
+mod looks;
 mod maps;
 mod orders;
 mod packs;

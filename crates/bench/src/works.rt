@@ -1,7 +1,7 @@
 //! The works by name. A new one is a file with a `run` of its own, a line in `run` here, and one in `BRIEF`.
 
 use crate::{
-    builds, fills, labels, orders, packs, reads, scen_texts, scens, searches, turns, walks,
+    builds, fills, labels, looks, orders, packs, reads, scen_texts, scens, searches, turns, walks,
 };
 use std::alloc::{AllocError, Global};
 use std::fmt::Write;
@@ -9,7 +9,7 @@ use std::sync::Wait;
 use std::thread::Threads;
 
 /// Each work with few repeats.
-const BRIEF: [&str; 32] = [
+const BRIEF: [&str; 33] = [
     "search open 3",
     "search blocked 3",
     "fill open 3",
@@ -38,6 +38,7 @@ const BRIEF: [&str; 32] = [
     "build rows dots 30 rows 1 1",
     "build rows closed 30 rows 1 1",
     "build plain maze2 30 rows 1 1",
+    "look rooms 30 dfs 1",
     "walk rooms 30 dfs 1",
     "turns 2 1000",
     "scen lines maze2 30 rows 100 1",
@@ -62,12 +63,13 @@ pub fn run<R: Threads + Sync + Wait>(
         "scen_read" => scen_texts::run(alloc, words),
         "map" => builds::drawing(alloc, words),
         "build" => builds::run(rt, alloc, words),
+        "look" => looks::run(rt, alloc, words),
         "walk" => walks::run(rt, alloc, words),
         "turns" => turns::run(rt, alloc, words),
         "scen" => scens::run(rt, alloc, words),
         _ => format!(in alloc;
-            "usage: bench brief | search | fill | row | pack | label | order | read | scen_read | map | build | walk \
-             | turns | scen, and its words"
+            "usage: bench brief | search | fill | row | pack | label | order | read | scen_read | map | build | look \
+             | walk | turns | scen, and its words"
         ),
     }
 }
