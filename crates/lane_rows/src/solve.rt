@@ -10,17 +10,33 @@ use crate::sweeps::{lower, lower_back, sweep, sweep_back};
 use root_cost::GREATEST_KEY;
 use std::simd::prelude::*;
 
-/// How many of the nearest places are settled before the others.
+/// How many of the nearest places at least are settled before the others.
 const NEAREST: usize = 240;
+
+/// How many are, for each place over which the sources reach.
+const NEAREST_EACH: usize = 6;
 
 /// How often they are gone over, forth and back.
 const ROUNDS: u32 = 3;
 
-/// The order in which places are visited, and how often at most.
+/// The order in which places are visited, which of them come first, and how often at most all are.
 #[derive(Clone, Copy, Drop)]
 pub(crate) struct Plan<'a> {
-    pub order: &'a [u16],
-    pub sweeps: u32,
+    nearest: &'a [u16],
+    order: &'a [u16],
+    sweeps: u32,
+}
+
+impl<'a> Plan<'a> {
+    /// A plan for sources that reach over so many places of the order.
+    pub(crate) fn new(order: &'a [u16], reach: usize, sweeps: u32) -> Plan<'a> {
+        let nearest = NEAREST.max(reach.saturating_mul(NEAREST_EACH));
+        Plan {
+            nearest: &order[..order.len().min(nearest)],
+            order,
+            sweeps,
+        }
+    }
 }
 
 /// Finds the keys and sets; `true` only where all places meet their equations.
@@ -41,14 +57,14 @@ pub(crate) fn solve(
     keys.fill(u32x16::splat(FAR));
     sets.fill(u8x16::splat(FULL));
     waits.fill(1);
-    find_keys(near, sources, plan.order, keys);
-    find_sets(near, sources, plan.order, keys, sets, waits);
+    find_keys(near, sources, plan, keys);
+    find_sets(near, sources, plan, keys, sets, waits);
     repair(near, sources, plan, keys, sets, waits);
     none_waits(&waits[..near.len()]) && are_all_below(&keys[..near.len()], GREATEST_KEY)
 }
 
 /// Lowers the keys of the nearest places forth and back, and then all keys along the order.
-fn find_keys(near: &[[u16; 8]], sources: u32x16, order: &[u16], keys: &mut [u32x16])
+fn find_keys(near: &[[u16; 8]], sources: u32x16, plan: Plan, keys: &mut [u32x16])
     requires near { IsMutual near.now }
     requires rows { length keys.old ≡ length near.now + 1 }
     requires range { AreInRange keys.old }
@@ -56,19 +72,18 @@ fn find_keys(near: &[[u16; 8]], sources: u32x16, order: &[u16], keys: &mut [u32x
     ensures last { (lane : ℕ) → lane < 16
         → lane_of keys.new lane (length near.now) ≡ lane_of keys.old lane (length near.now) }
 {
-    let nearest = &order[..order.len().min(NEAREST)];
     for _ in 0..ROUNDS {
-        lower(near, sources, nearest, keys);
-        lower_back(near, sources, nearest, keys);
+        lower(near, sources, plan.nearest, keys);
+        lower_back(near, sources, plan.nearest, keys);
     }
-    lower(near, sources, order, keys);
+    lower(near, sources, plan.order, keys);
 }
 
 /// Visits the nearest places forth and back, and then all along the order.
 fn find_sets(
     near: &[[u16; 8]],
     sources: u32x16,
-    order: &[u16],
+    plan: Plan,
     keys: &mut [u32x16],
     sets: &mut [u8x16],
     waits: &mut [u8],
@@ -78,12 +93,11 @@ fn find_sets(
     requires range { AreInRange keys.old }
     ensures { IsSwept near.now sources keys.old sets.old waits.old keys.new sets.new waits.new }
 {
-    let nearest = &order[..order.len().min(NEAREST)];
     for _ in 0..ROUNDS {
-        sweep(near, sources, nearest, keys, sets, waits);
-        sweep_back(near, sources, nearest, keys, sets, waits);
+        sweep(near, sources, plan.nearest, keys, sets, waits);
+        sweep_back(near, sources, plan.nearest, keys, sets, waits);
     }
-    sweep(near, sources, order, keys, sets, waits);
+    sweep(near, sources, plan.order, keys, sets, waits);
 }
 
 /// Visits what waits, back and forth, until nothing does or it has been tried so often.

@@ -12,7 +12,7 @@ ghost use Rattle.lane_rows.specs.Packed.{HavePackedRows, words_in};
 use crate::Near;
 use crate::kernels::FULL;
 use crate::lane_words::LaneWords;
-use crate::order::{Queues, search};
+use crate::order::{Levels, search};
 use crate::packing::pack_lanes;
 use crate::solve::{Plan, solve};
 use std::alloc::{AllocError, Global};
@@ -22,16 +22,17 @@ use std::simd::prelude::*;
 /// How many sources a tile has.
 pub const LANES: usize = 16;
 
-/// A worker's memory for one tile after the other: 93 bytes a cell, taken once.
+/// A worker's memory for one tile after the other: 92 bytes a cell, taken once.
 #[derive(Drop)]
 pub struct Tiles {
     sources: [u16; 16],
     keys: Vec<u32x16>,
     sets: Vec<u8x16>,
     waits: Vec<u8>,
-    search_keys: Vec<u32>,
-    queues: Queues,
+    met: Vec<bool>,
+    levels: Levels,
     order: Vec<u16>,
+    reach: usize,
     words: LaneWords,
     count: usize,
 }
@@ -45,7 +46,7 @@ impl Model for Tiles {
         record { count = t.count; sources = t.sources; keys = t.keys.items; sets = t.sets.items; words = t.words } };
 
     ghost invariant = { λ t.
-        HasRoom t.count t.keys.items t.sets.items t.waits.items t.search_keys.items };
+        HasRoom t.count t.keys.items t.sets.items t.waits.items t.met.items };
 }
 
 impl Tiles {
@@ -59,9 +60,10 @@ impl Tiles {
             keys: vec![in alloc; u32x16::splat(0); count + 1]?,
             sets: vec![in alloc; u8x16::splat(0); count + 1]?,
             waits: vec![in alloc; 0; count + 1]?,
-            search_keys: vec![in alloc; 0; count + 1]?,
-            queues: Queues::new(alloc, count)?,
+            met: vec![in alloc; false; count + 1]?,
+            levels: Levels::new(alloc, count)?,
             order: Vec::with_capacity(alloc, count)?,
+            reach: 0,
             words: LaneWords::new(alloc)?,
             count,
         })
@@ -83,12 +85,13 @@ impl Tiles {
         search(
             near.table(),
             first,
-            self.search_keys.as_mut_slice(),
-            &mut self.queues,
+            self.met.as_mut_slice(),
+            &mut self.levels,
             &mut self.order,
         );
         let (sources, count) = take_nearest(first, &self.order, wanted);
         self.sources = sources;
+        self.reach = reach_of(&self.order, sources[count - 1]);
         count
     }
 
@@ -108,10 +111,7 @@ impl Tiles {
         ensures sources { self.new.sources ≡ self.old.sources }
         ensures solved { IsTrue result → IsSolved near.now self.new }
     {
-        let plan = Plan {
-            order: self.order.as_slice(),
-            sweeps,
-        };
+        let plan = Plan::new(self.order.as_slice(), self.reach, sweeps);
         solve(
             near.table(),
             lanes_of(self.sources),
@@ -181,6 +181,11 @@ fn lanes_of(sources: [u16; 16]) -> u32x16
         lanes[lane] = u32::from(sources[lane]);
     }
     u32x16::from_array(lanes)
+}
+
+/// How many places of an order come before the last source.
+fn reach_of(order: &[u16], last: u16) -> usize {
+    order.iter().position(|place| *place == last).unwrap_or(0)
 }
 
 /// The first wanted places of an order, at most sixteen, after one that comes before them all.
