@@ -5,7 +5,7 @@
 #![tactic(auto)]
 
 ghost use Rattle.std.specs.Prelude.{◌≡◌, ◌≢◌, ◌+◌, ◌-◌, ◌*◌, ◌^◌, ◌<◌, ◌≤◌, [], map, length, sum_by, slice_index_or, All, AllPairs, Contains, IfOk, IfSome, IfNone};
-ghost use Rattle.run_pack.specs.Runs.{no_run};
+ghost use Rattle.run_pack.specs.Runs.{no_run, IsLastUpTo};
 ghost use Rattle.moves.specs.Rectangles.{IsWithin};
 ghost use Rattle.row_store.specs.Rows.{row_at};
 ghost use Rattle.row_store.specs.Comps.{IsComp, comp_with, IsPlaceOf, IsMoveOfRow, BeginsBestPath};
@@ -19,7 +19,7 @@ mod tests;
 use moves::{Bounds, Cell, MAX_PASSABLE, Move};
 pub use pool::RowPool;
 use run_pack::steps::Steps;
-use run_pack::{Run, find_word, run_of};
+use run_pack::{Run, find_word, find_word_near, run_of};
 use std::alloc::{AllocError, Global};
 use std::marker::Model;
 use std::sync::ledger::Ledger;
@@ -135,6 +135,21 @@ impl CompData {
         ensures counted { steps.old ≤ steps.new }
     {
         let number = find_word(self.rows.row(from as usize), to, steps);
+        Move::of(number).unwrap_or_default()
+    }
+
+    /// The same move, sought from a guess on at the run that covers the cell: any guess will do, and the nearer it is the
+    /// fewer runs are read. Then it is the number of the run that was found, which is a good guess for a cell beside the
+    /// source.
+    pub fn first_move_near(&self, from: u32, to: u32, guess: &mut usize) -> Move
+        requires from { from < length self.now.cells }
+        requires to { to < length self.now.cells }
+        requires apart { from ≢ to }
+        ensures covering { IsMoveOfRow self.now from to result }
+        ensures best { BeginsBestPath self.now.cells from to result }
+        ensures run { IsLastUpTo (row_at self.now.rows from) to guess.new }
+    {
+        let number = find_word_near(self.rows.row(from as usize), to, guess);
         Move::of(number).unwrap_or_default()
     }
 

@@ -6,3 +6,4 @@ pub mod Fewest
 pub mod Packing
 pub mod Words
 pub mod Covering
+pub mod Nearing

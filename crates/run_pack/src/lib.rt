@@ -10,9 +10,11 @@ ghost use Rattle.std.specs.Prelude.{◌≡◌, ◌+◌, ◌-◌, ◌*◌, ◌^�
 ghost use Rattle.run_pack.specs.Sets.{IsShared, ShareNone, IsLeastIn};
 ghost use Rattle.run_pack.specs.Runs.{Rises, ArePackable, IsTight, IsPacked, IsFound, AppendsRow, word_of, run_of_word};
 
+mod near;
 mod row;
 pub mod steps;
 
+pub use crate::near::find_word_near;
 use crate::row::{Row, Stored};
 use crate::steps::Steps;
 use std::alloc::{AllocError, Global};

@@ -2,10 +2,9 @@
 //! (Botea 2011)
 #![tactic(auto)]
 
-ghost use Rattle.std.specs.Prelude.{◌≡◌, ◌≢◌, ◌<◌, IfErr, IfOk, OnOk, length};
+ghost use Rattle.std.specs.Prelude.{◌≡◌, ◌<◌, IfErr, IfOk, OnOk, length};
 ghost use Rattle.moves.specs.declared.Cell.{Cell};
 ghost use Rattle.moves.specs.Paths.{IsLeastCost};
-ghost use Rattle.row_store.specs.Comps.{BeginsBestPath, IsMoveOfRow};
 ghost use Rattle.versions.specs.Queries.{AreEnds, IsRefusal};
 ghost use Rattle.walker.specs.Walks.{Advances, CostsAhead, HasFewAhead, IsBegun};
 
@@ -15,9 +14,7 @@ mod tests;
 use moves::{Cell, MAX_PASSABLE, Move};
 use root_cost::Cost;
 use row_store::CompData;
-use run_pack::steps::Steps;
-use std::marker::{Brand, Model};
-use std::sync::ledger::{Blank, Ledger};
+use std::marker::Model;
 use versions::{QueryRefusal, Version, judge};
 
 /// A walk under way: a component of a version, the cell that was reached, and the goal.
@@ -29,6 +26,8 @@ pub struct Walk<'a> {
     place: u32,
     /// The place of the goal.
     goal: u32,
+    /// The run in which the goal was found last: in the row of a cell beside, it lies near.
+    run: usize,
 }
 
 impl<'a> Model for Walk<'a> {
@@ -60,12 +59,17 @@ impl<'a> Walk<'a> {
         judge(version.grid(), start, goal)?;
         match version.home(start, goal) {
             None => Ok(None),
-            Some(comp) => Ok(Some(Walk {
-                comp,
-                at: start,
-                place: comp.index(start).unwrap(),
-                goal: comp.index(goal).unwrap(),
-            })),
+            Some(comp) => {
+                let place = comp.index(start).unwrap();
+                let goal = comp.index(goal).unwrap();
+                Ok(Some(Walk {
+                    comp,
+                    at: start,
+                    place,
+                    goal,
+                    run: first_guess(comp, place, goal),
+                }))
+            }
         }
     }
 
@@ -77,7 +81,9 @@ impl<'a> Walk<'a> {
         if self.place == self.goal {
             return None;
         }
-        let by = look_up::<Brand>(self.comp, self.place, self.goal, Blank::new(1));
+        let by = self
+            .comp
+            .first_move_near(self.place, self.goal, &mut self.run);
         self.at = self.at.target(by);
         self.place = self.comp.index(self.at).unwrap();
         Some(by)
@@ -123,17 +129,10 @@ fn cost_ahead(walk: &mut Walk) -> Cost
     cost
 }
 
-/// The move that is kept in the row of one place for another.
-fn look_up<L: Ledger>(comp: &CompData, from: u32, to: u32, blank: Blank) -> Move
-    requires name { blank.name ≡ L.name }
-    requires parts { blank.parts ≡ L.parts }
-    requires some { 0 < blank.parts }
-    requires from { from < length comp.now.cells }
-    requires to { to < length comp.now.cells }
-    requires apart { from ≢ to }
-    ensures kept { IsMoveOfRow comp.now from to result }
-    ensures best { BeginsBestPath comp.now.cells from to result }
+/// Where in the row of one place the run lies that covers another, if all runs are of one length.
+fn first_guess(comp: &CompData, from: u32, to: u32) -> usize
+    requires { from < length comp.now.cells }
 {
-    let mut steps = Steps::<L>::new(blank);
-    comp.first_move(from, to, &mut steps)
+    let part = u64::from(comp.row_len(from)) * u64::from(to) / comp.cells().len() as u64;
+    part as usize
 }

@@ -10,12 +10,12 @@ returns-then-self c = subst (λ w. Advances w w None) c.self.view_is (stays _ _ 
 
 pub unwrap-self-inside-requires : goal.unwrap-self-inside-requires
 unwrap-self-inside-requires c =
-    let next = has_next _ _ _ _ c.self.invariant c.look_up-by.result c.look_up-by.ensures.best in
-    let same = same_target c.self.inside.at c.look_up-by.result next.to c.target-self-inside.result next.target c.target-self-inside.ensures in
+    let next = has_next _ _ _ _ c.self.invariant c.first_move_near-by.result c.first_move_near-by.ensures.best in
+    let same = same_target c.self.inside.at c.first_move_near-by.result next.to c.target-self-inside.result next.target c.target-self-inside.ensures in
     some_if_not_none c.index.result c.index.ensures.none (subst (Contains c.self.inside.comp.now.cells) same next.inside)
 
 pub returns : goal.returns
 returns c =
-    subst (λ w. Advances w (record { comp = c.self.inside.comp.now; at = c.target-self-inside.result; goal = cell_of c.self.inside.comp.now.cells c.self.inside.goal }) (Some c.look_up-by.result))
+    subst (λ w. Advances w (record { comp = c.self.inside.comp.now; at = c.target-self-inside.result; goal = cell_of c.self.inside.comp.now.cells c.self.inside.goal }) (Some c.first_move_near-by.result))
     c.self.view_is
-    (goes _ _ _ _ c.self.invariant c.look_up-by.result c.target-self-inside.result c.if-self.false c.look_up-by.ensures.kept c.target-self-inside.ensures)
+    (goes _ _ _ _ c.self.invariant c.first_move_near-by.result c.target-self-inside.result c.if-self.false c.first_move_near-by.ensures.covering c.target-self-inside.ensures)

@@ -1,0 +1,51 @@
+//! A look-up that begins at a guess, for callers whose places lie near one another.
+
+ghost use Rattle.std.specs.Prelude.{◌≡◌, ◌+◌, ◌<◌, length, map};
+ghost use Rattle.run_pack.specs.Runs.{IsFound, IsLastUpTo, Rises, run_of_word, start_at};
+
+use crate::run_of;
+
+/// `find_word` from a guess on: the run that covers the place is sought run by run from there. Any guess will do, and the
+/// nearer it is the fewer runs are read. Then it is the number of the run that was found.
+pub fn find_word_near(words: &[u32], place: u32, guess: &mut usize) -> u8
+    requires { Rises (map run_of_word words.now) }
+    ensures found { IsFound (map run_of_word words.now) place result }
+    ensures limit { result < 8 }
+    ensures last { IsLastUpTo (map run_of_word words.now) place guess.new }
+{
+    let run = go_forth(words, place, (*guess).min(words.len() - 1));
+    let run = go_back(words, place, run);
+    *guess = run;
+    run_of(words[run]).mv
+}
+
+/// From a run on to one behind which the next starts after the place.
+#[inline(always)]
+fn go_forth(words: &[u32], place: u32, from: usize) -> usize
+    requires { from < length words.now }
+    ensures inside { result < length words.now }
+    ensures next { result + 1 < length words.now
+        → place < start_at (map run_of_word words.now) (result + 1) }
+{
+    let mut run = from;
+    while run + 1 < words.len() && run_of(words[run + 1]).start <= place {
+        run += 1;
+    }
+    run
+}
+
+/// From there back to the last run that starts at the place or before it.
+#[inline(always)]
+fn go_back(words: &[u32], place: u32, from: usize) -> usize
+    requires rises { Rises (map run_of_word words.now) }
+    requires inside { from < length words.now }
+    requires next { from + 1 < length words.now
+        → place < start_at (map run_of_word words.now) (from + 1) }
+    ensures { IsLastUpTo (map run_of_word words.now) place result }
+{
+    let mut run = from;
+    while run > 0 && run_of(words[run]).start > place {
+        run -= 1;
+    }
+    run
+}
