@@ -62,11 +62,15 @@ fn looked_up<L: Ledger>(alloc: Global, comp: &CompData, blank: Blank) -> Result<
     let mut steps = Steps::<L>::new(blank);
     let mut text = String::new(alloc);
     let count = comp.cells().len() as u32;
+    let mut guess = usize::MAX;
     for from in 0..count {
         for to in 0..count {
             if from != to {
                 let name = comp.first_move(from, to, &mut steps);
                 write!(text, " {name}")?;
+                if comp.first_move_near(from, to, &mut guess) != name {
+                    text.push('!')?;
+                }
             }
         }
     }

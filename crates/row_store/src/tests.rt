@@ -14,6 +14,9 @@ use std::test::Fail;
 /// The sets of the rows of `...`: from each of its cells, the moves that begin best paths to all of them.
 const LINE: [[u8; 3]; 3] = [[0xff, 0x04, 0x04], [0x40, 0xff, 0x04], [0x40, 0x40, 0xff]];
 
+/// The words of these rows: a start times 8, and 2 for east or 6 for west.
+const WORDS: [&[u32]; 3] = [&[2], &[6, 18], &[6]];
+
 /// The rows of the pool as text: the start and the move of each run.
 fn text_of(alloc: Global, pool: &RowPool) -> Result<String, AllocError> {
     let mut text = String::new(alloc);
@@ -63,6 +66,19 @@ fn put_sets(
     pool.put_sets(place, sets)
 }
 
+/// Puts words in the place of an empty row.
+fn put_words(
+    rt: &impl Abort,
+    pool: &mut RowPool,
+    place: usize,
+    words: &[u32],
+) -> Result<(), AllocError> {
+    assert!(rt; place < pool.len());
+    assert!(rt; pool.row(place).is_empty());
+    assert!(rt; words.len() <= MAX_PLACES as usize);
+    pool.put_words(place, words)
+}
+
 /// Some of the rows of `...`.
 fn rows_of_line(
     rt: &impl Abort,
@@ -103,6 +119,13 @@ fn packs_rows_out_of_order(rt: HostRuntime) -> Result<(), Fail> {
         }
         assert_eq!(rt; text_of(alloc, &pool)?.as_str(), " 0E/ 0W 2E/ 0W");
         assert_eq!(rt; pool.runs(), 4);
+        let mut kept = RowPool::blank(alloc, 3)?;
+        for place in order {
+            assert!(rt; place < 3);
+            put_words(&rt, &mut kept, place, WORDS[place])?;
+        }
+        assert_eq!(rt; text_of(alloc, &kept)?.as_str(), " 0E/ 0W 2E/ 0W");
+        assert_eq!(rt; kept.runs(), 4);
     }
     Ok(())
 }

@@ -5,8 +5,8 @@ ghost use Rattle.run_pack.specs.Runs.{Rises, IsTight, run_of_word};
 use crate::row::{Row, Stored};
 use crate::steps::Steps;
 use crate::{
-    MAX_PLACES, Run, append_words, find, find_move, find_word, find_word_move, pack, run_of,
-    search, word,
+    MAX_PLACES, Run, append_words, find, find_move, find_word, find_word_move, find_word_near,
+    least_word, pack, run_of, search, word,
 };
 use std::alloc::{AllocError, Global};
 use std::cell::Cell;
@@ -211,6 +211,15 @@ fn finds_in_rows(rt: HostRuntime) -> Result<(), Fail> {
                 find_counted::<Brand>(&row, &words, place, Blank::new(1)),
                 (want, want)
             );
+            for guess in [0, 1, 2, last / 2, last, last + 1, usize::MAX] {
+                let mut run = guess;
+                assert_eq!(rt;
+                    find_word_near(&words, place, &mut run),
+                    want,
+                    "from {guess}"
+                );
+                assert_eq!(rt; run, (place.isqrt() as usize).min(last), "from {guess}");
+            }
             let reads = Cell::new(0);
             let watched = watch(alloc, &row, &reads)?;
             assert_eq!(rt;
@@ -223,6 +232,20 @@ fn finds_in_rows(rt: HostRuntime) -> Result<(), Fail> {
         assert_eq!(rt; worst, *most, "probes of {} runs", row.len());
     }
     Ok(())
+}
+
+#[test]
+fn keeps_the_least_move(rt: HostRuntime) {
+    for (start, moves, want) in [
+        (0, 0xff, 0),
+        (0, 0x80, 7),
+        (2, 0x04, 18),
+        (2, 0x0c, 18),
+        (5, 0x90, 44),
+        (32767, 0xc0, 262142),
+    ] {
+        assert_eq!(rt; least_word(start, moves), want);
+    }
 }
 
 #[test]
