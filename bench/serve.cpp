@@ -2,8 +2,8 @@
 // Build: g++ -O3 -march=x86-64-v2 -pthread -o bench/build/serve bench/serve.cpp
 // Run: bench/build/serve map SIDE
 //          prints a map of that side, a seventh of it blocked
-//      bench/build/serve answer MAP PORT [twice]
-//          answers queries at that port of 127.0.0.1 until it is killed; `twice` walks each path twice, as ours
+//      bench/build/serve answer MAP PORT rows|table
+//          answers queries at that port of 127.0.0.1 until it is killed, from rows as ours or from a table
 //      bench/build/serve drive CLIENTS AHEAD TURNS MAP PORT PROCESS [PORT PROCESS]..
 //          asks each of these servers in turn, TURNS times for half a second: so many clients, of which each sends AHEAD
 //          queries and waits for all replies. Prints of each the medians of queries a second, and of the nanoseconds of
@@ -41,8 +41,7 @@ static void send_at_once(int link) {
     setsockopt(link, IPPROTO_TCP, TCP_NODELAY, &yes, sizeof yes);
 }
 
-static int serve(const char *name, const char *port, bool twice) {
-    Table table(read_map(name));
+template <class Moves> static int serve(const Moves &moves, const char *port, bool twice) {
     int listener = socket(AF_INET, SOCK_STREAM, 0), yes = 1;
     sockaddr_in at = address(port);
     setsockopt(listener, SOL_SOCKET, SO_REUSEADDR, &yes, sizeof yes);
@@ -50,9 +49,9 @@ static int serve(const char *name, const char *port, bool twice) {
     printf("serving %s\n", port);
     fflush(stdout);
     for (int link; (link = accept(listener, nullptr, nullptr)) >= 0;)
-        std::thread([&table, twice, link] {
+        std::thread([&moves, twice, link] {
             send_at_once(link);
-            answer(table, twice, link, link);
+            answer(moves, twice, link, link);
             close(link);
         }).detach();
     return 5;
@@ -225,7 +224,8 @@ static int beside_builds(int turns, const char *name, const char *port) {
 int main(int argc, char **argv) {
     std::string what = argc > 1 ? argv[1] : "";
     if (what == "map" && argc == 3) return print_map(atoi(argv[2]));
-    if (what == "answer" && argc >= 4) return serve(argv[2], argv[3], argc > 4);
+    if (what == "answer" && argc == 5 && !strcmp(argv[4], "rows")) return serve(Packed(read_map(argv[2])), argv[3], true);
+    if (what == "answer" && argc == 5) return serve(Table(read_map(argv[2])), argv[3], false);
     if (what == "drive" && argc >= 8 && argc % 2 == 0)
         return drive(atoi(argv[2]), atoi(argv[3]), atoi(argv[4]), argv[5], argv + 6);
     if (what == "build" && argc == 5) return beside_builds(atoi(argv[2]), argv[3], argv[4]);

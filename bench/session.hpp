@@ -1,7 +1,8 @@
-// A session of queries over two files: a plain twin of ours, which answers from a table of first moves with as many reads
-// and writes, and the client that asks. talk.cpp times it over pipes, and serve.cpp over connections.
+// A session of queries over two files: plain twins of ours, which make as many reads and writes, and the client that
+// asks. One has the same rows, looks each move up by halving, and walks each path twice, as ours does; the other has a
+// table with a byte for each pair of cells, and walks once. talk.cpp times them over pipes, and serve.cpp over connections.
 #pragma once
-#include "grid.hpp"
+#include "rows.hpp"
 #include <algorithm>
 #include <cstdio>
 #include <cstdlib>
@@ -51,6 +52,8 @@ inline Grid read_map(const char *name) {
     return grid;
 }
 
+inline int step(const Grid &grid, uint32_t move) { return DY[move] * int(grid.width) + DX[move]; }
+
 // ---- the table of first moves: a row for each passable cell, with a byte for each goal
 
 struct Table {
@@ -69,7 +72,8 @@ struct Table {
         for (uint32_t goal = 0; goal < place.size(); goal++) fill(goal, cost);
     }
 
-    int step(int m) const { return DY[m] * int(grid.width) + DX[m]; }
+    size_t cells() const { return place.size(); }
+    uint32_t first_move(uint32_t from, uint32_t to) const { return moves[size_t(number[from]) * place.size() + number[to]]; }
 
     // the first moves to one goal: costs are the same in both directions
     void fill(uint32_t goal, std::vector<uint32_t> &cost) {
@@ -89,7 +93,7 @@ struct Table {
             if (reached > cost[at]) continue;
             for (int m = 0; m < 8; m++) {
                 if (!(grid.masks[at] >> m & 1)) continue;
-                uint32_t to = at + step(m), next = reached + (m % 2 ? DIAGONAL : STRAIGHT);
+                uint32_t to = at + step(grid, m), next = reached + (m % 2 ? DIAGONAL : STRAIGHT);
                 if (next >= cost[to]) continue;
                 cost[to] = next;
                 (m % 2 ? diagonal : straight).push(to);
@@ -100,7 +104,7 @@ struct Table {
             uint32_t at = place[start];
             if (at == place[goal] || cost[at] == NO_KEY) continue;
             for (int m = 0; m < 8; m++)
-                if (grid.masks[at] >> m & 1 && cost[at + step(m)] + (m % 2 ? DIAGONAL : STRAIGHT) == cost[at]) {
+                if (grid.masks[at] >> m & 1 && cost[at + step(grid, m)] + (m % 2 ? DIAGONAL : STRAIGHT) == cost[at]) {
                     moves[size_t(start) * place.size() + goal] = m;
                     break;
                 }
@@ -108,6 +112,59 @@ struct Table {
     }
 
     std::queue<uint32_t> cost_of[2];
+};
+
+// ---- the rows of the largest component, as ours
+
+struct Packed {
+    Grid grid;
+    std::vector<uint32_t> number;
+    Rows rows;
+
+    explicit Packed(Grid map) : grid(std::move(map)), number(grid.passable.size(), NO_KEY) {
+        rows = build_rows(largest(), false);
+        for (uint32_t i = 0; i < rows.cells.size(); i++) number[rows.cells[i].y * grid.width + rows.cells[i].x] = i;
+    }
+
+    size_t cells() const { return rows.cells.size(); }
+
+    // the move from one cell to another, and 8 where they are not both of the component
+    uint32_t first_move(uint32_t from, uint32_t to) const {
+        uint32_t place = number[to];
+        if (number[from] == NO_KEY || place == NO_KEY) return 8;
+        Span span = rows.spans[number[from]];
+        const uint32_t *words = rows.words.data() + span.start;
+        size_t low = 0, high = span.len;
+        while (low < high) {
+            size_t middle = low + (high - low) / 2;
+            if (words[middle] / 8 <= place) low = middle + 1;
+            else high = middle;
+        }
+        return words[low - 1] % 8;
+    }
+
+    // the cells of the largest component, row by row
+    std::vector<Cell> largest() const {
+        std::vector<uint8_t> seen(grid.passable.size());
+        std::vector<uint32_t> most;
+        for (uint32_t first = 0; first < seen.size(); first++) {
+            if (!grid.passable[first] || seen[first]) continue;
+            std::vector<uint32_t> found{first};
+            seen[first] = 1;
+            for (size_t i = 0; i < found.size(); i++)
+                for (int m = 0; m < 8; m++) {
+                    if (!(grid.masks[found[i]] >> m & 1)) continue;
+                    uint32_t to = found[i] + step(grid, m);
+                    if (!seen[to]) found.push_back(to);
+                    seen[to] = 1;
+                }
+            if (found.size() > most.size()) most = found;
+        }
+        std::sort(most.begin(), most.end());
+        std::vector<Cell> cells;
+        for (uint32_t at : most) cells.push_back(Cell{uint16_t(at % grid.width), uint16_t(at / grid.width)});
+        return cells;
+    }
 };
 
 // ---- answers
@@ -136,10 +193,10 @@ inline void put32(uint8_t *at, uint32_t value) {
 }
 
 // Answers what comes in until a bye, and says with which status that ended. The length of the next frame comes with a
-// frame where it is there already, as ours reads it. `twice` walks each path twice, as ours.
-inline int answer(const Table &table, bool twice, int in, int out) {
-    const Grid &grid = table.grid;
-    std::vector<uint8_t> reply(17 + table.place.size());
+// frame where it is there already, as ours reads it. `twice` walks each path twice.
+template <class Moves> inline int answer(const Moves &moves, bool twice, int in, int out) {
+    const Grid &grid = moves.grid;
+    std::vector<uint8_t> reply(17 + moves.cells());
     uint8_t frame[68];
     size_t have = 0;
     auto fill = [&](size_t want, size_t most) {
@@ -171,11 +228,11 @@ inline int answer(const Table &table, bool twice, int in, int out) {
             at = sy * grid.width + sx;
             count = diagonal = 0;
             while (at != goal) {
-                uint8_t m = table.moves[size_t(table.number[at]) * table.place.size() + table.number[goal]];
+                uint32_t m = moves.first_move(at, goal);
                 if (m == 8) break;
-                reply[17 + count++] = m;
+                reply[17 + count++] = uint8_t(m);
                 diagonal += m % 2;
-                at += table.step(m);
+                at += step(grid, m);
             }
         }
         if (at != goal) {

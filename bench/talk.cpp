@@ -1,7 +1,7 @@
 // The plain twin of `path_server talk`, and the client that drives either of them through pipes and waits for each reply.
 // Build: g++ -O3 -march=x86-64-v2 -o bench/build/talk bench/talk.cpp
 // Run: bench/build/talk map SIDE                    prints a map of that side, a seventh of it blocked
-//      bench/build/talk answer MAP [twice]          answers over standard input; `twice` walks each path twice, as ours
+//      bench/build/talk answer MAP rows|table       answers over standard input, from rows as ours or from a table
 //      bench/build/talk drive MAP TURNS WORD.. [-- WORD..]..
 //          starts these programs, asks each the same 1,024 queries in turn, TURNS times, and prints of each the medians of
 //          queries a second and of the processor time that it takes for one
@@ -84,8 +84,9 @@ static int drive(const char *name, int turns, char **words) {
 int main(int argc, char **argv) {
     std::string what = argc > 1 ? argv[1] : "";
     if (what == "map" && argc == 3) return print_map(atoi(argv[2]));
-    if (what == "answer" && argc >= 3) return answer(Table(read_map(argv[2])), argc > 3, 0, 1);
+    if (what == "answer" && argc == 4 && !strcmp(argv[3], "rows")) return answer(Packed(read_map(argv[2])), true, 0, 1);
+    if (what == "answer" && argc == 4) return answer(Table(read_map(argv[2])), false, 0, 1);
     if (what == "drive" && argc >= 5) return drive(argv[2], atoi(argv[3]), argv + 4);
-    fprintf(stderr, "usage: talk map SIDE | answer MAP [twice] | drive MAP TURNS WORD.. [-- WORD..]..\n");
+    fprintf(stderr, "usage: talk map SIDE | answer MAP rows|table | drive MAP TURNS WORD.. [-- WORD..]..\n");
     return 2;
 }

@@ -5,8 +5,9 @@ thousand passable cells, and the sums over their replies have to be the same.
 
     bench/talk.py [TURNS]
 
-The programs run side by side and are asked in turn, TURNS times (200). Prints the medians of ours, of the twin, and of
-the twin where it walks each path twice, as ours does. The program has to be built (./build)."""
+The programs run side by side and are asked in turn, TURNS times (200). Prints the medians of ours, of the twin that does
+the same look-ups (rows of runs, each path walked twice), and of one that reads a table with a byte for each pair of cells
+and walks once. The program has to be built (./build)."""
 import os
 import subprocess
 import sys
@@ -21,5 +22,5 @@ with open(map_name, "w") as file:
     subprocess.run([twin, "map", "108"], check=True, stdout=file)
 answer = [twin, "answer", map_name]
 turns = sys.argv[1] if len(sys.argv) > 1 else "200"
-words = [program, "talk", map_name, "--", *answer, "--", *answer, "twice"]
+words = [program, "talk", map_name, "--", *answer, "rows", "--", *answer, "table"]
 sys.exit(subprocess.run([twin, "drive", map_name, turns, *words]).returncode)

@@ -47,6 +47,16 @@ struct Version {
         }
         return found % 8;
     }
+    // The same, from a guess at the run that covers the place, run by run; then it is the run that was found.
+    uint32_t first_move_near(uint32_t from, uint32_t to, size_t& guess) const {
+        Span span = rows.spans[from];
+        const uint32_t* words = rows.words.data() + span.start;
+        size_t run = std::min(guess, size_t(span.len) - 1);
+        while (run + 1 < span.len && words[run + 1] / 8 <= to) run++;
+        while (run > 0 && words[run] / 8 > to) run--;
+        guess = run;
+        return words[run] % 8;
+    }
 };
 
 inline uint64_t next(uint64_t state) {
