@@ -9,6 +9,7 @@ ghost use Rattle.session.specs.Standing.{IsHeldSince, Raises, stands};
 
 use crate::building::answer_build;
 use crate::desk::Desk;
+use crate::means::Means;
 use build_pool::Gate;
 use edit_log::Edit;
 use moves::Cell;
@@ -66,7 +67,10 @@ pub fn answer<K: Desk, R: Threads + Wait + Sync, G: Gate>(
     match request {
         Request::Query { start, goal } => answer_query(rt, desk, start, goal),
         Request::Change(edit) => Answered::of(answer_change(rt, desk, edit)),
-        Request::Build => Answered::of(answer_build(rt, alloc, desk, workers, gate)),
+        Request::Build => {
+            let means = Means::new(rt, alloc, workers, gate);
+            Answered::of(answer_build(&means, desk))
+        }
         Request::Status => Answered::of(answer_status(rt, desk)),
         Request::Bye => Answered::of(Reply::Done),
         Request::Stop => Answered::of(answer_stop(rt, desk)),

@@ -11,7 +11,8 @@ ghost use Rattle.session.specs.declared.boards.TheConstants.{MAX_DOORS};
 ghost use Rattle.session.specs.ServedBoards.{AreServed, FailedSo, IsBuiltBy, IsParted};
 
 use crate::builder::BuildTotals;
-use crate::crews::{Worker, any_failed, dismiss, hire, seated, serve_beside};
+use crate::crews::{Site, Worker, any_failed, dismiss, hire, seated, serve_beside};
+use crate::means::Means;
 use build_pool::Gate;
 use path_board::{Pass, ShareRefused, SharedBoard};
 use path_core::Board;
@@ -99,9 +100,12 @@ pub fn serve_board<D: Door, B: Bell, E: Ear, R: Threads + Wait + Sync, G: Gate>(
     let Ok((shared, passes)) = SharedBoard::share(alloc, board, count + 1) else {
         return Err(ServeRefused { doors });
     };
-    let parted = serve_shared(
-        rt, alloc, workers, gate, &shared, bell, ear, doors, passes, room,
-    );
+    let means = Means::new(rt, alloc, workers, gate);
+    let site = Site {
+        board: &shared,
+        bell,
+    };
+    let parted = serve_shared(&means, &site, ear, doors, passes, room);
     let board = shared.close(parted.passes);
     Ok(Served {
         board,
@@ -113,22 +117,16 @@ pub fn serve_board<D: Door, B: Bell, E: Ear, R: Threads + Wait + Sync, G: Gate>(
 
 /// Serves a shared board by all of its passes, of which the last is the builder's.
 fn serve_shared<'a, D: Door, B: Bell, E: Ear, R: Threads + Wait + Sync, G: Gate>(
-    rt: &R,
-    alloc: Global,
-    workers: u32,
-    gate: &G,
-    board: &'a SharedBoard,
-    bell: &'a B,
+    means: &Means<'_, R, G>,
+    site: &Site<'a, B>,
     ear: &mut E,
     doors: Vec<D>,
     passes: Vec<Pass>,
     room: Vec<Worker<'a, D, B>>,
 ) -> Parted<D>
-    requires worker { 0 < workers }
-    requires workers { workers ≤ MAX_WORKERS }
     requires open { All (λ door. D.closed door ≡ false) doors.items }
     requires long { length passes.items ≡ length doors.items + 1 }
-    requires of_board { All (IsPassOf (board_id board.now)) passes.items }
+    requires of_board { All (IsPassOf (board_id site.now.board.now)) passes.items }
     requires none { room.items ≡ [] }
     requires room { length doors.items ≤ vec_capacity room }
     requires waiting { E.over ear.old ≡ false }
@@ -139,9 +137,9 @@ fn serve_shared<'a, D: Door, B: Bell, E: Ear, R: Threads + Wait + Sync, G: Gate>
 {
     let mut doors = doors;
     let mut passes = passes;
-    let builder = seated(board, bell, passes.pop().unwrap());
-    let crew = hire(board, bell, &mut doors, &mut passes, room);
-    let (builder, crew, builds) = serve_beside(rt, alloc, workers, gate, bell, builder, ear, crew);
+    let builder = seated(site, passes.pop().unwrap());
+    let crew = hire(site, &mut doors, &mut passes, room);
+    let (builder, crew, builds) = serve_beside(means, site.bell, builder, ear, crew);
     let failed = any_failed(&crew);
     dismiss(crew, &mut doors, &mut passes);
     passes.push_reserved(builder.pass);

@@ -7,6 +7,7 @@ ghost use Rattle.session.specs.Standing.{stands};
 
 use crate::building::answer_build;
 use crate::desk::Desk;
+use crate::means::Means;
 use build_pool::Gate;
 use query_proto::Reply;
 use std::alloc::Global;
@@ -83,11 +84,12 @@ pub fn build_loop<K: Desk, E: Ear, R: Threads + Wait + Sync, G: Gate>(
         result (E.rung ear.old) (stands K.seen K.version K.looks desk.new) (E.rung ear.new) }
     ensures over { E.over ear.new ≡ true }
 {
+    let means = Means::new(rt, alloc, workers, gate);
     let mut totals = BuildTotals::none();
     for _ in rt.forever() {
         match ear.wait(rt) {
             Ring::Rung => {
-                let reply = answer_build(rt, alloc, desk, workers, gate);
+                let reply = answer_build(&means, desk);
                 totals = totals.with(reply);
             }
             Ring::Shut => return totals,

@@ -1,20 +1,20 @@
 //! The building of a version after all accepted edits, and its publication.
 
-ghost use Rattle.std.specs.Prelude.{◌≡◌, ◌<◌, ◌≤◌, IfOk, OnErr};
+ghost use Rattle.std.specs.Prelude.{◌≡◌, IfOk, OnErr};
 ghost use Rattle.std.specs.Arc.{arc_value};
 ghost use Rattle.moves.specs.Maps.{IsSearchable};
 ghost use Rattle.edit_log.specs.Edits.{EditsInside, map_after};
-ghost use Rattle.build_pool.specs.declared.TheConstants.{MAX_WORKERS};
 ghost use Rattle.session.specs.Building.{IsBuiltAfter, IsTaken, TakesNone};
 ghost use Rattle.session.specs.Served.{ServesBuild};
 ghost use Rattle.session.specs.Standing.{IsHeldSince, Raises, stands};
 
 use crate::desk::Desk;
+use crate::means::Means;
 use build_pool::Gate;
 use edit_log::apply;
 use path_core::{Job, PublishError};
 use query_proto::Reply;
-use std::alloc::{AllocError, Global};
+use std::alloc::AllocError;
 use std::sync::{Arc, Wait};
 use std::thread::Threads;
 use version_build::{BuildReport, build, plan};
@@ -22,14 +22,9 @@ use versions::Version;
 
 /// Builds a version after all accepted edits and publishes it, where the published one lacks some.
 pub(crate) fn answer_build<K: Desk, R: Threads + Wait + Sync, G: Gate>(
-    rt: &R,
-    alloc: Global,
+    means: &Means<'_, R, G>,
     desk: &mut K,
-    workers: u32,
-    gate: &G,
 ) -> Reply
-    requires worker { 0 < workers }
-    requires workers { workers ≤ MAX_WORKERS }
     ensures place { K.place desk.new ≡ K.place desk.old }
     ensures looks { Raises (K.looks desk.old) (K.looks desk.new) }
     ensures holds { IsHeldSince (K.seen desk.old) (K.version desk.old).prefix (K.seen desk.new)
@@ -37,17 +32,17 @@ pub(crate) fn answer_build<K: Desk, R: Threads + Wait + Sync, G: Gate>(
     ensures served { ServesBuild (K.place desk.old) (K.seen desk.old) result
         (stands K.seen K.version K.looks desk.new) }
 {
-    let Ok(job) = take_job(rt, desk) else {
+    let Ok(job) = take_job(means.rt, desk) else {
         return Reply::NoMemory;
     };
     let held = desk.held();
     if job.prefix == held.prefix() {
         return Reply::NothingNew { prefix: job.prefix };
     }
-    let Ok((next, report)) = build_after(rt, alloc, held, &job, workers, gate) else {
+    let Ok((next, report)) = build_after(means, held, &job) else {
         return Reply::NoMemory;
     };
-    match desk.publish(rt, next) {
+    match desk.publish(means.rt, next) {
         Ok(prefix) => Reply::Published {
             prefix,
             built: report.built,
@@ -87,22 +82,17 @@ fn take_job<K: Desk, R: Wait>(rt: &R, desk: &mut K) -> Result<Job, AllocError>
 ///
 /// `AllocError` where memory runs out.
 fn build_after<R: Threads + Sync, G: Gate>(
-    rt: &R,
-    alloc: Global,
+    means: &Means<'_, R, G>,
     held: &Version,
     job: &Job,
-    workers: u32,
-    gate: &G,
 ) -> Result<(Arc<Version>, BuildReport), AllocError>
-    requires worker { 0 < workers }
-    requires workers { workers ≤ MAX_WORKERS }
     requires inside { EditsInside held.now.map job.now.edits.edits }
     requires searchable { IsSearchable (map_after held.now.map job.now.edits.edits) }
     ensures { IfOk result (λ made. IsBuiltAfter held.now job.now made.1 (arc_value made.0)) }
 {
     let mut grid = held.grid().copy()?;
     apply(&mut grid, &job.edits);
-    let plan = plan(alloc, Some(held), grid, job.prefix, held.kind())?;
-    let (version, report) = build(rt, alloc, plan, workers, gate)?;
-    Ok((Arc::new(alloc, version)?, report))
+    let plan = plan(means.alloc, Some(held), grid, job.prefix, held.kind())?;
+    let (version, report) = build(means.rt, means.alloc, plan, means.workers, means.gate)?;
+    Ok((Arc::new(means.alloc, version)?, report))
 }

@@ -1,7 +1,6 @@
 //! Workers at doors, side by side, with a builder beside them.
 
 ghost use Rattle.std.specs.Prelude.{◌≡◌, ◌<◌, ◌≤◌, ◌+◌, ℕ, [], All, Some, false, true, length, slice_index_or, vec_capacity};
-ghost use Rattle.build_pool.specs.declared.TheConstants.{MAX_WORKERS};
 ghost use Rattle.path_board.specs.Passes.{IsPassOf};
 ghost use Rattle.path_board.specs.SharedBoards.{board_id};
 ghost use Rattle.session.specs.Builders.{HasBuilt};
@@ -10,10 +9,10 @@ ghost use Rattle.session.specs.Seats.{place_of, standing_of};
 
 use crate::builder::{BuildTotals, build_loop};
 use crate::doors::{DoorEnded, door_loop};
+use crate::means::Means;
 use crate::seated::Seated;
 use build_pool::Gate;
 use path_board::{Pass, SharedBoard};
-use std::alloc::Global;
 use std::sync::Wait;
 use std::thread::{Threads, for_each_mut, join};
 use wire::{Bell, Door, Ear};
@@ -26,27 +25,33 @@ pub(crate) struct Worker<'a, D: Door, B: Bell> {
     pub(crate) ended: Option<DoorEnded>,
 }
 
+/// A board whose passes are used side by side, and the bell of whoever builds there.
+#[derive(Drop)]
+pub(crate) struct Site<'a, B> {
+    pub(crate) board: &'a SharedBoard,
+    pub(crate) bell: &'a B,
+}
+
 /// The seat of that pass.
-pub(crate) fn seated<'a, B: Bell>(board: &'a SharedBoard, bell: &'a B, pass: Pass) -> Seated<'a, B>
-    requires { IsPassOf (board_id board.now) pass }
+pub(crate) fn seated<'a, B: Bell>(site: &Site<'a, B>, pass: Pass) -> Seated<'a, B>
+    requires { IsPassOf (board_id site.now.board.now) pass }
     ensures { result.pass ≡ pass }
 {
-    Seated { board, pass, bell }
+    Seated {
+        board: site.board,
+        pass,
+        bell: site.bell,
+    }
 }
 
 /// The worker with that pass at that door.
-fn worker_at<'a, D: Door, B: Bell>(
-    board: &'a SharedBoard,
-    bell: &'a B,
-    pass: Pass,
-    door: D,
-) -> Worker<'a, D, B>
-    requires { IsPassOf (board_id board.now) pass }
+fn worker_at<'a, D: Door, B: Bell>(site: &Site<'a, B>, pass: Pass, door: D) -> Worker<'a, D, B>
+    requires { IsPassOf (board_id site.now.board.now) pass }
     ensures pass { result.seat.pass ≡ pass }
     ensures door { result.door ≡ door }
 {
     Worker {
-        seat: seated(board, bell, pass),
+        seat: seated(site, pass),
         door,
         ended: None,
     }
@@ -55,14 +60,13 @@ fn worker_at<'a, D: Door, B: Bell>(
 /// Makes a worker for each door, that of the last door first. The doors and passes leave their lists, whose memory
 /// stays.
 pub(crate) fn hire<'a, D: Door, B: Bell>(
-    board: &'a SharedBoard,
-    bell: &'a B,
+    site: &Site<'a, B>,
     doors: &mut Vec<D>,
     passes: &mut Vec<Pass>,
     room: Vec<Worker<'a, D, B>>,
 ) -> Vec<Worker<'a, D, B>>
     requires long { length passes.old.items ≡ length doors.old.items }
-    requires of_board { All (IsPassOf (board_id board.now)) passes.old.items }
+    requires of_board { All (IsPassOf (board_id site.now.board.now)) passes.old.items }
     requires none { room.items ≡ [] }
     requires room { length doors.old.items ≤ vec_capacity room }
     ensures doors { backwards result.items (λ worker. worker.door) ≡ doors.old.items }
@@ -75,7 +79,7 @@ pub(crate) fn hire<'a, D: Door, B: Bell>(
     let mut crew = room;
     while let Some(door) = doors.pop() {
         let pass = passes.pop().unwrap();
-        crew.push_reserved(worker_at(board, bell, pass, door));
+        crew.push_reserved(worker_at(site, pass, door));
     }
     crew
 }
@@ -117,33 +121,30 @@ fn has_failed(ended: Option<DoorEnded>) -> bool
 
 /// Serves the worker's door until its loop ends.
 fn work<D: Door, B: Bell, R: Threads + Wait + Sync, G: Gate>(
-    rt: &R,
-    alloc: Global,
-    workers: u32,
-    gate: &G,
+    means: &Means<'_, R, G>,
     worker: &mut Worker<'_, D, B>,
 )
-    requires worker { 0 < workers }
-    requires workers { workers ≤ MAX_WORKERS }
     requires open { D.closed worker.old.door ≡ false }
     ensures { HasRun D.talks D.closed D.faults D.port worker.old.seat.pass worker.old.door
         worker.new.seat.pass worker.new.door worker.new.ended }
 {
-    let ended = door_loop(rt, alloc, &mut worker.seat, &mut worker.door, workers, gate);
+    let ended = door_loop(
+        means.rt,
+        means.alloc,
+        &mut worker.seat,
+        &mut worker.door,
+        means.workers,
+        means.gate,
+    );
     worker.ended = Some(ended);
 }
 
 /// Lets all workers serve their doors side by side, and shuts the bell when all of their loops have ended.
 fn serve_crew<D: Door, B: Bell, R: Threads + Wait + Sync, G: Gate>(
-    rt: &R,
-    alloc: Global,
-    workers: u32,
-    gate: &G,
+    means: &Means<'_, R, G>,
     bell: &B,
     crew: &mut [Worker<'_, D, B>],
 )
-    requires worker { 0 < workers }
-    requires workers { workers ≤ MAX_WORKERS }
     requires open { (i : ℕ) (d : _) → i < length crew.old →
         D.closed (slice_index_or crew.old i d).door ≡ false }
     ensures long { length crew.new ≡ length crew.old }
@@ -154,48 +155,37 @@ fn serve_crew<D: Door, B: Bell, R: Threads + Wait + Sync, G: Gate>(
 {
     let threads = crew.len().max(1);
     for_each_mut(
-        rt,
+        means.rt,
         crew,
         threads,
         &|_: usize, worker: &mut Worker<'_, D, B>|
-            requires { (0 < workers) × (workers ≤ MAX_WORKERS)
-                × (D.closed worker.now.door ≡ false) }
-        { work(rt, alloc, workers, gate, worker) },
+            requires { D.closed worker.now.door ≡ false }
+        { work(means, worker) },
     );
-    bell.shut(rt);
+    bell.shut(means.rt);
 }
 
 /// The same of a list of workers, which comes back.
 fn serve_list<'a, D: Door, B: Bell, R: Threads + Wait + Sync, G: Gate>(
-    rt: &R,
-    alloc: Global,
-    workers: u32,
-    gate: &G,
+    means: &Means<'_, R, G>,
     bell: &B,
     crew: Vec<Worker<'a, D, B>>,
 ) -> Vec<Worker<'a, D, B>>
-    requires worker { 0 < workers }
-    requires workers { workers ≤ MAX_WORKERS }
     requires open { (i : ℕ) (d : _) → i < length crew.items →
         D.closed (slice_index_or crew.items i d).door ≡ false }
     ensures ran { HaveAllRun D.talks D.closed D.faults D.port crew.entry.items result.items }
 {
     let mut crew = crew;
-    serve_crew(rt, alloc, workers, gate, bell, crew.as_mut_slice());
+    serve_crew(means, bell, crew.as_mut_slice());
     crew
 }
 
 /// Builds at the rings of the ear, until the bell is shut.
 fn build<'a, 'e, B: Bell, E: Ear, R: Threads + Wait + Sync, G: Gate>(
-    rt: &R,
-    alloc: Global,
-    workers: u32,
-    gate: &G,
+    means: &Means<'_, R, G>,
     builder: Seated<'a, B>,
     ear: &'e mut E,
 ) -> (Seated<'a, B>, &'e mut E, BuildTotals)
-    requires worker { 0 < workers }
-    requires workers { workers ≤ MAX_WORKERS }
     requires waiting { E.over ear.now ≡ false }
     ensures name { result.1.ghost_name ≡ ear.entry.ghost_name }
     ensures over { E.over result.1.now ≡ true }
@@ -204,7 +194,14 @@ fn build<'a, 'e, B: Bell, E: Ear, R: Threads + Wait + Sync, G: Gate>(
         (E.rung ear.entry.now) (standing_of result.0.pass) (E.rung result.1.now) }
 {
     let mut builder = builder;
-    let totals = build_loop(rt, alloc, &mut builder, ear, workers, gate);
+    let totals = build_loop(
+        means.rt,
+        means.alloc,
+        &mut builder,
+        ear,
+        means.workers,
+        means.gate,
+    );
     (builder, ear, totals)
 }
 
@@ -215,17 +212,12 @@ fn take_back<T>(_lent: &mut T)
 
 /// Lets the workers serve their doors and the builder build beside them, until all have ended.
 pub(crate) fn serve_beside<'a, D: Door, B: Bell, E: Ear, R: Threads + Wait + Sync, G: Gate>(
-    rt: &R,
-    alloc: Global,
-    workers: u32,
-    gate: &G,
+    means: &Means<'_, R, G>,
     bell: &B,
     builder: Seated<'a, B>,
     ear: &mut E,
     crew: Vec<Worker<'a, D, B>>,
 ) -> (Seated<'a, B>, Vec<Worker<'a, D, B>>, BuildTotals)
-    requires worker { 0 < workers }
-    requires workers { workers ≤ MAX_WORKERS }
     requires waiting { E.over ear.old ≡ false }
     requires open { (i : ℕ) (d : _) → i < length crew.items →
         D.closed (slice_index_or crew.items i d).door ≡ false }
@@ -237,15 +229,14 @@ pub(crate) fn serve_beside<'a, D: Door, B: Bell, E: Ear, R: Threads + Wait + Syn
 {
     // The builder is the first: where no thread can be made it comes last, when the bell is shut.
     let ((builder, ear, totals), crew) = join(
-        rt,
+        means.rt,
         ||
-            requires { (0 < workers) × (workers ≤ MAX_WORKERS) × (E.over ear.now ≡ false) }
-        { build(rt, alloc, workers, gate, builder, ear) },
+            requires { E.over ear.now ≡ false }
+        { build(means, builder, ear) },
         ||
-            requires { (0 < workers) × (workers ≤ MAX_WORKERS)
-                × ((i : ℕ) (d : _) → i < length crew.items →
-                D.closed (slice_index_or crew.items i d).door ≡ false) }
-        { serve_list(rt, alloc, workers, gate, bell, crew) },
+            requires { (i : ℕ) (d : _) → i < length crew.items →
+                D.closed (slice_index_or crew.items i d).door ≡ false }
+        { serve_list(means, bell, crew) },
     );
     take_back(ear);
     (builder, crew, totals)

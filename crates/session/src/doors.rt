@@ -11,6 +11,7 @@ ghost use Rattle.session.specs.Doors.{DoorEndsSo, GoesOnOrEnds, HasServed, SameW
 ghost use Rattle.session.specs.Standing.{stands};
 
 use crate::desk::Desk;
+use crate::means::Means;
 use crate::sessions::serve_link;
 use build_pool::Gate;
 use std::alloc::Global;
@@ -50,8 +51,9 @@ pub fn door_loop<K: Desk, D: Door, R: Threads + Wait + Sync, G: Gate>(
     ensures lent { SameWhereTold (D.talks door.old) (D.lent door.old) (D.lent door.new) }
     ensures port { D.port door.new ≡ D.port door.old }
 {
+    let means = Means::new(rt, alloc, workers, gate);
     for _ in rt.forever() {
-        match serve_knock(rt, alloc, desk, door, workers, gate) {
+        match serve_knock(&means, desk, door) {
             Some(ended) => return ended,
             None => {}
         }
@@ -61,15 +63,10 @@ pub fn door_loop<K: Desk, D: Door, R: Threads + Wait + Sync, G: Gate>(
 
 /// Knocks once, and serves the connection that comes, if one comes. `None` where the loop goes on.
 fn serve_knock<K: Desk, D: Door, R: Threads + Wait + Sync, G: Gate>(
-    rt: &R,
-    alloc: Global,
+    means: &Means<'_, R, G>,
     desk: &mut K,
     door: &mut D,
-    workers: u32,
-    gate: &G,
 ) -> Option<DoorEnded>
-    requires worker { 0 < workers }
-    requires workers { workers ≤ MAX_WORKERS }
     requires open { D.closed door.old ≡ false }
     ensures place { K.place desk.new ≡ K.place desk.old }
     ensures served { HasServed (K.place desk.old) (stands K.seen K.version K.looks desk.old)
@@ -81,10 +78,10 @@ fn serve_knock<K: Desk, D: Door, R: Threads + Wait + Sync, G: Gate>(
 {
     match door.knock() {
         Ok(Knock::Conn(conn)) => {
-            serve_conn(rt, alloc, desk, door, conn, workers, gate);
-            pause(rt, desk)
+            serve_conn(means, desk, door, conn);
+            pause(means.rt, desk)
         }
-        Ok(Knock::Quiet) => pause(rt, desk),
+        Ok(Knock::Quiet) => pause(means.rt, desk),
         Ok(Knock::Closed) => Some(DoorEnded::Closed),
         Err(_) => Some(DoorEnded::Failed),
     }
@@ -92,16 +89,11 @@ fn serve_knock<K: Desk, D: Door, R: Threads + Wait + Sync, G: Gate>(
 
 /// Serves a connection, and hands it back. A fault of its session is told by the counts of the connection alone.
 fn serve_conn<K: Desk, D: Door, R: Threads + Wait + Sync, G: Gate>(
-    rt: &R,
-    alloc: Global,
+    means: &Means<'_, R, G>,
     desk: &mut K,
     door: &mut D,
     conn: D::Conn,
-    workers: u32,
-    gate: &G,
 )
-    requires worker { 0 < workers }
-    requires workers { workers ≤ MAX_WORKERS }
     requires fresh { IsFresh (D.Conn.talk conn) }
     requires told { TellsToo (D.talks door.old) (D.Conn.talk conn) }
     requires no_read_fault { D.Conn.read_faults conn ≡ 0 }
@@ -116,7 +108,14 @@ fn serve_conn<K: Desk, D: Door, R: Threads + Wait + Sync, G: Gate>(
     ensures port { D.port door.new ≡ D.port door.old }
 {
     let mut conn = conn;
-    let _ended = serve_link(rt, alloc, desk, &mut conn, workers, gate);
+    let _ended = serve_link(
+        means.rt,
+        means.alloc,
+        desk,
+        &mut conn,
+        means.workers,
+        means.gate,
+    );
     door.done(conn);
 }
 

@@ -15,6 +15,7 @@ pub mod doors;
 mod frames;
 pub mod laws;
 pub mod lone;
+mod means;
 pub mod seated;
 mod sending;
 pub mod sessions;

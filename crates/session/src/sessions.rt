@@ -11,6 +11,7 @@ ghost use Rattle.session.specs.Turns.{AnswersSo, EndsBy, Steps, TellsBack};
 use crate::answers::{Answered, answer};
 use crate::desk::Desk;
 use crate::frames::Held;
+use crate::means::Means;
 use crate::sending::send_reply;
 use build_pool::Gate;
 use query_proto::{Reply, Request, decode_request};
@@ -80,22 +81,18 @@ pub fn serve_link<K: Desk, L: Link, R: Threads + Wait + Sync, G: Gate>(
     ensures reads { L.read_faults link.old ≤ L.read_faults link.new }
     ensures writes { L.write_faults link.old ≤ L.write_faults link.new }
 {
+    let means = Means::new(rt, alloc, workers, gate);
     let mut held = Held::new();
-    serve_frames(rt, alloc, desk, link, workers, gate, &mut held)
+    serve_frames(&means, desk, link, &mut held)
 }
 
 /// Answers frame after frame, where nothing is held yet.
 fn serve_frames<K: Desk, L: Link, R: Threads + Wait + Sync, G: Gate>(
-    rt: &R,
-    alloc: Global,
+    means: &Means<'_, R, G>,
     desk: &mut K,
     link: &mut L,
-    workers: u32,
-    gate: &G,
     held: &mut Held,
 ) -> Result<Ended, SessionFault>
-    requires worker { 0 < workers }
-    requires workers { workers ≤ MAX_WORKERS }
     requires none { held.old ≡ [] }
     ensures place { K.place desk.new ≡ K.place desk.old }
     ensures talk { Conversed (K.place desk.old) (stands K.seen K.version K.looks desk.old)
@@ -107,7 +104,7 @@ fn serve_frames<K: Desk, L: Link, R: Threads + Wait + Sync, G: Gate>(
 {
     for count in 0..MAX_REQUESTS {
         let ahead = count + 1 < MAX_REQUESTS;
-        match serve_next(rt, alloc, desk, link, workers, gate, held, ahead) {
+        match serve_next(means, desk, link, held, ahead) {
             Ok(None) => {}
             Ok(Some(ended)) => return Ok(ended),
             Err(fault) => return Err(fault),
@@ -119,17 +116,12 @@ fn serve_frames<K: Desk, L: Link, R: Threads + Wait + Sync, G: Gate>(
 /// Takes the next frame and answers it. `None` where the session goes on. `ahead` says that a further frame may be
 /// taken.
 fn serve_next<K: Desk, L: Link, R: Threads + Wait + Sync, G: Gate>(
-    rt: &R,
-    alloc: Global,
+    means: &Means<'_, R, G>,
     desk: &mut K,
     link: &mut L,
-    workers: u32,
-    gate: &G,
     held: &mut Held,
     ahead: bool,
 ) -> Result<Option<Ended>, SessionFault>
-    requires worker { 0 < workers }
-    requires workers { workers ≤ MAX_WORKERS }
     requires begun { length held.old ≤ 2 }
     ensures place { K.place desk.new ≡ K.place desk.old }
     ensures steps { Steps (K.place desk.old) ahead (stands K.seen K.version K.looks desk.old)
@@ -143,7 +135,7 @@ fn serve_next<K: Desk, L: Link, R: Threads + Wait + Sync, G: Gate>(
     let Some(size) = held.next_frame(link, ahead)? else {
         return Ok(Some(Ended::Quiet));
     };
-    let served = serve_frame(rt, alloc, desk, link, workers, gate, held.frame(size));
+    let served = serve_frame(means, desk, link, held.frame(size));
     held.pass(size);
     match served {
         Ok(ended) => Ok(ended),
@@ -157,16 +149,11 @@ fn serve_next<K: Desk, L: Link, R: Threads + Wait + Sync, G: Gate>(
 ///
 /// `Failed` where the link failed before the whole reply was sent.
 fn serve_frame<K: Desk, L: Link, R: Threads + Wait + Sync, G: Gate>(
-    rt: &R,
-    alloc: Global,
+    means: &Means<'_, R, G>,
     desk: &mut K,
     link: &mut L,
-    workers: u32,
-    gate: &G,
     frame: &[u8],
 ) -> Result<Option<Ended>, Failed>
-    requires worker { 0 < workers }
-    requires workers { workers ≤ MAX_WORKERS }
     requires fits { length frame.now ≤ MAX_REQUEST }
     ensures place { K.place desk.new ≡ K.place desk.old }
     ensures tells { TellsBack (K.place desk.old) frame.now
@@ -176,7 +163,7 @@ fn serve_frame<K: Desk, L: Link, R: Threads + Wait + Sync, G: Gate>(
     ensures writes { L.write_faults link.old ≤ L.write_faults link.new }
     ensures reads { L.read_faults link.new ≡ L.read_faults link.old }
 {
-    let (answered, ended) = answer_frame(rt, alloc, desk, workers, gate, frame);
+    let (answered, ended) = answer_frame(means, desk, frame);
     match send_reply(link, &answered, desk.held()) {
         Ok(()) => Ok(ended),
         Err(failed) => Err(failed),
@@ -185,15 +172,10 @@ fn serve_frame<K: Desk, L: Link, R: Threads + Wait + Sync, G: Gate>(
 
 /// Answers a frame, and says whether the session ends behind the reply.
 fn answer_frame<K: Desk, R: Threads + Wait + Sync, G: Gate>(
-    rt: &R,
-    alloc: Global,
+    means: &Means<'_, R, G>,
     desk: &mut K,
-    workers: u32,
-    gate: &G,
     frame: &[u8],
 ) -> (Answered, Option<Ended>)
-    requires worker { 0 < workers }
-    requires workers { workers ≤ MAX_WORKERS }
     requires fits { length frame.now ≤ MAX_REQUEST }
     ensures place { K.place desk.new ≡ K.place desk.old }
     ensures answers { AnswersSo (K.place desk.old) frame.now
@@ -202,7 +184,14 @@ fn answer_frame<K: Desk, R: Threads + Wait + Sync, G: Gate>(
 {
     match decode_request(frame) {
         Ok(request) => {
-            let answered = answer(rt, alloc, desk, request, workers, gate);
+            let answered = answer(
+                means.rt,
+                means.alloc,
+                desk,
+                request,
+                means.workers,
+                means.gate,
+            );
             (answered, end_of(request, answered.reply))
         }
         Err(what) => {
