@@ -8,6 +8,7 @@ ghost use Rattle.path_server.specs.Talks.{IsFirstBoard};
 ghost use Rattle.path_server.specs.Words.{AreWorkers};
 
 use crate::map_file::read_grid;
+use crate::means::Means;
 use crate::request::BuildOptions;
 use crate::status::Status;
 use build_pool::Gate;
@@ -18,35 +19,31 @@ use std::sync::Arc;
 use std::thread::Threads;
 use version_build::{build, plan};
 use versions::Version;
-use wire::Files;
+use wire::{Bell, Files};
 
 /// The version of a map that comes after no edit, built as the options say. It is the same one for
 /// any number of threads.
-pub fn first_version<R: Threads + Sync, G: Gate>(
-    rt: &R,
-    alloc: Global,
+pub fn first_version<R: Threads + Sync, B: Bell, G: Gate>(
+    means: &Means<R, B, G>,
     grid: Grid,
     options: BuildOptions,
-    gate: &G,
 ) -> Result<Version, AllocError>
     requires small { IsSearchable grid }
     requires workers { AreWorkers options.workers }
     ensures { IfOk result (IsFirstVersion grid options.order) }
 {
-    let plan = plan(alloc, None, grid, 0, options.order)?;
-    let (version, _) = build(rt, alloc, plan, options.workers, gate)?;
+    let plan = plan(means.alloc, None, grid, 0, options.order)?;
+    let (version, _) = build(means.rt, means.alloc, plan, options.workers, means.gate)?;
     Ok(version)
 }
 
 /// The board that begins with the map in the file of that name, with this room.
-pub fn first_board<R: Threads + Sync, F: Files, G: Gate>(
-    rt: &R,
-    alloc: Global,
+pub fn first_board<R: Threads + Sync, F: Files, B: Bell, G: Gate>(
+    means: &Means<R, B, G>,
     files: &mut F,
     name: &str,
     room: u32,
     options: BuildOptions,
-    gate: &G,
 ) -> Result<Board, Status>
     requires room { room ≤ MAX_ENTRIES }
     requires workers { AreWorkers options.workers }
@@ -55,9 +52,9 @@ pub fn first_board<R: Threads + Sync, F: Files, G: Gate>(
     ensures refused { IfErr result
         (IsMapFileCause (file_over F.content F.faults files.old files.new name.now)) }
 {
-    let grid = read_grid(alloc, files, name)?;
-    let version = first_version(rt, alloc, grid, options, gate)?;
-    Ok(board_with(alloc, version, room)?)
+    let grid = read_grid(means.alloc, files, name)?;
+    let version = first_version(means, grid, options)?;
+    Ok(board_with(means.alloc, version, room)?)
 }
 
 /// A board with no entries, whose first version this is, with this room.

@@ -12,6 +12,7 @@ mod heard;
 mod help;
 mod made;
 mod map_file;
+mod means;
 mod path;
 mod replay;
 mod request;

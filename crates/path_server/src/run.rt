@@ -24,6 +24,7 @@ use crate::check::answer_check;
 use crate::database::first_version;
 use crate::made::{answer_made, made_grid};
 use crate::map_file::read_grid;
+use crate::means::Means;
 use crate::path::answer_path;
 use crate::replay::answer_replay;
 use crate::request::{Request, is_ask, is_serve, is_talk, read_request};
@@ -125,26 +126,30 @@ pub fn run<
     ensures send_faults { (IsAsk words.now → ⊥) →
         H.write_faults house.new ≡ H.write_faults house.old }
 {
+    let means = Means {
+        rt,
+        alloc,
+        bell,
+        gate,
+    };
     if is_talk(words) {
-        talk(rt, alloc, words, files, input, gate)
+        talk(&means, words, files, input)
     } else if is_serve(words) {
-        serve(rt, alloc, words, files, house, out, bell, ear, gate)
+        serve(&means, words, files, house, out, ear)
     } else if is_ask(words) {
         ask(alloc, words, out, house)
     } else {
-        print(rt, alloc, words, files, out, gate)
+        print(&means, words, files, out)
     }
 }
 
 /// Puts the text that answers the words, or the line of the status with which the run ends without
 /// one.
-fn print<F: Files, O: Sink, G: Gate, R: Threads + Sync>(
-    rt: &R,
-    alloc: Global,
+fn print<F: Files, O: Sink, B: Bell, G: Gate, R: Threads + Sync>(
+    means: &Means<R, B, G>,
     words: &[String],
     files: &mut F,
     out: &mut O,
-    gate: &G,
 ) -> Status
     requires printed { IsPrinted words.now }
     ensures whole { result ≢ Status.WriteFault
@@ -155,9 +160,9 @@ fn print<F: Files, O: Sink, G: Gate, R: Threads + Sync>(
         (O.bytes out.old) (O.bytes out.new) }
     ensures fault { result ≡ Status.WriteFault → Rose (O.faults out.old) (O.faults out.new) }
 {
-    match answer(rt, alloc, words, files, gate) {
+    match answer(means, words, files) {
         Ok(text) => put(out, text.bytes(), Status::Done),
-        Err(status) => refuse(alloc, out, status),
+        Err(status) => refuse(means.alloc, out, status),
     }
 }
 
@@ -195,12 +200,10 @@ pub fn put<O: Sink>(out: &mut O, text: &[u8], status: Status) -> Status
 }
 
 /// The text that answers the words, or the status with which the run ends without one.
-fn answer<F: Files, G: Gate, R: Threads + Sync>(
-    rt: &R,
-    alloc: Global,
+fn answer<F: Files, B: Bell, G: Gate, R: Threads + Sync>(
+    means: &Means<R, B, G>,
     words: &[String],
     files: &mut F,
-    gate: &G,
 ) -> Result<Text, Status>
     requires printed { IsPrinted words.now }
     ensures done { IfOk result
@@ -208,11 +211,11 @@ fn answer<F: Files, G: Gate, R: Threads + Sync>(
     ensures refused { IfErr result
         (IsCause (run_over words.now F.content F.faults files.old files.new)) }
 {
-    let request = read_request(alloc, words)?;
-    let grid = grid_for(alloc, files, request)?;
-    let task = task_for(alloc, files, request)?;
-    let version = first_version(rt, alloc, grid, request.build(), gate)?;
-    answer_on(rt, alloc, version, task)
+    let request = read_request(means.alloc, words)?;
+    let grid = grid_for(means.alloc, files, request)?;
+    let task = task_for(means.alloc, files, request)?;
+    let version = first_version(means, grid, request.build())?;
+    answer_on(means.rt, means.alloc, version, task)
 }
 
 /// The map that was asked about.

@@ -10,36 +10,24 @@ ghost use Rattle.path_server.specs.Serving.{AsksServing, FailsToRead, Serves, do
 ghost use Rattle.path_server.specs.Words.{AreWorkers};
 
 use crate::database::first_board;
+use crate::means::Means;
 use crate::request::{Request, read_request};
-use crate::serving::{put_cause, serve_on};
+use crate::serving::{Opening, put_cause, serve_on};
 use crate::status::Status;
 use build_pool::Gate;
-use path_core::Board;
-use std::alloc::Global;
 use std::sync::Wait;
 use std::thread::Threads;
-use wire::{Bell, DoorsAsked, Ear, Files, House, Sink};
-
-/// A board to serve, the doors at which that is asked for, and how many threads build its versions.
-#[derive(Drop)]
-struct Opening {
-    board: Board,
-    doors: DoorsAsked,
-    workers: u32,
-}
+use wire::{Bell, Ear, Files, House, Sink};
 
 /// Serves the board that the words ask for at the doors that they ask for. Where there is no such
 /// board, the line of the cause is put, and the house is left alone.
 pub fn serve<F: Files, H: House, O: Sink, B: Bell, E: Ear, G: Gate, R: Threads + Wait + Sync>(
-    rt: &R,
-    alloc: Global,
+    means: &Means<R, B, G>,
     words: &[String],
     files: &mut F,
     house: &mut H,
     out: &mut O,
-    bell: &B,
     ear: &mut E,
-    gate: &G,
 ) -> Status
     requires serve { IsServe words.now }
     requires unasked { H.asked house.old ≡ [] }
@@ -60,28 +48,17 @@ pub fn serve<F: Files, H: House, O: Sink, B: Bell, E: Ear, G: Gate, R: Threads +
     ensures reads { H.read_faults house.new ≡ H.read_faults house.old }
     ensures writes { H.write_faults house.new ≡ H.write_faults house.old }
 {
-    match open(rt, alloc, words, files, gate) {
-        Ok(opening) => {
-            let Opening {
-                board,
-                doors,
-                workers,
-            } = opening;
-            serve_on(
-                rt, alloc, board, doors, workers, house, out, bell, ear, gate,
-            )
-        }
-        Err(status) => put_cause(alloc, out, status),
+    match open(means, words, files) {
+        Ok(opening) => serve_on(means, opening, house, out, ear),
+        Err(status) => put_cause(means.alloc, out, status),
     }
 }
 
 /// The board that the words ask for, and the doors.
-fn open<F: Files, G: Gate, R: Threads + Sync>(
-    rt: &R,
-    alloc: Global,
+fn open<F: Files, B: Bell, G: Gate, R: Threads + Sync>(
+    means: &Means<R, B, G>,
     words: &[String],
     files: &mut F,
-    gate: &G,
 ) -> Result<Opening, Status>
     requires { IsServe words.now }
     ensures board { IfOk result (λ opening. AsksServing
@@ -92,7 +69,7 @@ fn open<F: Files, G: Gate, R: Threads + Sync>(
     ensures refused { IfErr result
         (IsCause (run_over words.now F.content F.faults files.old files.new)) }
 {
-    let request = read_request(alloc, words)?;
+    let request = read_request(means.alloc, words)?;
     let Request::Serve {
         map,
         doors,
@@ -103,7 +80,7 @@ fn open<F: Files, G: Gate, R: Threads + Sync>(
         unreachable!()
     };
     Ok(Opening {
-        board: first_board(rt, alloc, files, map, room, build, gate)?,
+        board: first_board(means, files, map, room, build)?,
         doors,
         workers: build.workers,
     })

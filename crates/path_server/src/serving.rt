@@ -12,6 +12,7 @@ ghost use Rattle.path_server.specs.Serving.{closing_text, doors_over, ear_over, 
 ghost use Rattle.path_server.specs.Words.{AreWorkers};
 
 use crate::check::push_number;
+use crate::means::Means;
 use crate::status;
 use crate::status::Status;
 use build_pool::Gate;
@@ -21,7 +22,26 @@ use std::alloc::{AllocError, Global};
 use std::fmt::Write;
 use std::sync::Wait;
 use std::thread::Threads;
-use wire::{Bell, DoorsAsked, Ear, House, Sink, put_all};
+use wire::{Bell, Door, DoorsAsked, Ear, House, Sink, put_all};
+
+/// A board to serve, and the doors at which that is asked for.
+#[derive(Drop)]
+pub struct Opening {
+    /// The board.
+    pub board: Board,
+    /// The doors that are asked for.
+    pub doors: DoorsAsked,
+    /// How many threads build the board's versions.
+    pub workers: u32,
+}
+
+/// A board to serve, and the doors that a house gave for it.
+#[derive(Drop)]
+struct Opened<D: Door> {
+    board: Board,
+    doors: Vec<D>,
+    workers: u32,
+}
 
 /// Serves a board at doors of the house, side by side, and builds its versions beside them. What is put is a line
 /// before the first knock, and lines that tell the board's history when all is over. The doors are handed back by then.
@@ -32,66 +52,61 @@ use wire::{Bell, DoorsAsked, Ear, House, Sink, put_all};
 /// - `WriteFault` where the output did not take all. Without the first line no door is served.
 /// - `NoMemory` for want of memory.
 pub fn serve_on<H: House, O: Sink, B: Bell, E: Ear, G: Gate, R: Threads + Wait + Sync>(
-    rt: &R,
-    alloc: Global,
-    board: Board,
-    asked: DoorsAsked,
-    workers: u32,
+    means: &Means<R, B, G>,
+    opening: Opening,
     house: &mut H,
     out: &mut O,
-    bell: &B,
     ear: &mut E,
-    gate: &G,
 ) -> Status
-    requires some { 0 < asked.count }
-    requires few { asked.count ≤ MAX_DOORS }
-    requires workers { AreWorkers workers }
-    requires unedited { board.history ≡ [] }
+    requires some { 0 < opening.doors.count }
+    requires few { opening.doors.count ≤ MAX_DOORS }
+    requires workers { AreWorkers opening.workers }
+    requires unedited { opening.board.history ≡ [] }
     requires unasked { H.asked house.old ≡ [] }
     requires unlent { HasLentDoors (H.lent house.old) 0 }
     requires waiting { E.over ear.old ≡ false }
     ensures ends { ServeEnds H.Door H.Conn
         (doors_over H.Door.talks H.Door.closed H.Door.faults H.Door.port H.lent H.door_faults
         house.old house.new)
-        (ear_over E.rung E.over ear.old ear.new) board asked (O.bytes out.old) (O.bytes out.new)
-        result }
+        (ear_over E.rung E.over ear.old ear.new) opening.board opening.doors (O.bytes out.old)
+        (O.bytes out.new) result }
     ensures fault { result ≡ Status.ReadFault →
         Rose (H.door_faults house.old) (H.door_faults house.new) }
     ensures write { result ≡ Status.WriteFault → Rose (O.faults out.old) (O.faults out.new) }
-    ensures asked { H.asked house.new ≡ asked ∷ [] }
+    ensures asked { H.asked house.new ≡ opening.doors ∷ [] }
     ensures called { H.called house.new ≡ H.called house.old }
     ensures reads { H.read_faults house.new ≡ H.read_faults house.old }
     ensures writes { H.write_faults house.new ≡ H.write_faults house.old }
 {
-    match house.doors(alloc, asked.port, asked.count) {
-        Ok(doors) => serve_at(
-            rt, alloc, board, asked.port, doors, workers, house, out, bell, ear, gate,
-        ),
-        Err(error) => put_cause(alloc, out, Status::from(error)),
+    match house.doors(means.alloc, opening.doors.port, opening.doors.count) {
+        Ok(doors) => {
+            let opened = Opened {
+                board: opening.board,
+                doors,
+                workers: opening.workers,
+            };
+            serve_at(means, opened, opening.doors.port, house, out, ear)
+        }
+        Err(error) => put_cause(means.alloc, out, Status::from(error)),
     }
 }
 
 /// Serves a board at doors that a house gave at that port, and hands them back.
 fn serve_at<H: House, O: Sink, B: Bell, E: Ear, G: Gate, R: Threads + Wait + Sync>(
-    rt: &R,
-    alloc: Global,
-    board: Board,
+    means: &Means<R, B, G>,
+    opened: Opened<H::Door>,
     port: u16,
-    doors: Vec<H::Door>,
-    workers: u32,
     house: &mut H,
     out: &mut O,
-    bell: &B,
     ear: &mut E,
-    gate: &G,
 ) -> Status
-    requires { CanBeServed H.Door H.Conn H.Door.closed H.Door.faults board doors.items workers
-        (H.lent house.old) (E.over ear.old) }
+    requires { CanBeServed H.Door H.Conn H.Door.closed H.Door.faults opened.board
+        opened.doors.items opened.workers (H.lent house.old) (E.over ear.old) }
     ensures ends { EndsAt H.Door H.Conn
         (doors_over H.Door.talks H.Door.closed H.Door.faults H.Door.port H.lent H.door_faults
         house.old house.new)
-        (ear_over E.rung E.over ear.old ear.new) board doors.items port (O.bytes out.old)
-        (O.bytes out.new) result }
+        (ear_over E.rung E.over ear.old ear.new) opened.board opened.doors.items port
+        (O.bytes out.old) (O.bytes out.new) result }
     ensures fault { result ≡ Status.ReadFault →
         Rose (H.door_faults house.old) (H.door_faults house.new) }
     ensures write { result ≡ Status.WriteFault → Rose (O.faults out.old) (O.faults out.new) }
@@ -100,12 +115,10 @@ fn serve_at<H: House, O: Sink, B: Bell, E: Ear, G: Gate, R: Threads + Wait + Syn
     ensures reads { H.read_faults house.new ≡ H.read_faults house.old }
     ensures writes { H.write_faults house.new ≡ H.write_faults house.old }
 {
-    match begin(alloc, out, port) {
-        Ok(()) => serve_begun(
-            rt, alloc, board, doors, workers, house, out, bell, ear, gate,
-        ),
+    match begin(means.alloc, out, port) {
+        Ok(()) => serve_begun(means, opened, house, out, ear),
         Err(ended) => {
-            house.shut(doors);
+            house.shut(opened.doors);
             ended
         }
     }
@@ -113,24 +126,19 @@ fn serve_at<H: House, O: Sink, B: Bell, E: Ear, G: Gate, R: Threads + Wait + Syn
 
 /// The same, where the first line has been put.
 fn serve_begun<H: House, O: Sink, B: Bell, E: Ear, G: Gate, R: Threads + Wait + Sync>(
-    rt: &R,
-    alloc: Global,
-    board: Board,
-    doors: Vec<H::Door>,
-    workers: u32,
+    means: &Means<R, B, G>,
+    opened: Opened<H::Door>,
     house: &mut H,
     out: &mut O,
-    bell: &B,
     ear: &mut E,
-    gate: &G,
 ) -> Status
-    requires { CanBeServed H.Door H.Conn H.Door.closed H.Door.faults board doors.items workers
-        (H.lent house.old) (E.over ear.old) }
+    requires { CanBeServed H.Door H.Conn H.Door.closed H.Door.faults opened.board
+        opened.doors.items opened.workers (H.lent house.old) (E.over ear.old) }
     ensures ends { EndsBegun H.Door H.Conn
         (doors_over H.Door.talks H.Door.closed H.Door.faults H.Door.port H.lent H.door_faults
         house.old house.new)
-        (ear_over E.rung E.over ear.old ear.new) board doors.items (O.bytes out.old)
-        (O.bytes out.new) result }
+        (ear_over E.rung E.over ear.old ear.new) opened.board opened.doors.items
+        (O.bytes out.old) (O.bytes out.new) result }
     ensures fault { result ≡ Status.ReadFault →
         Rose (H.door_faults house.old) (H.door_faults house.new) }
     ensures write { result ≡ Status.WriteFault → Rose (O.faults out.old) (O.faults out.new) }
@@ -139,10 +147,19 @@ fn serve_begun<H: House, O: Sink, B: Bell, E: Ear, G: Gate, R: Threads + Wait + 
     ensures reads { H.read_faults house.new ≡ H.read_faults house.old }
     ensures writes { H.write_faults house.new ≡ H.write_faults house.old }
 {
-    match serve_board(rt, alloc, board, doors, bell, ear, workers, gate) {
+    match serve_board(
+        means.rt,
+        means.alloc,
+        opened.board,
+        opened.doors,
+        means.bell,
+        ear,
+        opened.workers,
+        means.gate,
+    ) {
         Ok(served) => {
             house.shut(served.doors);
-            put_closing(alloc, out, &served.board, served.failed)
+            put_closing(means.alloc, out, &served.board, served.failed)
         }
         Err(refused) => {
             house.shut(refused.doors);

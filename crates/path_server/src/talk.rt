@@ -7,15 +7,15 @@ ghost use Rattle.path_server.specs.Talks.{AsksBoard, HoldsTalk, TalkEnds, input_
 ghost use Rattle.path_server.specs.Words.{AreWorkers};
 
 use crate::database::first_board;
+use crate::means::Means;
 use crate::request::{Request, read_request};
 use crate::status::Status;
 use build_pool::Gate;
 use path_core::Board;
 use session::{Ended, Lone, SessionFault, serve_link};
-use std::alloc::Global;
 use std::sync::Wait;
 use std::thread::Threads;
-use wire::{Files, Link};
+use wire::{Bell, Files, Link};
 
 /// A board to hold a session on, and how many threads build its versions.
 #[derive(Drop)]
@@ -25,20 +25,18 @@ struct Begun {
 }
 
 /// Holds the session that the words ask for over the input, and says how it ended.
-pub fn talk<F: Files, L: Link, G: Gate, R: Threads + Wait + Sync>(
-    rt: &R,
-    alloc: Global,
+pub fn talk<F: Files, L: Link, B: Bell, G: Gate, R: Threads + Wait + Sync>(
+    means: &Means<R, B, G>,
     words: &[String],
     files: &mut F,
     input: &mut L,
-    gate: &G,
 ) -> Status
     requires { IsTalk words.now }
     ensures { TalkEnds (run_over words.now F.content F.faults files.old files.new)
         (input_over L.talk L.read_faults L.write_faults input.old input.new) result }
 {
-    match begin(rt, alloc, words, files, gate) {
-        Ok(begun) => match hold(rt, alloc, begun, input, gate) {
+    match begin(means, words, files) {
+        Ok(begun) => match hold(means, begun, input) {
             Ok(_) => Status::Done,
             Err(fault) => Status::from(fault),
         },
@@ -51,12 +49,10 @@ pub fn talk<F: Files, L: Link, G: Gate, R: Threads + Wait + Sync>(
 /// # Errors
 ///
 /// Those of `serve_link`.
-fn hold<L: Link, G: Gate, R: Threads + Wait + Sync>(
-    rt: &R,
-    alloc: Global,
+fn hold<L: Link, B: Bell, G: Gate, R: Threads + Wait + Sync>(
+    means: &Means<R, B, G>,
     begun: Begun,
     input: &mut L,
-    gate: &G,
 ) -> Result<Ended, SessionFault>
     requires { AreWorkers begun.workers }
     ensures talk { HoldsTalk begun.board
@@ -69,19 +65,24 @@ fn hold<L: Link, G: Gate, R: Threads + Wait + Sync>(
         board: begun.board,
         pass: 0,
     };
-    let ended = serve_link(rt, alloc, &mut desk, input, begun.workers, gate);
+    let ended = serve_link(
+        means.rt,
+        means.alloc,
+        &mut desk,
+        input,
+        begun.workers,
+        means.gate,
+    );
     // That the history is legal is known from here.
     let _entries = desk.board.entries();
     ended
 }
 
 /// The board that the words ask for.
-fn begin<F: Files, G: Gate, R: Threads + Sync>(
-    rt: &R,
-    alloc: Global,
+fn begin<F: Files, B: Bell, G: Gate, R: Threads + Sync>(
+    means: &Means<R, B, G>,
     words: &[String],
     files: &mut F,
-    gate: &G,
 ) -> Result<Begun, Status>
     requires { IsTalk words.now }
     ensures board { IfOk result (λ begun. AsksBoard
@@ -90,12 +91,12 @@ fn begin<F: Files, G: Gate, R: Threads + Sync>(
     ensures refused { IfErr result
         (IsCause (run_over words.now F.content F.faults files.old files.new)) }
 {
-    let request = read_request(alloc, words)?;
+    let request = read_request(means.alloc, words)?;
     let Request::Talk { map, room, build } = request else {
         unreachable!()
     };
     Ok(Begun {
-        board: first_board(rt, alloc, files, map, room, build, gate)?,
+        board: first_board(means, files, map, room, build)?,
         workers: build.workers,
     })
 }

@@ -1,0 +1,16 @@
+//! What a run works with.
+
+use std::alloc::Global;
+
+/// The means of a run, which are the same from its start to its end.
+#[derive(Drop)]
+pub struct Means<'a, R, B, G> {
+    /// The runtime whose threads build versions and serve doors.
+    pub rt: &'a R,
+    /// The memory.
+    pub alloc: Global,
+    /// The bell that is rung where there is something to build.
+    pub bell: &'a B,
+    /// The gate that each piece of a build passes.
+    pub gate: &'a G,
+}
