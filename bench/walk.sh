@@ -11,4 +11,4 @@ while read -r kind side walks; do
         doubled "$walks" $((walks * moves)) "${commands[@]}" |
             report "a move, $kind, $order, $((moves / 256)) moves a walk" ns C++ "near"
     done
-done < <(xargs -n 3 <<<"open 95 300 blocked25 110 300 rooms 100 300 maze2 117 300")
+done < <(xargs -n 3 <<<"open 95 3000 blocked25 110 2000 rooms 100 2000 maze2 117 600")

@@ -138,9 +138,8 @@ impl CompData {
         Move::of(number).unwrap_or_default()
     }
 
-    /// The same move, sought from a guess on at the run that covers the cell: any guess will do, and the nearer it is the
-    /// fewer runs are read. Then it is the number of the run that was found, which is a good guess for a cell beside the
-    /// source.
+    /// The same move, sought run by run from a guess on, which is the number of the run that was found afterwards. Any
+    /// guess will do, and the nearer it is the fewer runs are read: what was found is a good one for a cell beside this.
     pub fn first_move_near(&self, from: u32, to: u32, guess: &mut usize) -> Move
         requires from { from < length self.now.cells }
         requires to { to < length self.now.cells }

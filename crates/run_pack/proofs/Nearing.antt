@@ -1,8 +1,8 @@
 -- A run that is sought from a guess on.
-use Rattle.std.proofs.Common.{◌≡◌, ℕ, zero, suc, ◌+◌, ◌-◌, ◌/◌, ◌<◌, ◌≤◌, List, length, map, get_or, arith, ap, sym, ◌∙◌, inl, inr}
+use Rattle.std.proofs.Common.{◌≡◌, ℕ, ◌+◌, ◌-◌, ◌<◌, ◌≤◌, List, length, map, get_or, arith, ap, sym, ◌∙◌, inl, inr}
 use Rattle.std.proofs.lemmas.List.{get_or-map, length-map}
 use Rattle.run_pack.specs.declared.Run.{Run}
-use Rattle.run_pack.specs.Runs.{start_at, move_at, no_run, run_of_word, Rises, IsLastUpTo, IsMoveFor}
+use Rattle.run_pack.specs.Runs.{start_at, no_run, run_of_word, Rises, IsLastUpTo, IsMoveFor}
 use Rattle.std.proofs.lemmas.Bool.{cases_lt}
 use Rattle.run_pack.proofs.RowLemmas.{start_at-le}
 

@@ -5,8 +5,8 @@ ghost use Rattle.run_pack.specs.Runs.{IsFound, IsLastUpTo, Rises, run_of_word, s
 
 use crate::run_of;
 
-/// `find_word` from a guess on: the run that covers the place is sought run by run from there. Any guess will do, and the
-/// nearer it is the fewer runs are read. Then it is the number of the run that was found.
+/// The same move as that of `find_word`, sought run by run from a guess on, which is the number of the run that was
+/// found afterwards. Any guess will do, and the nearer it is the fewer runs are read.
 pub fn find_word_near(words: &[u32], place: u32, guess: &mut usize) -> u8
     requires { Rises (map run_of_word words.now) }
     ensures found { IsFound (map run_of_word words.now) place result }

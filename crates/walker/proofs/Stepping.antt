@@ -1,5 +1,5 @@
 -- One step of a walk.
-use Rattle.std.proofs.Common.{◌≡◌, ◌≢◌, ℕ, ◌<◌, List, [], ◌∷◌, length, Option, Some, None, IfNone, refl, sym, ap, subst, ◌∙◌, inl, inr, arith}
+use Rattle.std.proofs.Common.{◌≡◌, ◌≢◌, ℕ, List, [], ◌∷◌, Option, Some, None, IfNone, refl, sym, ap, subst, ◌∙◌}
 use Rattle.std.specs.List.{Contains}
 use Rattle.std.specs.Option.{IsSome}
 use Rattle.moves.specs.declared.Cell.{Cell}
@@ -7,7 +7,7 @@ use Rattle.moves.specs.declared.Move.{Move}
 use Rattle.moves.specs.Moves.{IsTarget}
 use Rattle.moves.specs.FirstSetLists.{cell_of}
 use Rattle.moves.proofs.MoveLaws.{same_target}
-use Rattle.row_store.specs.Comps.{Comp, IsComp, IsPlaceOf, IsMoveOfRow, BeginsBestPath}
+use Rattle.row_store.specs.Comps.{Comp, IsPlaceOf, IsMoveOfRow, BeginsBestPath}
 use Rattle.versions.specs.Spelled.{IsKept, Spells}
 use Rattle.versions.proofs.BestWalks.{kept_once, at_one_place}
 use Rattle.walker.specs.Walks.{Walking, IsUnderWay, IsAhead, Advances}

@@ -1,7 +1,7 @@
-use Rattle.std.proofs.Common.{◌≡◌, ◌+◌, ◌<◌, ◌∙◌, Some, None, subst, sym, ap, arith}
+use Rattle.std.proofs.Common.{◌+◌, ◌∙◌, subst, sym, ap, arith}
 use Rattle.root_cost.specs.Costs.{plus_step}
 use Rattle.walker.specs.Walks.{Advances}
-use Rattle.walker.proofs.Measuring.{IsMeasured, measured_none, measured_more, measured_all, turns_to_come}
+use Rattle.walker.proofs.Measuring.{IsMeasured, measured_none, measured_more, measured_all}
 use Rattle.walker.proofs.cost_ahead.Goals as goal
 
 pub loop-init : goal.loop-init

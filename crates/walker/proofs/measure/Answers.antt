@@ -1,4 +1,4 @@
-use Rattle.std.proofs.Common.{◌≡◌, MatchOption, subst, sym}
+use Rattle.std.proofs.Common.{MatchOption, subst}
 use Rattle.moves.specs.Paths.{Reaches}
 use Rattle.walker.specs.Walks.{BeginsWalk}
 use Rattle.walker.proofs.measure.Goals as goal

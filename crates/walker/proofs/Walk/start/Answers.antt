@@ -1,4 +1,4 @@
-use Rattle.std.proofs.Common.{◌≡◌, IfSome, subst, sym, ◌∙◌, refl}
+use Rattle.std.proofs.Common.{IfSome, subst, sym, refl}
 use Rattle.row_store.specs.Comps.{IsPlaceOf}
 use Rattle.versions.specs.Spelled.{Spells}
 use Rattle.versions.proofs.Homes.{walk_at_home, few_moves}

@@ -1,4 +1,4 @@
-use Rattle.std.proofs.Common.{rules, ◌≡◌, ◌≢◌, ◌<◌, Contains, Some, None, length, ℕ, subst, sym, refl, ap, ◌∙◌, arith}
+use Rattle.std.proofs.Common.{Contains, Some, None, subst}
 use Rattle.walker.specs.Walks.{Advances}
 use Rattle.moves.specs.FirstSetLists.{cell_of}
 use Rattle.moves.proofs.MoveLaws.{same_target}

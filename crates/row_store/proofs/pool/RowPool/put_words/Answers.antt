@@ -1,4 +1,4 @@
-use Rattle.std.proofs.Common.{◌≡◌, ◌+◌, ◌^◌, ◌<◌, ◌++◌, length, ap, ◌∙◌, arith, rules}
+use Rattle.std.proofs.Common.{length, ap, arith, rules}
 use Rattle.std.proofs.lemmas.List.{length-append}
 use Rattle.row_store.proofs.Spans.{few_words, row_has_span, spans_put, rows_put}
 use Rattle.row_store.proofs.pool.RowPool.put_words.Goals as goal
