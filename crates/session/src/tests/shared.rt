@@ -7,7 +7,7 @@ ghost use Rattle.path_board.specs.SharedBoards.{board_id};
 
 use super::{change, opened};
 use crate::answer;
-use crate::crews::seated;
+use crate::crews::{Site, seated};
 use build_pool::FreeGate;
 use edit_log::{CellChange, Edit};
 use moves::Cell;
@@ -32,7 +32,11 @@ fn publish_first<R: Threads + Wait + Sync + Abort>(
     requires { IsPassOf (board_id board.now) pass }
     ensures { SamePass pass result }
 {
-    let mut seat = seated(board, &StillBell, pass);
+    let site = Site {
+        board,
+        bell: &StillBell,
+    };
+    let mut seat = seated(&site, pass);
     let changed = answer(rt, alloc, &mut seat, change(0, false), 1, &FreeGate);
     assert_eq!(rt; changed.reply, Reply::Accepted { number: 1 });
     let published = Reply::Published {
