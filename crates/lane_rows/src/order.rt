@@ -1,9 +1,10 @@
-//! An order of visits: that of a search from one place, in which a straight step leads two levels on and a diagonal one
+//! An order of visits: that of a search from some places, in which a straight step leads two levels on and a diagonal one
 //! three. Nothing is believed of it, so a place keeps the level at which it was met first.
 
 ghost use Rattle.std.specs.Prelude.{◌≡◌, ◌+◌, ◌<◌, All, length};
 ghost use Rattle.lane_rows.specs.Tables.{IsMutual};
 
+use crate::tiles::LANES;
 use std::alloc::{AllocError, Global};
 use std::mem;
 
@@ -61,15 +62,18 @@ impl Levels {
         })
     }
 
-    /// Begins with one place.
-    fn start(&mut self, first: u16) {
-        if let Some(place) = self.current.places.first_mut() {
-            *place = first;
-        }
-        self.current.count = 1;
+    /// Begins with these places, each once.
+    fn start(&mut self, first: &[u16], met: &mut [bool])
+        requires { All (λ place. place < length met.old) first.now }
+    {
+        self.current.count = 0;
         self.next.count = 0;
         self.second.count = 0;
         self.third.count = 0;
+        for place in first {
+            // (met again, it adds nothing)
+            self.current.meet([*place; 4], met);
+        }
     }
 
     /// Goes on to the next level. `false` where no place is left.
@@ -82,31 +86,73 @@ impl Levels {
     }
 }
 
-/// Writes into `order` the places in the order in which a search from the first of them visits them.
+/// Writes into `order` all places in the order in which a search from the first of them visits them.
 pub(crate) fn search(
     near: &[[u16; 8]],
-    first: u16,
+    first: &[u16],
     met: &mut [bool],
     levels: &mut Levels,
     order: &mut Vec<u16>,
 )
     requires near { IsMutual near.now }
     requires met { length met.old ≡ length near.now + 1 }
+    requires first { All (λ place. place < length met.old) first.now }
 {
-    order.clear();
-    met.fill(false);
-    met[near.len()] = true;
-    if usize::from(first) >= near.len() {
-        return;
-    }
-    met[usize::from(first)] = true;
-    levels.start(first);
+    begin(first, met, levels, order);
     for _ in 0..u32::MAX {
         visit(near, met, levels, order);
         if !levels.turn() {
             return;
         }
     }
+}
+
+/// Writes into `order` the places that a search from one of them visits until it has met as many wanted ones as a tile
+/// has sources, or all.
+pub(crate) fn search_for(
+    near: &[[u16; 8]],
+    first: u16,
+    wanted: &[bool],
+    met: &mut [bool],
+    levels: &mut Levels,
+    order: &mut Vec<u16>,
+)
+    requires near { IsMutual near.now }
+    requires met { length met.old ≡ length near.now + 1 }
+    requires first { first < length met.old }
+{
+    begin(&[first], met, levels, order);
+    let mut found: usize = 0;
+    for _ in 0..u32::MAX {
+        let seen = order.len();
+        visit(near, met, levels, order);
+        found = found.wrapping_add(wanted_from(order, seen, wanted));
+        if found >= LANES || !levels.turn() {
+            return;
+        }
+    }
+}
+
+/// Nothing is met but the first places.
+fn begin(first: &[u16], met: &mut [bool], levels: &mut Levels, order: &mut Vec<u16>)
+    requires { All (λ place. place < length met.old) first.now }
+{
+    order.clear();
+    met.fill(false);
+    if let Some(nowhere) = met.last_mut() {
+        *nowhere = true;
+    }
+    levels.start(first, met);
+}
+
+/// How many places of an order are wanted, from one on.
+fn wanted_from(order: &[u16], seen: usize, wanted: &[bool]) -> usize {
+    let mut count: usize = 0;
+    for place in order.iter().skip(seen) {
+        let is_wanted = wanted.get(usize::from(*place)).copied().unwrap_or(false);
+        count = count.wrapping_add(usize::from(is_wanted));
+    }
+    count
 }
 
 /// Visits the places of the level at hand.

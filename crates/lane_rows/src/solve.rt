@@ -10,32 +10,45 @@ use crate::sweeps::{lower, lower_back, sweep, sweep_back};
 use root_cost::GREATEST_KEY;
 use std::simd::prelude::*;
 
-/// How many of the nearest places at least are settled before the others.
-const NEAREST: usize = 240;
+/// How many of the nearest places at least come before the others. It is more where the sources reach over more.
+const NEAREST: usize = 120;
 
-/// How many are, for each place over which the sources reach.
-const NEAREST_EACH: usize = 6;
-
-/// How often they are gone over, forth and back.
+/// How often their keys are lowered, forth and back, before all others.
 const ROUNDS: u32 = 3;
 
-/// The order in which places are visited, which of them come first, and how often at most all are.
+/// How often at most some places are gone over, forth and back, until few of them wait.
+const SETTLING: u32 = 6;
+
+/// Few of some places are fewer than one in so many.
+const FEW: usize = 4;
+
+/// How many times as many places as before are settled next.
+const GROWTH: usize = 4;
+
+/// How often at most there are more places to settle: enough for all, even from one on.
+const GROWINGS: u32 = 8;
+
+/// The order in which places are visited, how many of them come first, and how often at most all are visited.
 #[derive(Clone, Copy, Drop)]
 pub(crate) struct Plan<'a> {
-    nearest: &'a [u16],
     order: &'a [u16],
+    nearest: usize,
     sweeps: u32,
 }
 
 impl<'a> Plan<'a> {
-    /// A plan for sources that reach over so many places of the order.
+    /// A plan for sources that reach over so many places.
     pub(crate) fn new(order: &'a [u16], reach: usize, sweeps: u32) -> Plan<'a> {
-        let nearest = NEAREST.max(reach.saturating_mul(NEAREST_EACH));
         Plan {
-            nearest: &order[..order.len().min(nearest)],
             order,
+            nearest: NEAREST.max(reach),
             sweeps,
         }
+    }
+
+    /// The first so many places, or all.
+    fn first(self, count: usize) -> &'a [u16] {
+        &self.order[..self.order.len().min(count)]
     }
 }
 
@@ -72,14 +85,15 @@ fn find_keys(near: &[[u16; 8]], sources: u32x16, plan: Plan, keys: &mut [u32x16]
     ensures last { (lane : ℕ) → lane < 16
         → lane_of keys.new lane (length near.now) ≡ lane_of keys.old lane (length near.now) }
 {
+    let nearest = plan.first(plan.nearest);
     for _ in 0..ROUNDS {
-        lower(near, sources, plan.nearest, keys);
-        lower_back(near, sources, plan.nearest, keys);
+        lower(near, sources, nearest, keys);
+        lower_back(near, sources, nearest, keys);
     }
     lower(near, sources, plan.order, keys);
 }
 
-/// Visits the nearest places forth and back, and then all along the order.
+/// Settles the nearest places, then ever more of them, and visits all along the order.
 fn find_sets(
     near: &[[u16; 8]],
     sources: u32x16,
@@ -93,11 +107,38 @@ fn find_sets(
     requires range { AreInRange keys.old }
     ensures { IsSwept near.now sources keys.old sets.old waits.old keys.new sets.new waits.new }
 {
-    for _ in 0..ROUNDS {
-        sweep(near, sources, plan.nearest, keys, sets, waits);
-        sweep_back(near, sources, plan.nearest, keys, sets, waits);
+    let mut count = plan.nearest;
+    for _ in 0..GROWINGS {
+        if count > plan.order.len() / 2 {
+            break;
+        }
+        settle(near, sources, plan.first(count), keys, sets, waits);
+        count = count.saturating_mul(GROWTH);
     }
     sweep(near, sources, plan.order, keys, sets, waits);
+}
+
+/// Visits these places forth and back until few of them wait.
+fn settle(
+    near: &[[u16; 8]],
+    sources: u32x16,
+    places: &[u16],
+    keys: &mut [u32x16],
+    sets: &mut [u8x16],
+    waits: &mut [u8],
+)
+    requires near { IsMutual near.now }
+    requires rows { HasRows near.now keys.old sets.old waits.old }
+    requires range { AreInRange keys.old }
+    ensures { IsSwept near.now sources keys.old sets.old waits.old keys.new sets.new waits.new }
+{
+    for _ in 0..SETTLING {
+        let forth = sweep(near, sources, places, keys, sets, waits);
+        let back = sweep_back(near, sources, places, keys, sets, waits);
+        if forth.wrapping_add(back) < places.len() / FEW {
+            return;
+        }
+    }
 }
 
 /// Visits what waits, back and forth, until nothing does or it has been tried so often.

@@ -103,7 +103,7 @@ pub(crate) fn lower(near: &[[u16; 8]], sources: u32x16, order: &[u16], keys: &mu
     }
 }
 
-/// Visits a place, where it is one and waits.
+/// Visits a place, where it is one and waits, and says whether it did.
 #[inline(always)]
 fn visit_waiting(
     near: &[[u16; 8]],
@@ -112,7 +112,7 @@ fn visit_waiting(
     keys: &mut [u32x16],
     sets: &mut [u8x16],
     waits: &mut [u8],
-)
+) -> bool
     requires near { IsMutual near.now }
     requires rows { HasRows near.now keys.old sets.old waits.old }
     requires range { AreInRange keys.old }
@@ -122,10 +122,12 @@ fn visit_waiting(
         && waits[usize::from(place)] != 0
     {
         visit(edges, sources, place, keys, sets, waits);
+        return true;
     }
+    false
 }
 
-/// Visits those of these places that wait, one after the other.
+/// Visits those of these places that wait, one after the other, and says how many did.
 pub(crate) fn sweep(
     near: &[[u16; 8]],
     sources: u32x16,
@@ -133,15 +135,18 @@ pub(crate) fn sweep(
     keys: &mut [u32x16],
     sets: &mut [u8x16],
     waits: &mut [u8],
-)
+) -> usize
     requires near { IsMutual near.now }
     requires rows { HasRows near.now keys.old sets.old waits.old }
     requires range { AreInRange keys.old }
     ensures { IsSwept near.now sources keys.old sets.old waits.old keys.new sets.new waits.new }
 {
+    let mut visited: usize = 0;
     for place in order {
-        visit_waiting(near, sources, *place, keys, sets, waits);
+        let did_wait = visit_waiting(near, sources, *place, keys, sets, waits);
+        visited = visited.wrapping_add(usize::from(did_wait));
     }
+    visited
 }
 
 /// Lowers the keys of these places, the last first.
@@ -160,7 +165,7 @@ pub(crate) fn lower_back(near: &[[u16; 8]], sources: u32x16, order: &[u16], keys
     }
 }
 
-/// Visits those of these places that wait, the last first.
+/// Visits those of these places that wait, the last first, and says how many did.
 pub(crate) fn sweep_back(
     near: &[[u16; 8]],
     sources: u32x16,
@@ -168,13 +173,16 @@ pub(crate) fn sweep_back(
     keys: &mut [u32x16],
     sets: &mut [u8x16],
     waits: &mut [u8],
-)
+) -> usize
     requires near { IsMutual near.now }
     requires rows { HasRows near.now keys.old sets.old waits.old }
     requires range { AreInRange keys.old }
     ensures { IsSwept near.now sources keys.old sets.old waits.old keys.new sets.new waits.new }
 {
+    let mut visited: usize = 0;
     for place in order.iter().rev() {
-        visit_waiting(near, sources, *place, keys, sets, waits);
+        let did_wait = visit_waiting(near, sources, *place, keys, sets, waits);
+        visited = visited.wrapping_add(usize::from(did_wait));
     }
+    visited
 }

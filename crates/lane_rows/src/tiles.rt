@@ -12,7 +12,7 @@ ghost use Rattle.lane_rows.specs.Packed.{HavePackedRows, words_in};
 use crate::Near;
 use crate::kernels::FULL;
 use crate::lane_words::LaneWords;
-use crate::order::{Levels, search};
+use crate::order::{Levels, search, search_for};
 use crate::packing::pack_lanes;
 use crate::solve::{Plan, solve};
 use std::alloc::{AllocError, Global};
@@ -82,16 +82,25 @@ impl Tiles {
             → slice_index self.new.sources lane < self.new.count }
         ensures taken { AreTaken wanted.old wanted.new (take result self.new.sources) }
     {
-        search(
+        let met = self.met.as_mut_slice();
+        search_for(
             near.table(),
             first,
-            self.met.as_mut_slice(),
+            wanted,
+            met,
             &mut self.levels,
             &mut self.order,
         );
         let (sources, count) = take_nearest(first, &self.order, wanted);
-        self.sources = sources;
         self.reach = reach_of(&self.order, sources[count - 1]);
+        search(
+            near.table(),
+            &sources,
+            met,
+            &mut self.levels,
+            &mut self.order,
+        );
+        self.sources = sources;
         count
     }
 
@@ -183,7 +192,7 @@ fn lanes_of(sources: [u16; 16]) -> u32x16
     u32x16::from_array(lanes)
 }
 
-/// How many places of an order come before the last source.
+/// How many places of an order come before the last source that was taken.
 fn reach_of(order: &[u16], last: u16) -> usize {
     order.iter().position(|place| *place == last).unwrap_or(0)
 }

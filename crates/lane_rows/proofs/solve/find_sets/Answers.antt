@@ -5,8 +5,7 @@ pub loop-init : goal.loop-init
 loop-init c = swept_none _ _ _ _ _ c.requires.range
 
 pub loop-preserved : goal.loop-preserved
-loop-preserved c =
-    swept_on _ _ _ _ _ _ _ _ _ _ _ c.loop.invariant (swept_on _ _ _ _ _ _ _ _ _ _ _ c.sweep.ensures c.sweep_back.ensures)
+loop-preserved c = swept_on _ _ _ _ _ _ _ _ _ _ _ c.loop.invariant c.settle.ensures
 
 pub returns : goal.returns
-returns c = swept_on _ _ _ _ _ _ _ _ _ _ _ c.loop.invariant c.sweep-2.ensures
+returns c = swept_on _ _ _ _ _ _ _ _ _ _ _ c.loop.invariant c.sweep.ensures

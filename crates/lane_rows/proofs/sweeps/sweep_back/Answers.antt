@@ -5,4 +5,4 @@ pub loop-place-init : goal.loop-place-init
 loop-place-init c = swept_none _ _ _ _ _ c.requires.range
 
 pub loop-place-preserved : goal.loop-place-preserved
-loop-place-preserved c = swept_on _ _ _ _ _ _ _ _ _ _ _ c.loop-place.invariant c.visit_waiting.ensures
+loop-place-preserved c = swept_on _ _ _ _ _ _ _ _ _ _ _ c.loop-place.invariant c.visit_waiting-did_wait.ensures
