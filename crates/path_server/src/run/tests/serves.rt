@@ -191,23 +191,33 @@ fn has_served_nobody(house: &MemHouse, count: usize) -> bool {
             .all(|door| door.ended().is_empty())
 }
 
-/// Judges how a run over a house ends, and what it puts. The puts with these numbers fail.
+/// How a run ends: its status, and the lines that it puts.
+#[derive(Clone, Copy)]
+struct End {
+    status: Status,
+    text: &'static str,
+}
+
+/// Judges how a run over a house ends. The puts with these numbers fail.
 fn ends<R: Threads + Wait + Sync + Abort>(
     rt: &R,
     alloc: Global,
     line: &str,
     house: &mut MemHouse,
     put_fails: &[u64],
-    status: Status,
-    text: &str,
+    end: End,
 ) -> Result<(), Fail>
     requires asked { house.old.asked ≡ [] }
     requires called { house.old.called ≡ None }
     requires lent { house.old.lent ≡ no_lendings }
 {
     let (ended, out) = run_over(rt, alloc, line, house, put_fails)?;
-    assert_eq!(rt; ended, status, "{line}");
-    assert_eq!(rt; out.bytes(), lines_of(alloc, text)?.as_slice(), "{line}");
+    assert_eq!(rt; ended, end.status, "{line}");
+    assert_eq!(rt;
+        out.bytes(),
+        lines_of(alloc, end.text)?.as_slice(),
+        "{line}"
+    );
     Ok(())
 }
 
@@ -223,8 +233,10 @@ fn no_doors_are_given(rt: HostRuntime) -> Result<(), Fail> {
             line,
             &mut house,
             &[],
-            Status::ReadFault,
-            "read fault;",
+            End {
+                status: Status::ReadFault,
+                text: "read fault;",
+            },
         )?;
         assert!(rt; house.door_fault_count() == 1 && has_served_nobody(&house, 0));
     }
@@ -241,8 +253,10 @@ fn no_door_is_served_where_the_first_line_fails(rt: HostRuntime) -> Result<(), F
         "serve M 4000 2",
         &mut house,
         &[2],
-        Status::WriteFault,
-        "serving",
+        End {
+            status: Status::WriteFault,
+            text: "serving",
+        },
     )?;
     assert!(rt; has_served_nobody(&house, 2));
     Ok(())
@@ -259,8 +273,10 @@ fn a_knock_fails(rt: HostRuntime) -> Result<(), Fail> {
         "serve M 4000 1",
         &mut house,
         &[],
-        Status::ReadFault,
-        text,
+        End {
+            status: Status::ReadFault,
+            text,
+        },
     )?;
     assert!(rt; house.door_fault_count() == 1 && has_served_nobody(&house, 1));
     Ok(())
@@ -276,8 +292,10 @@ fn a_house_is_left_alone_where_there_is_no_map(rt: HostRuntime) -> Result<(), Fa
         "serve N 4000 1",
         &mut house,
         &[],
-        Status::ReadFault,
-        "read fault;",
+        End {
+            status: Status::ReadFault,
+            text: "read fault;",
+        },
     )?;
     assert!(rt; house.asked().is_empty());
     Ok(())
@@ -300,8 +318,10 @@ fn two_doors_are_served(rt: HostRuntime) -> Result<(), Fail> {
         "serve M 4000 2",
         &mut house,
         &[],
-        Status::Done,
-        text,
+        End {
+            status: Status::Done,
+            text,
+        },
     )?;
     let built = "00 00 00 05 84 00 00 00 01 00 00 00 0D 86 00 00 00 01 00 00 00 02 00 00 00 00";
     let replies = [bytes_of(alloc, built)?, bytes_of(alloc, "00 00 00 01 8A")?];
