@@ -46,17 +46,21 @@ impl Cell {
         requires some { (to : Cell) × IsTarget self by to }
         ensures { IsTarget self by result }
     {
-        let x = match by {
-            Move::N | Move::S => self.x,
-            Move::NE | Move::E | Move::SE => self.x + 1,
-            Move::SW | Move::W | Move::NW => self.x - 1,
+        // Each is one more than what the move adds, so that no number on the way is below zero.
+        let right = match by {
+            Move::SW | Move::W | Move::NW => 0,
+            Move::N | Move::S => 1,
+            Move::NE | Move::E | Move::SE => 2,
         };
-        let y = match by {
-            Move::E | Move::W => self.y,
-            Move::SE | Move::S | Move::SW => self.y + 1,
-            Move::N | Move::NE | Move::NW => self.y - 1,
+        let down = match by {
+            Move::N | Move::NE | Move::NW => 0,
+            Move::E | Move::W => 1,
+            Move::SE | Move::S | Move::SW => 2,
         };
-        Cell { x, y }
+        Cell {
+            x: self.x + right - 1,
+            y: self.y + down - 1,
+        }
     }
 }
 
