@@ -1,8 +1,8 @@
 -- The places of cells in their bounds.
 use Rattle.std.proofs.Common.{◌≡◌, ◌≢◌, ℕ, ◌+◌, ◌*◌, ◌<◌, ◌⊎◌, List, length, get_or, slice_index, set, replicate, All, sym, ap, ◌∙◌, inl, inr, arith}
-use Rattle.std.specs.List.{AllPairs}
+use Rattle.std.specs.List.{AllPairs, Contains}
 use Rattle.std.proofs.lemmas.Bool.{cases_lt, cases_eq}
-use Rattle.std.proofs.lemmas.List.{get_or-set_same, get_or-set_other, length-set, get_or-replicate, length-replicate}
+use Rattle.std.proofs.lemmas.List.{get_or_default, get_or-set_same, get_or-set_other, length-set, get_or-replicate, length-replicate}
 use Rattle.moves.specs.declared.Cell.{Cell}
 use Rattle.moves.specs.FirstSetLists.{cell_of}
 use Rattle.moves.specs.Rectangles.{Rectangle, IsWithin, place_in}
@@ -28,6 +28,14 @@ place_of_cell cells area places cell number p within is some =
             there = same_place area (cell_of cells number) cell (p.within number nowhere inside) within there;
           }
     ]
+
+-- the number at the place of one of the cells is that cell's
+pub place_of_contained : (cells : List Cell) (area : Rectangle) (places : List ℕ) (cell : Cell) (number : ℕ) → ArePlaces cells area places → Contains cells cell
+    → number ≡ slice_index places (place_in area cell) → IsPlaceOf cells cell number
+place_of_contained cells area places cell number p inside is =
+    let here : cell_of cells inside.0 ≡ cell = get_or_default cells inside.0 nowhere cell inside.1 ∙ inside.2 in
+    let at : number ≡ inside.0 = is ∙ ap (λ c. slice_index places (place_in area c)) (sym here) ∙ p.found inside.0 inside.1 in
+    rw at (record { within = inside.1; there = here })
 
 -- the cells before a place have their numbers
 pub record AreNumbered (cells : List Cell) (area : Rectangle) (places : List ℕ) (upto : ℕ) : Type 0 where

@@ -122,6 +122,14 @@ impl CompData {
         }
     }
 
+    /// The place of one of the cells. [`CompData::index`] asks whether the cell is one.
+    pub fn place_of(&self, cell: Cell) -> u32
+        requires { Contains self.now.cells cell }
+        ensures { IsPlaceOf self.now.cells cell result }
+    {
+        u32::from(self.places[self.bounds.place(cell)])
+    }
+
     /// The first move from the cell at one place to the cell at another, read from the row of the first.
     ///
     /// It takes at most s probes of a row of n runs, where 2^s ≤ 2n + 1.

@@ -231,7 +231,7 @@ fn move_in<L: Ledger>(comp: &CompData, start: Cell, goal: Cell, steps: &mut Step
     ensures few { HasFewProbesIn comp.now (steps.new - steps.old) }
     ensures counted { steps.old ≤ steps.new }
 {
-    let from = comp.index(start).unwrap();
-    let to = comp.index(goal).unwrap();
+    let from = comp.place_of(start);
+    let to = comp.place_of(goal);
     comp.first_move(from, to, steps)
 }

@@ -60,8 +60,8 @@ impl<'a> Walk<'a> {
         match version.home(start, goal) {
             None => Ok(None),
             Some(comp) => {
-                let place = comp.index(start).unwrap();
-                let goal = comp.index(goal).unwrap();
+                let place = comp.place_of(start);
+                let goal = comp.place_of(goal);
                 Ok(Some(Walk {
                     comp,
                     at: start,
@@ -85,7 +85,7 @@ impl<'a> Walk<'a> {
             .comp
             .first_move_near(self.place, self.goal, &mut self.run);
         self.at = self.at.target(by);
-        self.place = self.comp.index(self.at).unwrap();
+        self.place = self.comp.place_of(self.at);
         Some(by)
     }
 
