@@ -7,7 +7,7 @@ use Rattle.walker.proofs.Walk.start.Goals as goal
 pub returns-in-Some-clause-walk : goal.returns-in-Some-clause-walk
 returns-in-Some-clause-walk c =
     let comp = c.in-Some.comp.now in
-    let place = subst (λ r. IfSome r (IsPlaceOf comp.cells c.args.goal)) c.unwrap-goal.ensures c.index-in-Some.ensures.some in
+    let place = c.place_of-goal.ensures in
     let walk = walk_at_home _ _ _ c.grid.ensures.version.database c.args.start c.args.goal comp c.in-Some.ensures.some in
     record {
       from = refl;
