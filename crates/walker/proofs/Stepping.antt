@@ -1,7 +1,6 @@
 -- One step of a walk.
-use Rattle.std.proofs.Common.{◌≡◌, ◌≢◌, ℕ, List, [], ◌∷◌, Option, Some, None, IfNone, refl, sym, ap, subst, ◌∙◌}
+use Rattle.std.proofs.Common.{◌≡◌, ◌≢◌, ℕ, List, [], ◌∷◌, Some, None, refl, sym, ap, subst, ◌∙◌}
 use Rattle.std.specs.List.{Contains}
-use Rattle.std.specs.Option.{IsSome}
 use Rattle.moves.specs.declared.Cell.{Cell}
 use Rattle.moves.specs.declared.Move.{Move}
 use Rattle.moves.specs.Moves.{IsTarget}
@@ -61,8 +60,3 @@ module _ (comp : Comp) (at : Cell) (place goal : ℕ) (p : IsUnderWay comp at pl
           let same = kept_once comp.cells comp.rows p.whole.rows p.whole.once at (cell_of comp.cells goal) first move spelled.1 kept in
           let next = same_target at move spelled.2 to (subst (λ m. IsTarget at m spelled.2) same spelled.3) target in
           (rest, ap (λ m. m ∷ rest) same, subst (λ c. Spells comp.cells comp.rows c rest (cell_of comp.cells goal)) next spelled.4)
-
--- what is not absent is there
-pub some_if_not_none : {X : Type 0} {A : Type 0} (found : Option X) → IfNone found (A → ⊥) → A → IsSome found
-some_if_not_none None none a = absurd (none a)
-some_if_not_none (Some x) none a = refl

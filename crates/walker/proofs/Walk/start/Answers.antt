@@ -1,5 +1,4 @@
-use Rattle.std.proofs.Common.{IfSome, subst, sym, refl}
-use Rattle.row_store.specs.Comps.{IsPlaceOf}
+use Rattle.std.proofs.Common.{subst, sym, refl}
 use Rattle.versions.specs.Spelled.{Spells}
 use Rattle.versions.proofs.Homes.{walk_at_home, few_moves}
 use Rattle.walker.proofs.Walk.start.Goals as goal
