@@ -1,9 +1,9 @@
 -- A run that is sought from a guess on.
-use Rattle.std.proofs.Common.{◌≡◌, ℕ, ◌+◌, ◌-◌, ◌<◌, ◌≤◌, List, length, map, get_or, arith, ap, sym, ◌∙◌, inl, inr}
+use Rattle.std.proofs.Common.{◌≡◌, ℕ, zero, suc, ◌+◌, ◌-◌, ◌<◌, ◌≤◌, ◌↔◌, Bool, false, IsTrue, List, length, map, get_or, arith, ap, sym, ◌∙◌, inl, inr}
 use Rattle.std.proofs.lemmas.List.{get_or-map, length-map}
 use Rattle.run_pack.specs.declared.Run.{Run}
 use Rattle.run_pack.specs.Runs.{start_at, no_run, run_of_word, Rises, IsLastUpTo, IsMoveFor}
-use Rattle.std.proofs.lemmas.Bool.{cases_lt}
+use Rattle.std.proofs.lemmas.Bool.{cases_lt, iff_false}
 use Rattle.run_pack.proofs.RowLemmas.{start_at-le}
 
 -- all runs behind this one start after the place
@@ -37,13 +37,21 @@ last_reached runs place run p reached = record { within = p.within; reached = re
 within_words : (words : List ℕ) (k : ℕ) → k < length (map run_of_word words) → k < length words
 within_words words k inside = (let size = length-map words run_of_word in omega arith)
 
--- a word's run starts after the place
-pub word_after : (words : List ℕ) (place k : ℕ) (run : Run) → k < length (map run_of_word words) → run ≡ run_of_word (get_or words k 0) → place < run.start
-    → place < start_at (map run_of_word words) k
-word_after words place k run inside is after =
+-- a word whose run does not start by the place has one that starts after it
+pub word_after : (words : List ℕ) (place k : ℕ) (by : Bool) → k < length (map run_of_word words)
+    → (IsTrue by ↔ (run_of_word (get_or words k 0)).start ≤ place) → by ≡ false → place < start_at (map run_of_word words) k
+word_after words place k by inside is none =
     let read = get_or-map run_of_word words k 0 no_run (within_words words k inside) in
-    let start : start_at (map run_of_word words) k ≡ run.start = ap (λ run. run.start) read ∙ sym (ap (λ run. run.start) is) in
-    omega arith
+    let start : start_at (map run_of_word words) k ≡ (run_of_word (get_or words k 0)).start = ap (λ run. run.start) read in
+    elim (cases_lt place (start_at (map run_of_word words) k)) [
+      | inl after ↦ after
+      | inr before ↦ absurd (iff_false is none (omega arith))
+    ]
+
+-- a run that starts after a place is not the first
+pub some_before : (runs : List Run) (place run : ℕ) → Rises runs → place < start_at runs run → 0 < run
+some_before runs place zero rises after = let first = rises.first in absurd (omega arith)
+some_before runs place (suc run) rises after = omega arith
 
 -- the move of a word whose run is the last up to the place
 pub move_of_last : (words : List ℕ) (place k : ℕ) (run : Run) → IsLastUpTo (map run_of_word words) place k → run ≡ run_of_word (get_or words k 0)

@@ -1,6 +1,6 @@
 //! A look-up that begins at a guess, for callers whose places lie near one another.
 
-ghost use Rattle.std.specs.Prelude.{◌≡◌, ◌+◌, ◌<◌, length, map};
+ghost use Rattle.std.specs.Prelude.{◌≡◌, ◌+◌, ◌<◌, ◌≤◌, ◌↔◌, IsTrue, length, map};
 ghost use Rattle.run_pack.specs.Runs.{IsFound, IsLastUpTo, Rises, run_of_word, start_at};
 
 use crate::run_of;
@@ -28,7 +28,7 @@ fn go_forth(words: &[u32], place: u32, from: usize) -> usize
         → place < start_at (map run_of_word words.now) (result + 1) }
 {
     let mut run = from;
-    while run + 1 < words.len() && run_of(words[run + 1]).start <= place {
+    while run + 1 < words.len() && starts_by(words[run + 1], place) {
         run += 1;
     }
     run
@@ -44,8 +44,17 @@ fn go_back(words: &[u32], place: u32, from: usize) -> usize
     ensures { IsLastUpTo (map run_of_word words.now) place result }
 {
     let mut run = from;
-    while run > 0 && run_of(words[run]).start > place {
+    while !starts_by(words[run], place) {
         run -= 1;
     }
     run
+}
+
+/// Whether the run of a word starts at the place or before it: no such word is above that of the place itself with the
+/// last move.
+#[inline(always)]
+fn starts_by(word: u32, place: u32) -> bool
+    ensures { IsTrue result ↔ (run_of_word word).start ≤ place }
+{
+    u64::from(word) <= u64::from(place) * 8 + 7
 }
