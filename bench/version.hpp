@@ -51,9 +51,10 @@ struct Version {
     uint32_t first_move_near(uint32_t from, uint32_t to, size_t& guess) const {
         Span span = rows.spans[from];
         const uint32_t* words = rows.words.data() + span.start;
+        const uint64_t greatest = uint64_t(to) * 8 + 7;
         size_t run = std::min(guess, size_t(span.len) - 1);
-        while (run + 1 < span.len && words[run + 1] / 8 <= to) run++;
-        while (run > 0 && words[run] / 8 > to) run--;
+        while (run + 1 < span.len && words[run + 1] <= greatest) run++;
+        while (words[run] > greatest) run--;
         guess = run;
         return words[run] % 8;
     }
