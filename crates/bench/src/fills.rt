@@ -1,4 +1,4 @@
-//! Fills the first sets of the square map from four sources. Its twin is bench/first_sets.cpp.
+//! Fills the first sets of the square map from four sources. Its twin is bench/fill.cpp.
 
 ghost use Rattle.std.specs.Prelude.{◌≡◌, ◌*◌, ◌≤◌, IfOk};
 ghost use Rattle.grid_search.specs.Searches.{HasSearched};

@@ -6,7 +6,6 @@ ghost use Rattle.lane_rows.specs.Tables.{IsMutual};
 
 use crate::tiles::LANES;
 use std::alloc::{AllocError, Global};
-use std::mem;
 
 /// Places of one level, which are the first so many of a list.
 #[derive(Drop)]
@@ -42,23 +41,27 @@ impl Level {
     }
 }
 
-/// The level at hand and the next three.
+/// How many levels are kept: the one at hand and the three that its places lead to.
+const LEVELS: usize = 4;
+
+/// The level at hand and the next three, each at its number's place in a ring.
 #[derive(Drop)]
 pub(crate) struct Levels {
-    current: Level,
-    next: Level,
-    second: Level,
-    third: Level,
+    ring: [Level; LEVELS],
+    current: usize,
 }
 
 impl Levels {
     /// Takes all memory that is needed for so many places.
     pub(crate) fn new(alloc: Global, count: usize) -> Result<Levels, AllocError> {
         Ok(Levels {
-            current: Level::new(alloc, count)?,
-            next: Level::new(alloc, count)?,
-            second: Level::new(alloc, count)?,
-            third: Level::new(alloc, count)?,
+            ring: [
+                Level::new(alloc, count)?,
+                Level::new(alloc, count)?,
+                Level::new(alloc, count)?,
+                Level::new(alloc, count)?,
+            ],
+            current: 0,
         })
     }
 
@@ -66,23 +69,31 @@ impl Levels {
     fn start(&mut self, first: &[u16], met: &mut [bool])
         requires { All (λ place. place < length met.old) first.now }
     {
-        self.current.count = 0;
-        self.next.count = 0;
-        self.second.count = 0;
-        self.third.count = 0;
+        for level in &mut self.ring {
+            level.count = 0;
+        }
         for place in first {
             // (met again, it adds nothing)
-            self.current.meet([*place; 4], met);
+            self.ahead(0).meet([*place; 4], met);
         }
     }
 
-    /// Goes on to the next level. `false` where no place is left.
+    /// The level that lies so many ahead of the one at hand, fewer than four.
+    #[inline(always)]
+    fn ahead(&mut self, levels: usize) -> &mut Level {
+        &mut self.ring[self.current.wrapping_add(levels) % LEVELS]
+    }
+
+    /// Goes on to the next level that has a place. `false` where none has.
     fn turn(&mut self) -> bool {
-        self.current.count = 0;
-        mem::swap(&mut self.current, &mut self.next);
-        mem::swap(&mut self.next, &mut self.second);
-        mem::swap(&mut self.second, &mut self.third);
-        self.current.count > 0 || self.next.count > 0 || self.second.count > 0
+        self.ahead(0).count = 0;
+        for _ in 1..LEVELS {
+            self.current = self.current.wrapping_add(1);
+            if self.ahead(0).count > 0 {
+                return true;
+            }
+        }
+        false
     }
 }
 
@@ -160,13 +171,13 @@ fn visit(near: &[[u16; 8]], met: &mut [bool], levels: &mut Levels, order: &mut V
     requires near { IsMutual near.now }
     requires met { length met.old ≡ length near.now + 1 }
 {
-    for index in 0..levels.current.count {
-        let place = levels.current.places.get(index).copied().unwrap_or(0);
+    for index in 0..levels.ahead(0).count {
+        let place = levels.ahead(0).places.get(index).copied().unwrap_or(0);
         if let Some(edges) = near.get(usize::from(place)) {
             let _ = order.push(place);
             let [n, ne, e, se, s, sw, w, nw] = *edges;
-            levels.second.meet([n, e, s, w], met);
-            levels.third.meet([ne, se, sw, nw], met);
+            levels.ahead(2).meet([n, e, s, w], met);
+            levels.ahead(3).meet([ne, se, sw, nw], met);
         }
     }
 }

@@ -27,8 +27,9 @@ fn go_forth(words: &[u32], place: u32, from: usize) -> usize
     ensures next { result + 1 < length words.now
         → place < start_at (map run_of_word words.now) (result + 1) }
 {
+    let last = words.len() - 1;
     let mut run = from;
-    while run + 1 < words.len() && starts_by(words[run + 1], place) {
+    while run < last && starts_by(words[run + 1], place) {
         run += 1;
     }
     run
