@@ -1,5 +1,6 @@
 # Whole walks over the rows of four maps of some nine thousand cells, in both orders: a move, against the twin that looks
-# each move up by halving the row, and against the one that goes from run to run as ours.
+# each move up by halving the row, and against the one that goes from run to run as ours. A build comes before the walks
+# and takes about as long as a thousand of their repeats: so a figure is that of many repeats less one.
 build_twin walk
 while read -r kind side walks; do
     map=bench/build/$kind.map
@@ -8,7 +9,7 @@ while read -r kind side walks; do
         commands=("$ours walk $kind $side $order {}" "bench/build/walk $map $order {}" "bench/build/walk $map $order {} near")
         same 2 "${commands[@]}"
         read -r moves _ <<<"$(repeated "${commands[1]}" 1)"
-        doubled "$walks" $((walks * moves)) "${commands[@]}" |
+        between 1 "$walks" $(((walks - 1) * moves)) "${commands[@]}" |
             report "a move, $kind, $order, $((moves / 256)) moves a walk" ns C++ "near"
     done
-done < <(xargs -n 3 <<<"open 95 3000 blocked25 110 2000 rooms 100 2000 maze2 117 600")
+done < <(xargs -n 3 <<<"open 95 5000 blocked25 110 3000 rooms 100 4000 maze2 117 2500")

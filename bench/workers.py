@@ -1,0 +1,76 @@
+#!/usr/bin/env python3
+"""Measures the whole program, `path_server check MAP`, with one worker and with four: processor time, time by the clock
+and peak memory, on four maps of some 30,000 cells in both orders. Beside them it runs the program with one worker four
+times at once: these share nothing but the machine, so what they lose to a single one no program could save.
+
+    bench/workers.py [ROUNDS [KIND SIDE]..]
+
+The three run in turn, ROUNDS times (3); of each figure the least counts. KIND and SIDE name other maps, as
+`bench map KIND SIDE` does. Prints a table in Markdown; a peak below this script's own, some 15 MB, can't be seen. The
+program and `bench` have to be built (`./build`, and `bench/run order`), and nothing else may be done on the machine,
+which has to have four processors."""
+import os
+import subprocess
+import sys
+import time
+
+top = os.path.dirname(os.path.dirname(os.path.abspath(__file__)))
+program = os.path.join(top, "crates/path_server/out/path_server")
+bench = os.path.join(top, "crates/bench/out/bench")
+MAPS = ["open", "173", "blocked25", "200", "rooms", "181", "caves", "213"]
+
+
+def run(commands):
+    """Runs commands at once: the mean of their processor times, the time by the clock, and the greatest peak memory in
+    MB; and what the first one printed."""
+    began = time.monotonic()
+    started = [subprocess.Popen(command, stdout=subprocess.PIPE) for command in commands]
+    spent, peak = 0, 0
+    for process in started:
+        text = process.stdout.read().decode()
+        _, status, used = os.wait4(process.pid, 0)
+        if status != 0:
+            sys.exit("workers.py: %s ends with %d" % (" ".join(commands[0]), status))
+        spent += used.ru_utime + used.ru_stime
+        peak = max(peak, used.ru_maxrss / 1024 * 1.048576)
+    return (spent / len(commands), time.monotonic() - began, peak), text
+
+
+def least(rounds):
+    return [min(figures) for figures in zip(*rounds)]
+
+
+def measure(name, map_name, order, rounds):
+    """A row of the table."""
+    alone = [program, "check", map_name, "--order", order]
+    found = [[run([alone]), run([alone + ["--workers", "4"]]), run([alone] * 4)] for _ in range(rounds)]
+    texts = {text for turn in found for _, text in turn}
+    if len(texts) != 1:
+        sys.exit("workers.py: the programs differ on %s" % name)
+    one, four, copies = (least([turn[way][0] for turn in found]) for way in range(3))
+    numbers = dict(line.split(" ", 1) for line in texts.pop().splitlines())
+    cells, runs = int(numbers["cells"]), int(numbers["runs"])
+    fields = [name, str(cells), order, str(runs)]
+    for figure, share in [(0, 1), (1, 4)]:
+        fields.append("%.2f / %.2f s" % (one[figure], four[figure]))
+        fields.append("%.2f (%.2f)" % (four[figure] / one[figure], copies[figure] / one[figure] / share))
+    fields.append("%.1f" % (one[0] * 1e9 / cells**2))
+    fields.append("%.1f / %.1f MB" % (one[2], four[2]))
+    fields.append("%.1f MB" % (4 * runs / 1e6))
+    print("|", " | ".join(fields), "|", flush=True)
+
+
+rounds = int(sys.argv[1]) if len(sys.argv) > 1 else 3
+wanted = sys.argv[2:] or MAPS
+heads = ["map", "passable cells", "order", "runs", "processor time, 1 / 4 workers", "ratio (four programs)",
+         "by the clock", "ratio (a quarter of four programs)", "ns a pair", "peak memory", "4 bytes a run"]
+print("|", " | ".join(heads), "|")
+print("|" + "---|" * len(heads))
+os.makedirs(os.path.join(top, "bench/build"), exist_ok=True)
+for kind, side in zip(wanted[::2], wanted[1::2]):
+    map_name = os.path.join(top, "bench/build/workers.%s.map" % kind)
+    drawn = subprocess.run([bench, "map", kind, side], stdout=subprocess.PIPE, text=True, check=True).stdout.split()
+    with open(map_name, "w") as file:
+        print("type octile", "height %d" % len(drawn), "width %d" % len(drawn[0]), "map", *drawn, sep="\n", file=file)
+    for order in ["rows", "dfs"]:
+        measure(kind, map_name, order, rounds)
