@@ -58,6 +58,23 @@ fresh
 SLOW=3 "$repo/build" 2>"$room/err"
 state "progress: which crate, how many are done of how many, and the time"
 said "build: proving beside, 1 of 3 crates are done, 0:0"
+
+# A fourth crate, which stands beside the one named so
+two_beside() {
+    fresh
+    mkdir -p "$repo/crates/away/src" && touch "$repo/crates/away/src/main.rt"
+    printf '%s\n' 'low:' 'beside: low' 'away: low' 'path_server: beside away' >"$repo/crates.txt"
+}
+two_beside
+SLOW=3 BUILD_JOBS=2 "$repo/build" 2>"$room/err"
+state "two crates of which neither stands on the other: side by side"
+said "build: proving beside, away, 1 of 4 crates are done, 0:0"
+state "two crates side by side: each is proved once, and all before the program"
+judge "$(sort "$calls.proved" | paste -sd ' ') $(tail -n 1 "$calls")" "away beside low path_server path_server"
+two_beside
+touch "$repo/crates/beside/broken"
+state "one of two is refused: the other is stopped" && SLOW=60 prints 1 "" env BUILD_JOBS=2 "$repo/build"
+state "one of two is refused: it is named" && said "the crate beside could not be built"
 if command -v script >/dev/null; then
     fresh
     SLOW=4 script -qec "'$repo/build'" /dev/null >"$room/err" 2>&1 </dev/null

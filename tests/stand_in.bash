@@ -29,7 +29,7 @@ sum=$(cat src/* ../low/src/* | sha256sum)
 if [ "$(cat out/stamp 2>/dev/null)" != "$sum" ] || { [ "$1" = run ] && [ ! -e "out/$name" ]; }; then
   rm -f out/stamp
   sleep 0.4
-  if [ "$name" = beside ]; then sleep "${SLOW:-0}"; fi
+  case $name in beside | away) sleep "${SLOW:-0}" ;; esac
   echo "$name" >>"$CALLS.proved"
   if [ "$1" = run ]; then
     cp src/program "out/.$name" && chmod 755 "out/.$name" && mv -fT "out/.$name" "out/$name"
