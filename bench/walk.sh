@@ -1,6 +1,7 @@
 # Whole walks over the rows of four maps of some nine thousand cells, in both orders: a move, against the twin that looks
 # each move up by halving the row, and against the one that goes from run to run as ours. A build comes before the walks
-# and takes about as long as a thousand of their repeats: so a figure is that of many repeats less one.
+# and takes about as long as a thousand of their repeats: so a figure is that of many repeats less one, and runs are
+# short, so that some of each program's fall into a quiet moment.
 build_twin walk
 while read -r kind side walks; do
     map=bench/build/$kind.map
@@ -12,4 +13,4 @@ while read -r kind side walks; do
         between 1 "$walks" $(((walks - 1) * moves)) "${commands[@]}" |
             report "a move, $kind, $order, $((moves / 256)) moves a walk" ns C++ "near"
     done
-done < <(xargs -n 3 <<<"open 95 5000 blocked25 110 3000 rooms 100 4000 maze2 117 2500")
+done < <(xargs -n 3 <<<"open 95 1500 blocked25 110 800 rooms 100 1000 maze2 117 800")
