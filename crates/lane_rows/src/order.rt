@@ -39,15 +39,42 @@ impl Level {
         }
         self.count = count;
     }
+
+    /// Visits the places of this level: from each, straight steps lead to the level two on, and diagonal ones to that
+    /// three on.
+    fn lead(
+        &self,
+        near: &[[u16; 8]],
+        met: &mut [bool],
+        straight: &mut Level,
+        diagonal: &mut Level,
+        order: &mut Vec<u16>,
+    )
+        requires near { IsMutual near.now }
+        requires met { length met.old ≡ length near.now + 1 }
+    {
+        for index in 0..self.count {
+            let place = self.places.get(index).copied().unwrap_or(0);
+            if let Some(edges) = near.get(usize::from(place)) {
+                let _ = order.push(place);
+                let [n, ne, e, se, s, sw, w, nw] = *edges;
+                straight.meet([n, e, s, w], met);
+                diagonal.meet([ne, se, sw, nw], met);
+            }
+        }
+    }
 }
 
 /// How many levels are kept: the one at hand and the three that its places lead to.
 const LEVELS: usize = 4;
 
-/// The level at hand and the next three, each at its number's place in a ring.
+/// The level at hand and the next three: a ring, in which `current` says how many have been at hand.
 #[derive(Drop)]
 pub(crate) struct Levels {
-    ring: [Level; LEVELS],
+    first: Level,
+    second: Level,
+    third: Level,
+    fourth: Level,
     current: usize,
 }
 
@@ -55,12 +82,10 @@ impl Levels {
     /// Takes all memory that is needed for so many places.
     pub(crate) fn new(alloc: Global, count: usize) -> Result<Levels, AllocError> {
         Ok(Levels {
-            ring: [
-                Level::new(alloc, count)?,
-                Level::new(alloc, count)?,
-                Level::new(alloc, count)?,
-                Level::new(alloc, count)?,
-            ],
+            first: Level::new(alloc, count)?,
+            second: Level::new(alloc, count)?,
+            third: Level::new(alloc, count)?,
+            fourth: Level::new(alloc, count)?,
             current: 0,
         })
     }
@@ -69,31 +94,58 @@ impl Levels {
     fn start(&mut self, first: &[u16], met: &mut [bool])
         requires { All (λ place. place < length met.old) first.now }
     {
-        for level in &mut self.ring {
-            level.count = 0;
-        }
+        self.current = 0;
+        self.first.count = 0;
+        self.second.count = 0;
+        self.third.count = 0;
+        self.fourth.count = 0;
         for place in first {
             // (met again, it adds nothing)
-            self.ahead(0).meet([*place; 4], met);
+            self.first.meet([*place; 4], met);
         }
     }
 
-    /// The level that lies so many ahead of the one at hand, fewer than four.
-    #[inline(always)]
-    fn ahead(&mut self, levels: usize) -> &mut Level {
-        &mut self.ring[self.current.wrapping_add(levels) % LEVELS]
+    /// The level at hand.
+    fn at_hand(&mut self) -> &mut Level {
+        match self.current % LEVELS {
+            0 => &mut self.first,
+            1 => &mut self.second,
+            2 => &mut self.third,
+            _ => &mut self.fourth,
+        }
     }
 
     /// Goes on to the next level that has a place. `false` where none has.
     fn turn(&mut self) -> bool {
-        self.ahead(0).count = 0;
+        self.at_hand().count = 0;
         for _ in 1..LEVELS {
             self.current = self.current.wrapping_add(1);
-            if self.ahead(0).count > 0 {
+            if self.at_hand().count > 0 {
                 return true;
             }
         }
         false
+    }
+
+    /// Visits the places of the level at hand.
+    fn visit(&mut self, near: &[[u16; 8]], met: &mut [bool], order: &mut Vec<u16>)
+        requires near { IsMutual near.now }
+        requires met { length met.old ≡ length near.now + 1 }
+    {
+        match self.current % LEVELS {
+            0 => self
+                .first
+                .lead(near, met, &mut self.third, &mut self.fourth, order),
+            1 => self
+                .second
+                .lead(near, met, &mut self.fourth, &mut self.first, order),
+            2 => self
+                .third
+                .lead(near, met, &mut self.first, &mut self.second, order),
+            _ => self
+                .fourth
+                .lead(near, met, &mut self.second, &mut self.third, order),
+        }
     }
 }
 
@@ -111,7 +163,7 @@ pub(crate) fn search(
 {
     begin(first, met, levels, order);
     for _ in 0..u32::MAX {
-        visit(near, met, levels, order);
+        levels.visit(near, met, order);
         if !levels.turn() {
             return;
         }
@@ -136,7 +188,7 @@ pub(crate) fn search_for(
     let mut found: usize = 0;
     for _ in 0..u32::MAX {
         let seen = order.len();
-        visit(near, met, levels, order);
+        levels.visit(near, met, order);
         found = found.wrapping_add(wanted_from(order, seen, wanted));
         if found >= LANES || !levels.turn() {
             return;
@@ -164,20 +216,4 @@ fn wanted_from(order: &[u16], seen: usize, wanted: &[bool]) -> usize {
         count = count.wrapping_add(usize::from(is_wanted));
     }
     count
-}
-
-/// Visits the places of the level at hand.
-fn visit(near: &[[u16; 8]], met: &mut [bool], levels: &mut Levels, order: &mut Vec<u16>)
-    requires near { IsMutual near.now }
-    requires met { length met.old ≡ length near.now + 1 }
-{
-    for index in 0..levels.ahead(0).count {
-        let place = levels.ahead(0).places.get(index).copied().unwrap_or(0);
-        if let Some(edges) = near.get(usize::from(place)) {
-            let _ = order.push(place);
-            let [n, ne, e, se, s, sw, w, nw] = *edges;
-            levels.ahead(2).meet([n, e, s, w], met);
-            levels.ahead(3).meet([ne, se, sw, nw], met);
-        }
-    }
 }

@@ -1,11 +1,16 @@
 -- What `pack` keeps: the runs that are done, and the stretch that may still grow.
-use Rattle.std.proofs.Common.{◌≡◌, ℕ, ◌+◌, ◌^◌, ◌<◌, ◌≤◌, w8, List, [], ◌∷◌, ◌++◌, length, map, take, drop, get_or, slice_index, arith, ap, refl, sym, ◌∙◌, inl, inr}
+use Rattle.std.proofs.Common.{◌≡◌, ℕ, ◌+◌, ◌-◌, ◌^◌, ◌<◌, ◌≤◌, w8, List, [], ◌∷◌, ◌++◌, length, map, take, drop, get_or, slice_index, arith, ap, refl, subst, sym, ◌∙◌, inl, inr}
 use Rattle.std.specs.Int.{trailing_zeros}
+use Rattle.std.specs.List.{All, slice_range}
+use Rattle.std.specs.Array.{IsFirstChunk}
 use Rattle.std.proofs.lemmas.Bool.{cases_lt}
 use Rattle.std.proofs.Math.Seq.{take-length, drop-length}
-use Rattle.std.proofs.lemmas.List.{get_or_append_left, get_or_default, get_or_push, map_push, length_push, take-append-le, drop-append-le}
+use Rattle.std.proofs.lemmas.List.Elements.{All-get_or, All-from_get_or}
+use Rattle.std.proofs.lemmas.List.{length-take-le, length-drop, get_or-take, get_or-drop, get_or_append_left, get_or_default, get_or_push, map_push, length_push, take-append-le, drop-append-le}
 use Rattle.run_pack.specs.declared.Run.{Run}
-use Rattle.run_pack.specs.Sets.{Has, IsShared, ShareNone, IsLeastIn, IsCommon, IsLeastCommon}
+use Rattle.run_pack.specs.declared.Stretch.{Stretch}
+use Rattle.run_pack.specs.Sets.{Has, IsShared, AreShared, ShareNone, IsLeastIn, IsCommon, IsLeastCommon}
+use Rattle.run_pack.specs.Stretches.{GrowsBy, IsCutBefore}
 use Rattle.run_pack.specs.Runs.{starts_of, start_at, move_at, end_at, no_run, IsTight}
 use Rattle.run_pack.proofs.SetLemmas.{Has-all, Has-below, Has-trailing_zeros}
 use Rattle.run_pack.proofs.RowLemmas.{border, border_past, get_or-starts_of, length-starts_of, row_from_borders}
@@ -125,6 +130,25 @@ IsCommon-more sets from upto move common has = record {
       ];
 }
 
+-- reading in the sets from one place to before another
+module _ (sets : List ℕ) (from upto : ℕ) where
+  length-part : upto ≤ length sets → length (slice_range sets from upto) ≡ upto - from
+  length-part inside = length-take-le (upto - from) (drop from sets) (omega (arith, length-drop from sets))
+
+  read-part : (i : ℕ) → i < upto - from → slice_index (slice_range sets from upto) i ≡ slice_index sets (from + i)
+  read-part i within = get_or-take (upto - from) (drop from sets) i 0 within ∙ get_or-drop from sets i 0
+
+  All-part : (P : ℕ → Type 0) → upto ≤ length sets → All P (slice_range sets from upto) → (place : ℕ) → from ≤ place → place < upto → P (slice_index sets place)
+  All-part P inside all place a b =
+      let size = length-part inside in
+      let same : from + (place - from) ≡ place = omega arith in
+      subst P (read-part (place - from) (omega arith) ∙ ap (slice_index sets) same) (All-get_or P _ (place - from) 0 (omega arith) all)
+
+  All-from_part : (P : ℕ → Type 0) → upto ≤ length sets → ((place : ℕ) → from ≤ place → place < upto → P (slice_index sets place)) → All P (slice_range sets from upto)
+  All-from_part P inside each =
+      let size = length-part inside in
+      All-from_get_or P _ 0 (λ i within. subst P (sym (read-part i (omega arith))) (each (from + i) (omega arith) (omega arith)))
+
 -- what is common to one set alone
 IsCommon-one : (sets : List ℕ) (place move : ℕ) → move < 8 → Has (slice_index sets place) move → IsCommon sets place (place + 1) move
 IsCommon-one sets place move below has = record {
@@ -146,6 +170,31 @@ module _ (sets : List ℕ) (runs : List Run) (start common upto : ℕ) (packed :
     whole = λ move shared.
         (both move).1 (packed.whole move (IsCommon-part sets start (upto + 1) start upto move shared (omega arith) (omega arith)), shared.everywhere upto packed.begun (omega arith));
   })
+
+  -- the stretch grows by all sets from there to before another place
+  module _ (start' common' after : ℕ) (same : start' ≡ start) (some : 0 < common') (more : upto < after) (inside : after ≤ length sets) where
+    pub packed_many : AreShared common' common (slice_range sets upto after) → IsPackedUpTo sets runs start' common' after
+    packed_many shared = rw same (record {
+      done = packed.done;
+      some = some;
+      begun = omega (arith, packed.begun);
+      before = λ above. omega (arith, packed.begun);
+      sound = λ move below has.
+          (let parts = (shared move).0 has in
+          let early = packed.sound move below parts.0 in
+          let late = All-part sets upto after (λ set. Has set move) inside parts.1 in
+          record {
+            number = below;
+            everywhere = λ place a b. (elim (cases_lt place upto) [
+              | inl before ↦ early.everywhere place a before
+              | inr behind ↦ late place behind b
+            ]);
+          });
+      whole = λ move common_to_all.
+          (let early = IsCommon-part sets start after start upto move common_to_all (omega arith) (omega arith) in
+          let late = All-from_part sets upto after (λ set. Has set move) inside (λ place a b. common_to_all.everywhere place (omega (arith, packed.begun)) b) in
+          (shared move).1 (packed.whole move early, late));
+    })
 
   -- a set that shares nothing with the stretch is not the first
   covers_some : slice_index sets upto < 2 ^ 8 → 0 < slice_index sets upto → ShareNone common (slice_index sets upto) → start < upto
@@ -227,6 +276,10 @@ filled_first run_of old sets = record {
 }
 
 module _ {X : Type 0} (run_of : X → Run) (old stored : List X) (sets : List ℕ) (start common upto : ℕ) (filled : IsFilledUpTo run_of old stored sets start common upto) where
+  -- the place by another name
+  pub filled_to : (place : ℕ) → upto ≡ place → IsFilledUpTo run_of old stored sets start common place
+  filled_to place same = rw (← same) filled
+
   abbrev row : List Run
   row = map run_of (drop (length old) stored)
 
@@ -237,6 +290,15 @@ module _ {X : Type 0} (run_of : X → Run) (old stored : List X) (sets : List �
     enough = filled.enough;
     packed = packed_longer sets row start common upto filled.packed start' common' same some both;
   }
+
+  -- the stretch grows by all sets from there to before another place
+  module _ (start' common' after : ℕ) (same : start' ≡ start) (some : 0 < common') (more : upto < after) (inside : after ≤ length sets) where
+    pub filled_many : AreShared common' common (slice_range sets upto after) → IsFilledUpTo run_of old stored sets start' common' after
+    filled_many shared = record {
+      kept = filled.kept;
+      enough = filled.enough;
+      packed = packed_many sets row start common upto filled.packed start' common' after same some more inside shared;
+    }
 
   module _ (now : List X) (item : X) (run : Run) (push : now ≡ stored ++ item ∷ []) (is : run_of item ≡ run) (same : run.start ≡ start) (least : IsLeastIn common run.mv) where
     pub kept_pushed : take (length old) now ≡ old
@@ -257,3 +319,45 @@ module _ {X : Type 0} (run_of : X → Run) (old stored : List X) (sets : List �
     -- all sets are packed
     pub filled_all : upto ≡ length sets → 0 < upto → IsTight (map run_of (drop (length old) now)) sets
     filled_all all some = rw row_pushed (packed_all sets row start common upto filled.packed run same least all some)
+
+-- The sets from a place on, as they are read: all of them, and the first so many.
+module _ (sets : List ℕ) (from : ℕ) where
+  abbrev rest : List ℕ
+  rest = slice_range sets from (length sets)
+
+  rest_is : rest ≡ drop from sets
+  rest_is = rw (← length-drop from sets) (take-length (drop from sets))
+
+  pub length-rest : length rest ≡ length sets - from
+  length-rest = rw rest_is (length-drop from sets)
+
+  pub read-rest : (i : ℕ) → slice_index rest i ≡ slice_index sets (from + i)
+  read-rest i = rw rest_is (get_or-drop from sets i 0)
+
+  module _ (next : List ℕ) (count : ℕ) (inside : from ≤ length sets) (chunk : IsFirstChunk rest next count) where
+    pub chunk_inside : from + count ≤ length sets
+    chunk_inside = omega (arith, length-rest, chunk.enough)
+
+    pub chunk_is : next ≡ slice_range sets from (from + count)
+    chunk_is =
+        let size : from + count - from ≡ count = omega arith in
+        rw (chunk.same, rest_is, size) refl
+
+    pub read-chunk : (i : ℕ) → i < count → slice_index next i ≡ slice_index sets (from + i)
+    read-chunk i within =
+        rw (chunk.same, rest_is) (get_or-take count (drop from sets) i 0 within ∙ get_or-drop from sets i 0)
+
+-- What the next set does to the stretch, as `take` says it.
+module _ {X : Type 0} (run_of : X → Run) (old stored : List X) (sets : List ℕ) (before after : Stretch) (upto past set : ℕ) where
+  module _ (filled : IsFilledUpTo run_of old stored sets before.start before.common upto) (next : past ≡ upto + 1) (read : set ≡ slice_index sets upto) where
+    pub filled_grown : GrowsBy before after set → IsFilledUpTo run_of old stored sets after.start after.common past
+    filled_grown grows =
+        let both : IsShared after.common before.common (slice_index sets upto) = subst (IsShared after.common before.common) read grows.common in
+        rw next (filled_longer run_of old stored sets before.start before.common upto filled after.start after.common grows.start grows.some both)
+
+    module _ (now : List X) (item : X) (run : Run) (push : now ≡ stored ++ item ∷ []) (is : run_of item ≡ run) (cut : IsCutBefore before after upto set run) where
+      pub filled_ended : slice_index sets upto < 2 ^ 8 → 0 < slice_index sets upto → IsFilledUpTo run_of old now sets after.start after.common past
+      filled_ended byte some =
+          let none : ShareNone before.common (slice_index sets upto) = subst (ShareNone before.common) read cut.none in
+          rw (next, cut.next_start, cut.next_common, read)
+          (filled_cut run_of old stored sets before.start before.common upto filled now item run push is cut.start cut.least byte some none)

@@ -1,10 +1,12 @@
 -- Sets by their bits.
-use Rattle.std.proofs.Common.{◌≡◌, ℕ, ◌*◌, ◌^◌, ◌<◌, bit_and, w8, arith, inl, inr, sym, ◌∙◌}
+use Rattle.std.proofs.Common.{◌≡◌, ℕ, ◌*◌, ◌^◌, ◌<◌, bit_and, w8, List, [], ◌∷◌, arith, inl, inr, sym, ◌∙◌}
 use Rattle.std.specs.Int.{bit_at, trailing_zeros}
 use Rattle.std.proofs.Math.Pow.{pow_pos}
+use lib.Lanes.{fold_l}
+use Rattle.std.proofs.lemmas.List.Elements.{All-nil, All-cons, All-head, All-tail}
 use Rattle.std.proofs.lemmas.Bool.{cases_lt, cases_eq}
 use Rattle.std.proofs.lemmas.Nat.Bits.{and_pow, bit_at_and, bit_at_above, bit_at-lt, bit_at-zero, bit_at_ones, bit_at-trailing_zeros}
-use Rattle.run_pack.specs.Sets.{Has, IsShared, ShareNone, IsLeastIn}
+use Rattle.run_pack.specs.Sets.{Has, IsShared, AreShared, ShareNone, IsLeastIn}
 
 -- a number is in the set where its bit is 1
 pub Has-from_bit : (set move : ℕ) → bit_at set move ≡ 1 → Has set move
@@ -55,6 +57,19 @@ none_in_empty move h =
     let one = bit_from_Has 0 move h in
     absurd (omega (arith, bit_at-zero move))
 
+pub AreShared-fold : (set : ℕ) (sets : List ℕ) → AreShared (fold_l bit_and set sets) set sets
+AreShared-fold set [] move =
+    (λ has. (has, All-nil (λ other. Has other move)), λ both. both.0)
+AreShared-fold set (next ∷ sets) move =
+    let rest = AreShared-fold (bit_and set next) sets move in (
+      λ has.
+          (let parts = rest.0 has in
+          (Has-and_left set next move parts.0, All-cons (λ other. Has other move) next sets (Has-and_right set next move parts.0) parts.1)),
+      λ both.
+          (let first = All-head (λ other. Has other move) next sets both.1 in
+          rest.1 (Has-and set next move both.0 first, All-tail (λ other. Has other move) next sets both.1)),
+    )
+
 -- where two sets share nothing
 pub ShareNone-from_and : (a b : ℕ) → bit_and a b ≡ 0 → ShareNone a b
 ShareNone-from_and a b empty move ha hb =
@@ -91,3 +106,12 @@ IsLeastIn-trailing_zeros set some byte =
 -- every number below 8 is in the set of all moves
 pub Has-all : (move : ℕ) → move < 8 → Has 255 move
 Has-all move below = Has-from_bit _ _ (bit_at_ones 8 move below)
+
+-- what a set shares with what all sets of a list share
+pub AreShared-both : (all set common : ℕ) (sets : List ℕ) → set < 2 ^ 8 → IsShared all set common → AreShared common 255 sets → AreShared all set sets
+AreShared-both all set common sets byte both shared move = (
+  λ has.
+      (let parts = (both move).0 has in
+      (parts.0, ((shared move).0 parts.1).1)),
+  λ parts. (both move).1 (parts.0, (shared move).1 (Has-all move (Has-below set move byte parts.0), parts.1)),
+)

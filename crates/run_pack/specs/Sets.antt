@@ -1,5 +1,5 @@
 -- Sets of move numbers from 0 to 7, each kept as one byte.
-use Rattle.std.specs.Prelude.{ℕ, ◌<◌, ◌≤◌, ◌↔◌, List, slice_index, IsBitSet}
+use Rattle.std.specs.Prelude.{ℕ, ◌<◌, ◌≤◌, ◌↔◌, List, All, slice_index, IsBitSet}
 
 -- a number is in the set where that bit of the byte is 1
 unfoldable pub Has : ℕ → ℕ → Type 0
@@ -8,6 +8,10 @@ Has set move = IsBitSet set move
 -- one set has just the numbers that two sets share
 abbrev pub IsShared : ℕ → ℕ → ℕ → Type 0
 IsShared both a b = (move : ℕ) → Has both move ↔ Has a move × Has b move
+
+-- one set has just the numbers that a set and all of a list share
+abbrev pub AreShared : ℕ → ℕ → List ℕ → Type 0
+AreShared all set sets = (move : ℕ) → Has all move ↔ Has set move × All (λ other. Has other move) sets
 
 -- two sets share no number
 abbrev pub ShareNone : ℕ → ℕ → Type 0

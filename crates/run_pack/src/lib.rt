@@ -7,7 +7,8 @@
 #![tactic(auto)]
 
 ghost use Rattle.std.specs.Prelude.{◌≡◌, ◌+◌, ◌-◌, ◌*◌, ◌^◌, ◌<◌, ◌≤◌, length, map, take, drop, IfOk, OnOk, OnErr, IfSome, IfNone};
-ghost use Rattle.run_pack.specs.Sets.{IsShared, ShareNone, IsLeastIn};
+ghost use Rattle.run_pack.specs.Sets.{IsShared, AreShared, ShareNone, IsLeastIn};
+ghost use Rattle.run_pack.specs.Stretches.{GrowsBy, IsCutBefore};
 ghost use Rattle.run_pack.specs.Runs.{Rises, ArePackable, IsTight, IsPacked, IsFound, AppendsRow, word_of, run_of_word};
 
 mod near;
@@ -19,10 +20,14 @@ use crate::row::{Row, Stored};
 use crate::steps::Steps;
 use std::alloc::{AllocError, Global};
 use std::marker::Brand;
+use std::simd::u8x8;
 use std::sync::ledger::{Blank, Ledger};
 
 /// How many places a row may have at most, so that a run fits into a word: 15 bits for its start and 3 for its move.
 pub const MAX_PLACES: u32 = 32768;
+
+/// How many sets are taken at once where they share a move with the sets before them.
+const AT_ONCE: usize = 8;
 
 /// The most places of a row: so many starts are told apart by the 15 bits of a word.
 pub fn limit_is_this()
@@ -63,6 +68,37 @@ impl Stretch {
         })
     }
 
+    /// The stretch with all these sets more, or `None` where no common move would be left.
+    #[inline(always)]
+    fn extended_by(self, sets: [u8; AT_ONCE]) -> Option<Stretch>
+        ensures start { IfSome result (λ longer. longer.start ≡ self.start) }
+        ensures some { IfSome result (λ longer. 0 < longer.common) }
+        ensures common { IfSome result (λ longer. AreShared longer.common self.common sets) }
+    {
+        self.extended(common_of(sets))
+    }
+
+    /// Takes the set of the next place. Where no common move would be left, the stretch begins anew there, and the run
+    /// that it was is given back.
+    #[inline(always)]
+    fn take(&mut self, place: usize, set: u8) -> Option<Run>
+        requires some { 0 < self.old.common }
+        requires few { place < MAX_PLACES }
+        ensures longer { IfNone result (GrowsBy self.old self.new set) }
+        ensures cut { IfSome result (λ run. IsCutBefore self.old self.new place set run) }
+    {
+        if let Some(longer) = self.extended(set) {
+            *self = longer;
+            return None;
+        }
+        let run = self.run();
+        *self = Stretch {
+            start: place as u32,
+            common: set,
+        };
+        Some(run)
+    }
+
     /// The run that the stretch becomes, with the least of its common moves.
     fn run(self) -> Run
         requires { 0 < self.common }
@@ -74,6 +110,14 @@ impl Stretch {
             mv: self.common.trailing_zeros() as u8,
         }
     }
+}
+
+/// The moves that all these sets have.
+#[inline(always)]
+fn common_of(sets: [u8; AT_ONCE]) -> u8
+    ensures { AreShared result 255 sets }
+{
+    u8x8::from_array(sets).reduce_and()
 }
 
 /// The tight row of these sets: the one row in which each run reaches as far as its sets have a common move, and keeps
@@ -107,8 +151,8 @@ pub fn append_words(words: &mut Vec<u32>, sets: &[u8]) -> Result<(), AllocError>
     }
 }
 
-/// Packs the sets into a row behind what is stored already, once from left to right. After an error a part of the row
-/// may stand there.
+/// Packs the sets into a row behind what is stored already, once from left to right, and `AT_ONCE` together where all
+/// of them make the stretch longer. After an error a part of the row may stand there.
 fn fill<S: Stored>(row: &mut Vec<S>, sets: &[u8]) -> Result<(), AllocError>
     requires { ArePackable sets.now }
     ensures kept { take (length row.old.items) row.new.items ≡ row.old.items }
@@ -119,16 +163,22 @@ fn fill<S: Stored>(row: &mut Vec<S>, sets: &[u8]) -> Result<(), AllocError>
         start: 0,
         common: u8::MAX,
     };
-    for (place, set) in sets.iter().enumerate() {
-        match stretch.extended(*set) {
-            Some(longer) => stretch = longer,
-            None => {
-                row.push(S::keep(stretch.run()))?;
-                stretch = Stretch {
-                    start: place as u32,
-                    common: *set,
-                };
+    let mut done = 0;
+    while let Some(next) = sets[done..].first_chunk::<AT_ONCE>() {
+        if let Some(longer) = stretch.extended_by(*next) {
+            stretch = longer;
+        } else {
+            for (ahead, set) in next.iter().enumerate() {
+                if let Some(run) = stretch.take(done + ahead, *set) {
+                    row.push(S::keep(run))?;
+                }
             }
+        }
+        done += AT_ONCE;
+    }
+    for (ahead, set) in sets[done..].iter().enumerate() {
+        if let Some(run) = stretch.take(done + ahead, *set) {
+            row.push(S::keep(run))?;
         }
     }
     row.push(S::keep(stretch.run()))?;

@@ -167,6 +167,25 @@ fn packs_long_rows(rt: HostRuntime) -> Result<(), Fail> {
 }
 
 #[test]
+fn packs_rows_cut_at_any_place(rt: HostRuntime) -> Result<(), Fail> {
+    let alloc = rt.alloc();
+    let mut sets = Vec::new(alloc);
+    for places in 2..52u32 {
+        for cut in 1..places {
+            sets.clear();
+            for place in 0..places {
+                sets.push(if place < cut { 0x06 } else { 0x28 })?;
+            }
+            let row = tight_row(&rt, alloc, &sets)?;
+            let pairs: Vec<(u32, u8)> = row.iter().map(|run| (run.start, run.mv)).collect(alloc)?;
+            let runs: [(u32, u8); 2] = [(0, 1), (cut, 3)];
+            assert_eq!(rt; pairs.as_slice(), runs.as_slice(), "of {places}");
+        }
+    }
+    Ok(())
+}
+
+#[test]
 fn packs_into_the_fewest_runs(rt: HostRuntime) -> Result<(), Fail> {
     let alloc = rt.alloc();
     let mut sets = Vec::new(alloc);
