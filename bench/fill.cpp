@@ -41,15 +41,16 @@ static inline uint8_t by_branches(const uint8_t *sets, const uint32_t *keys, uin
     return set;
 }
 
-// by branches where all eight moves are legal, and no move is asked for; else by arithmetic
+// by branches where all eight moves are legal and the key is at least a diagonal step's, so that no move is asked for and
+// no sum is made for a neighbour; else by arithmetic
 static inline uint8_t by_two(const uint8_t *sets, const uint32_t *keys, uint8_t legal, size_t width, size_t place) {
-    if (legal != 255) return by_arithmetic(sets, keys, legal, width, place);
+    if (legal != 255 || keys[place] < DIAGONAL) return by_arithmetic(sets, keys, legal, width, place);
     const size_t above = place - width, below = place + width;
     const size_t near[8] = {above, above + 1, place + 1, below + 1, below, below - 1, place - 1, above - 1};
     uint32_t key = keys[place];
     uint8_t set = sets[place];
     for (int m = 0; m < 8; m++)
-        if (keys[near[m]] + step_key(m) == key) set |= sets[near[m]];
+        if (keys[near[m]] == key - step_key(m)) set |= sets[near[m]];
     return set;
 }
 

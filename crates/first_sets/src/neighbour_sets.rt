@@ -1,6 +1,6 @@
 //! The sets of the neighbours of a cell, joined: all by their places in lists that go row by row.
 
-ghost use Rattle.std.specs.Prelude.{◌≡◌, ◌≢◌, ◌+◌, ◌^◌, ◌<◌, ◌≤◌};
+ghost use Rattle.std.specs.Prelude.{◌≡◌, ◌≢◌, ◌+◌, ◌^◌, ◌<◌, ◌≤◌, slice_index};
 ghost use Rattle.first_sets.specs.Places.{AreBeside, AreDistances, CanJoin, IsJoined, IsStepKey, LeadsThere, StaysElse};
 
 use moves::MAX_SIDE;
@@ -55,7 +55,7 @@ impl Around {
         requires { CanJoin self.now.width keys.now sets.now legal place }
         ensures { IsJoined self.now.width keys.now sets.now legal place result }
     {
-        if legal == EVERY_MOVE {
+        if legal == EVERY_MOVE && keys[place] >= DIAGONAL_KEY {
             join_amid(self.width, sets, keys, place)
         } else {
             self.join_legal(sets, keys, legal, place)
@@ -71,25 +71,28 @@ impl Around {
         let mut set = sets[place];
         for number in 0..8usize {
             let from = self.place_beside(legal, number, place);
-            let attains = all_if_equal(u64::from(keys[from]) + numbered_step_key(number), key);
+            let step = u64::from(numbered_step_key(number));
+            let attains = all_if_equal(u64::from(keys[from]) + step, key);
             set |= sets[from] & attains;
         }
         set
     }
 }
 
-/// The same in the open, where all eight moves are legal: no move is asked for, and what the neighbours' keys are can
-/// be foreseen, so that branches are faster.
+/// The same in the open, where all eight moves are legal, for a key that is at least a diagonal step's. No move is
+/// asked for and no sum is made for a neighbour, and what the neighbours' keys are can be foreseen, so that
+/// branches are faster.
 fn join_amid(width: usize, sets: &[u8], keys: &[u32], place: usize) -> u8
-    requires { CanJoin width keys.now sets.now EVERY_MOVE place }
+    requires open { CanJoin width keys.now sets.now EVERY_MOVE place }
+    requires far { DIAGONAL_KEY ≤ slice_index keys.now place }
     ensures { IsJoined width keys.now sets.now EVERY_MOVE place result }
 {
-    let key = u64::from(keys[place]);
+    let key = keys[place];
     let near = places_around(width, place);
     let mut set = sets[place];
     for number in 0..8usize {
         let from = near[number];
-        if u64::from(keys[from]) + numbered_step_key(number) == key {
+        if keys[from] == key - numbered_step_key(number) {
             set |= sets[from];
         }
     }
@@ -116,12 +119,12 @@ fn places_around(width: usize, place: usize) -> [usize; 8]
 }
 
 /// The key of the step with that number: the odd ones are diagonal.
-fn numbered_step_key(number: usize) -> u64
+fn numbered_step_key(number: usize) -> u32
     requires { number < 8 }
     ensures key { IsStepKey number result }
-    ensures limit { result < 65536 }
+    ensures limit { result ≤ DIAGONAL_KEY }
 {
-    u64::from(STRAIGHT_KEY) + u64::from(DIAGONAL_KEY - STRAIGHT_KEY) * (number as u64 & 1)
+    STRAIGHT_KEY + (DIAGONAL_KEY - STRAIGHT_KEY) * (number as u32 & 1)
 }
 
 /// All ones where the two are equal, and else 0; by arithmetic, so that no branch has to be foreseen.

@@ -116,6 +116,9 @@ fn is_step(search: &Search, before: Cell, diagonal: bool, to: Cell) -> bool
 }
 
 /// Gives each settled cell its first set, in the order in which they were settled, and notes the places.
+///
+/// It is not inlined: where the jumps of its loop lie, and so how fast it is, then hangs on nothing else.
+#[inline(never)]
 fn pass_on(sets: &mut [u8], places: &mut [u32], grid: &Grid, search: &Search, source: Cell)
     requires searched { HasSearched grid.now source search.now }
     requires source { IsPassable grid.now source }

@@ -26,6 +26,9 @@ use std::sync::ledger::{Blank, Ledger};
 /// How many places a row may have at most, so that a run fits into a word: 15 bits for its start and 3 for its move.
 pub const MAX_PLACES: u32 = 32768;
 
+/// The set of all eight moves.
+const EVERY_MOVE: u8 = u8::MAX;
+
 /// How many sets are taken at once where they share a move with the sets before them.
 const AT_ONCE: usize = 8;
 
@@ -115,7 +118,7 @@ impl Stretch {
 /// The moves that all these sets have.
 #[inline(always)]
 fn common_of(sets: [u8; AT_ONCE]) -> u8
-    ensures { AreShared result 255 sets }
+    ensures { AreShared result EVERY_MOVE sets }
 {
     u8x8::from_array(sets).reduce_and()
 }
@@ -161,7 +164,7 @@ fn fill<S: Stored>(row: &mut Vec<S>, sets: &[u8]) -> Result<(), AllocError>
 {
     let mut stretch = Stretch {
         start: 0,
-        common: u8::MAX,
+        common: EVERY_MOVE,
     };
     let mut done = 0;
     while let Some(next) = sets[done..].first_chunk::<AT_ONCE>() {
