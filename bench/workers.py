@@ -6,16 +6,19 @@ times at once: these share nothing but the machine, so what they lose to a singl
     bench/workers.py [ROUNDS [KIND SIDE]..]
 
 The three run in turn, ROUNDS times (3); of each figure the least counts. KIND and SIDE name other maps, as
-`bench map KIND SIDE` does. Prints a table in Markdown; a peak below this script's own, some 15 MB, can't be seen. The
-program and `bench` have to be built (`./build`, and `bench/run order`), and nothing else may be done on the machine,
-which has to have four processors."""
+`drawn` of bench/maps.py does. Prints a table in Markdown; a peak below this script's own, some 15 MB, can't be seen. The
+program is the one that was built here if there is one, else the release; nothing has to be built. Where `bench` is, its
+maps are seen to be the same. Nothing else may be done on the machine, which has to have four processors."""
 import os
 import subprocess
 import sys
 import time
 
+import maps
+
 top = os.path.dirname(os.path.dirname(os.path.abspath(__file__)))
-program = os.path.join(top, "crates/path_server/out/path_server")
+built = os.path.join(top, "crates/path_server/out/path_server")
+program = built if os.access(built, os.X_OK) else os.path.join(top, "release/path_server")
 bench = os.path.join(top, "crates/bench/out/bench")
 MAPS = ["open", "173", "blocked25", "200", "rooms", "181", "caves", "213"]
 
@@ -34,6 +37,19 @@ def run(commands):
         spent += used.ru_utime + used.ru_stime
         peak = max(peak, used.ru_maxrss / 1024 * 1.048576)
     return (spent / len(commands), time.monotonic() - began, peak), text
+
+
+def map_of(kind, side):
+    """The name of a file with the map of a kind."""
+    name = os.path.join(top, "bench/build/workers.%s.map" % kind)
+    rows = maps.drawn(kind, int(side))
+    if os.access(bench, os.X_OK):
+        drawn = subprocess.run([bench, "map", kind, side], stdout=subprocess.PIPE, text=True, check=True).stdout.split()
+        if drawn != rows:
+            sys.exit("workers.py: bench/maps.py and `bench map %s %s` differ" % (kind, side))
+    with open(name, "w") as file:
+        print("type octile", "height %d" % len(rows), "width %d" % len(rows[0]), "map", *rows, sep="\n", file=file)
+    return name
 
 
 def least(rounds):
@@ -68,9 +84,6 @@ print("|", " | ".join(heads), "|")
 print("|" + "---|" * len(heads))
 os.makedirs(os.path.join(top, "bench/build"), exist_ok=True)
 for kind, side in zip(wanted[::2], wanted[1::2]):
-    map_name = os.path.join(top, "bench/build/workers.%s.map" % kind)
-    drawn = subprocess.run([bench, "map", kind, side], stdout=subprocess.PIPE, text=True, check=True).stdout.split()
-    with open(map_name, "w") as file:
-        print("type octile", "height %d" % len(drawn), "width %d" % len(drawn[0]), "map", *drawn, sep="\n", file=file)
+    map_name = map_of(kind, side)
     for order in ["rows", "dfs"]:
         measure(kind, map_name, order, rounds)
