@@ -200,14 +200,23 @@ fn fill(rt: &impl Abort, grid: &mut Grid, width: u16, height: u16, passable: u64
     let mut state = seed;
     for y in 0..height {
         for x in 0..width {
-            let cell = Cell { x, y };
-            state = state
-                .wrapping_mul(6364136223846793005)
-                .wrapping_add(1442695040888963407);
-            assert!(rt; grid.inside(cell));
-            grid.set(cell, (state >> 33) % 100 < passable);
+            state = after(state);
+            put(rt, grid, Cell { x, y }, (state >> 33) % 100 < passable);
         }
     }
+}
+
+/// The number that follows another.
+fn after(state: u64) -> u64 {
+    state
+        .wrapping_mul(6364136223846793005)
+        .wrapping_add(1442695040888963407)
+}
+
+/// Makes a cell passable or blocked.
+fn put(rt: &impl Abort, grid: &mut Grid, cell: Cell, passable: bool) {
+    assert!(rt; grid.inside(cell));
+    grid.set(cell, passable);
 }
 
 /// Both have the same rows, run by run.

@@ -11,13 +11,13 @@ use Rattle.scen_read.specs.ScenText.{scenarios_of}
 use Rattle.path_replay.specs.declared.TheConstants.{MAX_EVENTS_BYTES}
 use Rattle.path_replay.specs.Events.{AreEventsOf, text_said}
 use Rattle.versions.specs.Databases.{Versioned}
-use Rattle.path_server.specs.declared.status.Status.{Status}
-use Rattle.path_server.specs.declared.status.Status.TheVariants as status
-use Rattle.path_server.specs.declared.task.Task.{Task}
-use Rattle.path_server.specs.declared.task.Task.TheVariants as task
-use Rattle.path_server.specs.Statuses.{status_text}
-use Rattle.path_server.specs.Requests.{Asked, path, check, scen, made, replay, talk, serve, ask, build_of}
-use Rattle.path_server.specs.Runs.{AsksOf, Asks, BreaksOff, FailsByMap, FailsByTask, IsAnswerOn, IsAnswerTo, IsFirstVersion, GivesMap, GivesNoMap, GivesNoTask, GivesTask, IsCause, IsEventsFileCause, IsFileCause, IsMadeCause, IsMapFileCause, IsRight, IsScenFileCause, IsVersionCause, PutsAll, Run, RunFile, file_over, map_made, run_over}
+use Rattle.path_commands.specs.declared.status.Status.{Status}
+use Rattle.path_commands.specs.declared.status.Status.TheVariants as status
+use Rattle.path_commands.specs.declared.task.Task.{Task}
+use Rattle.path_commands.specs.declared.task.Task.TheVariants as task
+use Rattle.path_commands.specs.Statuses.{status_text}
+use Rattle.path_commands.specs.Requests.{Asked, path, check, scen, made, replay, talk, serve, ask, build_of}
+use Rattle.path_commands.specs.Runs.{AsksOf, Asks, BreaksOff, FailsByMap, FailsByTask, IsAnswerOn, IsAnswerTo, IsFirstVersion, GivesMap, GivesNoMap, GivesNoTask, GivesTask, IsCause, IsEventsFileCause, IsFileCause, IsMadeCause, IsMapFileCause, IsRight, IsScenFileCause, IsVersionCause, PutsAll, Run, RunFile, file_over, map_made, run_over}
 
 -- ---- the cause of a status
 

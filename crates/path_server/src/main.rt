@@ -2,38 +2,15 @@
 //! the printed answer.
 #![tactic(auto)]
 
-mod ask;
-mod asked;
-mod check;
-mod commands;
-mod database;
-mod file;
-mod heard;
-mod help;
-mod made;
-mod map_file;
-mod means;
-mod path;
-mod replay;
-mod request;
-mod request_laws;
 mod run;
-mod scen;
-mod serve;
-mod serving;
-mod status;
-mod system;
-mod talk;
-mod task;
-mod words;
+#[cfg(test)]
+mod tests;
 
 use build_pool::FreeGate;
-use help::{advice, argument_advice};
-use run::{refuse, run};
-use status::Status;
+use path_commands::{Status, advice, argument_advice, command_words, exit_code, refuse};
+use run::run;
 use std::process::ExitCode;
 use std::{env, io};
-use system::{command_words, exit_code};
 use wire::{HostBell, HostFiles, StdLink, StdSink, TcpHouse};
 
 /// Runs the command that the words ask for over the system's files, standard input and standard

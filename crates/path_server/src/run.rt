@@ -2,46 +2,37 @@
 //! ear that are handed in.
 
 ghost use Rattle.std.specs.Prelude.{◌≡◌, ◌≢◌, ◌≤◌, ◌⊎◌, [], false, IfErr, IfOk, None, string_bytes};
-ghost use Rattle.std.specs.Io.KnownBytes.{Appends};
 ghost use Rattle.wire.specs.Causes.{NoneFell, Rose};
-ghost use Rattle.wire.specs.Contents.{PutsPrefix, TellsTheSame};
+ghost use Rattle.wire.specs.Contents.{TellsTheSame};
 ghost use Rattle.moves.specs.Maps.{IsSearchable};
-ghost use Rattle.path_server.specs.declared.commands.Verb.{Verb};
-ghost use Rattle.path_server.specs.declared.status.Status.{Status};
-ghost use Rattle.path_server.specs.Requests.{HasLimits, IsAsk, IsPrinted, IsServe, IsTalk, asked, verb_asked};
-ghost use Rattle.path_server.specs.AskEnds.{CallsNoMore, FallsShort, PutsHeard};
-ghost use Rattle.path_server.specs.Asks.{HasGivenNone, house_over};
-ghost use Rattle.path_server.specs.Words.{texts_of};
-ghost use Rattle.path_server.specs.Statuses.{status_text};
-ghost use Rattle.path_server.specs.Runs.{BreaksOff, GivesMap, GivesNoMap, IsAnswerOn, IsAnswerTo};
-ghost use Rattle.path_server.specs.Runs.{IsCause, IsVersionCause, MayBeDone, PutsAll, file_over};
-ghost use Rattle.path_server.specs.Runs.{run_over};
-ghost use Rattle.path_server.specs.Talks.{TalkEnds, input_over};
-ghost use Rattle.path_server.specs.Serving.{FailsToRead, Serves, doors_over, ear_over};
+ghost use Rattle.path_commands.specs.declared.commands.Verb.{Verb};
+ghost use Rattle.path_commands.specs.declared.status.Status.{Status};
+ghost use Rattle.path_commands.specs.Requests.{HasLimits, IsAsk, IsPrinted, IsServe, IsTalk, asked, verb_asked};
+ghost use Rattle.path_commands.specs.AskEnds.{CallsNoMore, FallsShort, PutsHeard};
+ghost use Rattle.path_commands.specs.Asks.{HasGivenNone, house_over};
+ghost use Rattle.path_commands.specs.Words.{texts_of};
+ghost use Rattle.path_commands.specs.Runs.{BreaksOff, GivesMap, GivesNoMap, IsAnswerOn, IsAnswerTo};
+ghost use Rattle.path_commands.specs.Runs.{IsCause, IsVersionCause, MayBeDone, PutsAll, file_over};
+ghost use Rattle.path_commands.specs.Runs.{run_over};
+ghost use Rattle.path_commands.specs.Talks.{TalkEnds, input_over};
+ghost use Rattle.path_commands.specs.Serving.{FailsToRead, Serves, doors_over, ear_over};
 
-use crate::ask::ask;
-use crate::check::answer_check;
-use crate::database::first_version;
-use crate::made::{answer_made, made_grid};
-use crate::map_file::read_grid;
-use crate::means::Means;
-use crate::path::answer_path;
-use crate::replay::answer_replay;
-use crate::request::{Request, is_ask, is_serve, is_talk, read_request};
-use crate::scen::answer_scen;
-use crate::serve::serve;
-use crate::status;
-use crate::status::Status;
-use crate::talk::talk;
-use crate::task::{Task, task_for};
 use build_pool::Gate;
 use moves::Grid;
+use path_commands::ask::ask;
+use path_commands::serve::serve;
+use path_commands::talk::talk;
+use path_commands::{
+    Means, Request, Status, Task, answer_check, answer_made, answer_path, answer_replay,
+    answer_scen, first_version, is_ask, is_serve, is_talk, made_grid, put, read_grid, read_request,
+    refuse, task_for,
+};
 use std::alloc::Global;
 use std::sync::Wait;
 use std::thread::Threads;
 use text_lines::Text;
 use versions::Version;
-use wire::{Bell, Ear, Files, House, Link, Sink, put_all};
+use wire::{Bell, Ear, Files, House, Link, Sink};
 
 /// Does what the words of a command line ask for, which are those after the program's own name, and
 /// says how it ended. Each piece of a build passes the gate.
@@ -166,39 +157,6 @@ fn print<F: Files, O: Sink, B: Bell, G: Gate, R: Threads + Sync>(
     }
 }
 
-/// Puts the line of a status; where there is no memory for it, that of want of memory.
-pub fn refuse<O: Sink>(alloc: Global, out: &mut O, status: Status) -> Status
-    requires done { status ≢ Status.Done }
-    requires write { status ≢ Status.WriteFault }
-    ensures whole { result ≢ Status.WriteFault
-        → ((result ≡ status) ⊎ (result ≡ Status.NoMemory))
-        × Appends (O.bytes out.old) (O.bytes out.new) (status_text result) }
-    ensures cut { result ≡ Status.WriteFault
-        → (told : Status) × ((told ≡ status) ⊎ (told ≡ Status.NoMemory))
-        × PutsPrefix (O.bytes out.old) (O.bytes out.new) (status_text told) }
-    ensures fault { result ≡ Status.WriteFault → Rose (O.faults out.old) (O.faults out.new) }
-{
-    match status::status_text(alloc, &status) {
-        Ok(line) => put(out, line.as_bytes(), status),
-        Err(_) => put(out, b"out of memory\n", Status::NoMemory),
-    }
-}
-
-/// Puts a text, and says that status where all of it was taken.
-pub fn put<O: Sink>(out: &mut O, text: &[u8], status: Status) -> Status
-    requires { status ≢ Status.WriteFault }
-    ensures whole { result ≢ Status.WriteFault
-        → (result ≡ status) × Appends (O.bytes out.old) (O.bytes out.new) text.now }
-    ensures cut { result ≡ Status.WriteFault
-        → PutsPrefix (O.bytes out.old) (O.bytes out.new) text.now }
-    ensures fault { result ≡ Status.WriteFault → Rose (O.faults out.old) (O.faults out.new) }
-{
-    match put_all(out, text) {
-        Ok(()) => status,
-        Err(_) => Status::WriteFault,
-    }
-}
-
 /// The text that answers the words, or the status with which the run ends without one.
 fn answer<F: Files, B: Bell, G: Gate, R: Threads + Sync>(
     means: &Means<R, B, G>,
@@ -269,6 +227,3 @@ fn as_text(text: String) -> Text
 {
     Text::new(text.into_bytes())
 }
-
-#[cfg(test)]
-mod tests;

@@ -1,8 +1,10 @@
--- Rows that lie among words.
-use Rattle.std.proofs.Common.{◌≡◌, ℕ, suc, ◌+◌, ◌-◌, ◌*◌, ◌^◌, ◌<◌, ◌≤◌, List, [], ◌∷◌, ◌++◌, length, map, take, drop, get_or, set, replicate, All, sum_by, arith, refl, sym, ap, ◌∙◌}
-use Rattle.std.proofs.Math.Seq.{drop-append_seam, drop-append-add}
+-- Rows that lie in blocks of words.
+use Rattle.std.proofs.Common.{◌≡◌, ℕ, suc, ◌+◌, ◌-◌, ◌*◌, ◌^◌, ◌<◌, ◌≤◌, List, [], ◌∷◌, ◌++◌, length, map, take, drop, get_or, set, replicate, All, sum_by, inl, inr, arith, refl, sym, ap, ◌∙◌}
+use Rattle.std.proofs.Math.ListN.{get_or-append}
+use Rattle.std.proofs.Math.Seq.{drop-append_seam, get_or-append_seam}
+use Rattle.std.proofs.lemmas.Bool.{cases_lt}
 use Rattle.std.proofs.lemmas.Simd.{map-map}
-use Rattle.std.proofs.lemmas.List.{length-append, length-map, length-set, length-drop, length-take, length-take-le, length-replicate, drop-append-le, take-append-le, take_all, map-append, map-set, get_or-map, get_or-replicate, same_lists, length_push}
+use Rattle.std.proofs.lemmas.List.{length-append, length-map, length-set, length-drop, length-take, length-take-le, length-replicate, drop-append-le, take-append-le, take_all, map-append, map-set, get_or-map, get_or-replicate, get_or-append-add, same_lists, length_push, append-nil, append_assoc}
 use Rattle.std.proofs.lemmas.List.Elements.{All-push, All-append, All-set, All-map, All-replicate}
 use Rattle.std.proofs.lemmas.List.Sums.{sum_by-append, sum_by-cons, sum_by-set, sum_by-le}
 use Rattle.std.proofs.lemmas.List.Folds.{sum_by-replicate}
@@ -15,11 +17,11 @@ use Rattle.moves.specs.declared.TheConstants.{MAX_PASSABLE}
 use Rattle.row_store.specs.declared.pool.Span.{Span}
 use Rattle.row_store.specs.Rows.{row_at}
 use Rattle.row_store.specs.Pools.{CanBeKept, PushesPacked, PutsPacked}
-use Rattle.row_store.specs.Layout.{words_at, row_in, rows_in, AreSpans, moved}
+use Rattle.row_store.specs.Layout.{block_numbered, blocks_of, row_in, rows_in, AreSpans, CanBeSpan, moved}
 
 -- a span of no words
 abbrev pub nowhere : Span
-nowhere = record { start = 0; len = 0 }
+nowhere = record { start = 0; len = 0; block = 0 }
 
 -- functions that agree on each element of a list
 pub map_same_on : {X Y : Type 0} (f g : X → Y) (xs : List X) → All (λ x. f x ≡ g x) xs → map f xs ≡ map g xs
@@ -29,203 +31,320 @@ map_same_on f g (x ∷ xs) same =
     let rest : map f xs ≡ map g xs = map_same_on f g xs (λ k d within. same (suc k) d (omega arith)) in
     rw (head, rest) refl
 
+-- a list has as many elements where each is seen as another
+pub counted : {X Y : Type 0} (f : X → Y) (xs : List X) (count : ℕ) → count ≡ length xs → count ≡ length (map f xs)
+counted f xs count is = is ∙ sym (length-map xs f)
+
+-- ---- blocks that only grow
+
+-- each block begins as it was
+abbrev pub Grow : List (List ℕ) → List (List ℕ) → Type 0
+Grow blocks new =
+    (number : ℕ) → number < length blocks → (more : List ℕ) × (block_numbered new number ≡ block_numbered blocks number ++ more)
+
+-- more words at the end of the last block
+last_grows : (closed : List (List ℕ)) (words more : List ℕ) → Grow (blocks_of closed words) (blocks_of closed (words ++ more))
+last_grows closed words more number within = elim (cases_lt number (length closed)) [
+  | inl low ↦
+      let now = get_or-append closed ((words ++ more) ∷ []) [] number low in
+      let before = get_or-append closed (words ∷ []) [] number low in
+      let none = append-nil (block_numbered (blocks_of closed words) number) in
+      ([], now ∙ sym before ∙ sym none)
+  | inr high ↦
+      let last : number ≡ length closed = omega (arith, length_push closed words) in
+      let now = get_or-append_seam closed (words ++ more) [] [] in
+      let before = get_or-append_seam closed words [] [] in
+      (more, rw last (now ∙ ap (λ block. block ++ more) (sym before)))
+]
+
+-- more blocks behind the others
+left_grows : (blocks others : List (List ℕ)) → Grow blocks (blocks ++ others)
+left_grows blocks others number within =
+    ([], get_or-append blocks others [] number within ∙ sym (append-nil (block_numbered blocks number)))
+
 -- ---- one row
 
--- a row that lies among the words has as many runs as its span has words
-pub length-row_in : (words : List ℕ) (span : Span) → span.start + span.len ≤ length words → length (row_in words span) ≡ span.len
+-- a row that lies in its block has as many runs as its span has words
+pub length-row_in : (blocks : List (List ℕ)) (span : Span) → span.start + span.len ≤ length (block_numbered blocks span.block) → length (row_in blocks span) ≡ span.len
 unfolding row_in
-length-row_in words span inside =
+length-row_in blocks span inside =
+    let words = block_numbered blocks span.block in
     let rest = length-drop span.start words in
-    length-map (words_at words span) run_of_word ∙ length-take-le span.len (drop span.start words) (omega arith)
+    length-map (take span.len (drop span.start words)) run_of_word ∙ length-take-le span.len (drop span.start words) (omega arith)
 
--- more words behind the others change no row
-row_in-more : (words more : List ℕ) (span : Span) → span.start + span.len ≤ length words → row_in (words ++ more) span ≡ row_in words span
+-- where blocks grow no row changes
+row_in-grown : (blocks new : List (List ℕ)) (span : Span) → Grow blocks new → span.block < length blocks
+    → span.start + span.len ≤ length (block_numbered blocks span.block) → row_in new span ≡ row_in blocks span
 unfolding row_in
-row_in-more words more span inside =
+row_in-grown blocks new span grow there inside =
+    let words = block_numbered blocks span.block in
+    let grown = grow span.block there in
     let rest = length-drop span.start words in
-    let start = drop-append-le span.start words more (omega arith) in
-    let part = take-append-le span.len (drop span.start words) more (omega arith) in
-    rw (start, part) refl
+    let start = drop-append-le span.start words grown.0 (omega arith) in
+    let part = take-append-le span.len (drop span.start words) grown.0 (omega arith) in
+    rw (grown.1, start, part) refl
 
--- the words that come last
-row_in-last : (words more : List ℕ) (span : Span) → span.start ≡ length words → span.len ≡ length more → row_in (words ++ more) span ≡ map run_of_word more
+-- the words that come last in their block
+row_in-last : (blocks : List (List ℕ)) (words more : List ℕ) (span : Span) → block_numbered blocks span.block ≡ words ++ more
+    → span.start ≡ length words → span.len ≡ length more → row_in blocks span ≡ map run_of_word more
 unfolding row_in
-row_in-last words more span start len =
-    rw (start, len, drop-append_seam words more, take_all (length more) more (omega arith)) refl
+row_in-last blocks words more span is start len =
+    rw (is, start, len, drop-append_seam words more, take_all (length more) more (omega arith)) refl
 
--- the words of a row behind others
-row_in-moved : (words more : List ℕ) (span : Span) → row_in (words ++ more) (moved (length words) span) ≡ row_in more span
+-- the words of a row whose block comes behind others
+row_in-moved : (blocks others : List (List ℕ)) (span : Span) → row_in (blocks ++ others) (moved (length blocks) span) ≡ row_in others span
 unfolding row_in
-row_in-moved words more span =
-    let start : drop (length words + span.start) (words ++ more) ≡ drop span.start more = drop-append-add words more span.start in
-    rw start refl
+row_in-moved blocks others span =
+    let same : block_numbered (blocks ++ others) (length blocks + span.block) ≡ block_numbered others span.block =
+    get_or-append-add blocks others span.block [] in
+    rw same refl
 
 -- no words are no row
-row_in-none : (span : Span) → span.start ≡ 0 → span.len ≡ 0 → row_in [] span ≡ []
+row_in-none : (blocks : List (List ℕ)) (span : Span) → span.len ≡ 0 → row_in blocks span ≡ []
 unfolding row_in
-row_in-none span start len = rw (start, len) refl
+row_in-none blocks span len = rw len refl
 
 -- ---- all rows
 
-rows_in-more : (words more : List ℕ) (spans : List Span) → AreSpans words spans → rows_in (words ++ more) spans ≡ rows_in words spans
-rows_in-more words more spans p =
-    map_same_on (row_in (words ++ more)) (row_in words) spans (λ k d within. row_in-more words more (get_or spans k d) (p.inside k d within))
+rows_in-grown : (blocks new : List (List ℕ)) (spans : List Span) → AreSpans blocks spans → Grow blocks new → rows_in new spans ≡ rows_in blocks spans
+rows_in-grown blocks new spans p grow =
+    map_same_on (row_in new) (row_in blocks) spans
+    (λ k d within. row_in-grown blocks new (get_or spans k d) grow (p.there k d within) (p.inside k d within))
 
 -- as many words as the rows have runs
-pub sum_by-rows_in : (words : List ℕ) (spans : List Span) → All (λ span. span.start + span.len ≤ length words) spans → sum_by length (rows_in words spans) ≡ sum_by (λ span. span.len) spans
-sum_by-rows_in words [] inside = refl
-sum_by-rows_in words (span ∷ spans) inside =
-    let first = sum_by-cons length (row_in words span) (rows_in words spans) in
+pub sum_by-rows_in : (blocks : List (List ℕ)) (spans : List Span)
+    → All (λ span. span.start + span.len ≤ length (block_numbered blocks span.block)) spans
+    → sum_by length (rows_in blocks spans) ≡ sum_by (λ span. span.len) spans
+sum_by-rows_in blocks [] inside = refl
+sum_by-rows_in blocks (span ∷ spans) inside =
+    let first = sum_by-cons length (row_in blocks span) (rows_in blocks spans) in
     let other = sum_by-cons (λ span. span.len) span spans in
-    let len = length-row_in words span (inside 0 span (omega arith)) in
-    let rest = sum_by-rows_in words spans (λ k d within. inside (suc k) d (omega arith)) in
+    let len = length-row_in blocks span (inside 0 span (omega arith)) in
+    let rest = sum_by-rows_in blocks spans (λ k d within. inside (suc k) d (omega arith)) in
     first ∙ (rw (len, rest) (sym other))
 
-pub count_of_words : (words : List ℕ) (spans : List Span) → AreSpans words spans → sum_by length (rows_in words spans) ≡ length words
-count_of_words words spans p = sum_by-rows_in words spans p.inside ∙ p.all
+pub count_of_words : (blocks : List (List ℕ)) (spans : List Span) → AreSpans blocks spans → sum_by length (rows_in blocks spans) ≡ sum_by length blocks
+count_of_words blocks spans p = sum_by-rows_in blocks spans p.inside ∙ p.all
 
-pub few_words : (words : List ℕ) (spans : List Span) → AreSpans words spans → length words ≤ 1073741824
-few_words words spans p =
+pub few_words : (blocks : List (List ℕ)) (spans : List Span) → AreSpans blocks spans → sum_by length blocks ≤ 1073741824
+few_words blocks spans p =
     omega (arith, p.all, p.few, sum_by-le (λ span. span.len) MAX_PLACES spans p.short)
 
--- more words behind the others leave each span inside
-inside_more : (words more : List ℕ) (spans : List Span) → AreSpans words spans → All (λ span. span.start + span.len ≤ length (words ++ more)) spans
-inside_more words more spans p = λ k d within. (let size = length-append words more in omega (arith, p.inside k d within))
+-- the last block has no more than all
+sum_of_blocks : (closed : List (List ℕ)) (words : List ℕ) → sum_by length (blocks_of closed words) ≡ sum_by length closed + length words
+sum_of_blocks closed words = omega (arith, sum_by-append length closed (words ∷ []), sum_by-cons length words [])
 
-module _ (words more : List ℕ) (spans : List Span) (p : AreSpans words spans) (span : Span) (start : span.start ≡ length words) (len : span.len ≡ length more) (short : length more ≤ MAX_PLACES) where
-  last_inside : span.start + span.len ≤ length (words ++ more)
-  last_inside = omega (arith, length-append words more)
+pub few_last : (closed : List (List ℕ)) (words : List ℕ) (spans : List Span) → AreSpans (blocks_of closed words) spans → length words ≤ 1073741824
+few_last closed words spans p = omega (arith, few_words (blocks_of closed words) spans p, sum_of_blocks closed words)
+
+-- a block has a number of sixteen bits
+pub few_closed : (closed : List (List ℕ)) (words : List ℕ) (spans : List Span) → AreSpans (blocks_of closed words) spans → length closed < 2 ^ 16
+few_closed closed words spans p = omega (arith, p.used, p.few, length_push closed words)
+
+-- words that were added at the end of the last block can be those of a row
+pub can_be_span : (closed : List (List ℕ)) (words more new : List ℕ) (spans : List Span)
+    → AreSpans (blocks_of closed words) spans → length new ≡ length words + length more → length more ≤ MAX_PLACES
+    → CanBeSpan (length closed) (length words) (length new)
+can_be_span closed words more new spans p size short = record {
+  number = few_closed closed words spans p;
+  order = omega (arith, size);
+  short = omega (arith, size, short);
+  limit = omega (arith, size, short, few_last closed words spans p);
+}
+
+-- where blocks grow each span stays inside
+inside_grown : (blocks new : List (List ℕ)) (spans : List Span) → AreSpans blocks spans → Grow blocks new
+    → All (λ span. span.start + span.len ≤ length (block_numbered new span.block)) spans
+inside_grown blocks new spans p grow = λ k d within.
+    (let span = get_or spans k d in
+    let grown = grow span.block (p.there k d within) in
+    let size : length (block_numbered new span.block) ≡ length (block_numbered blocks span.block) + length grown.0 =
+    ap length grown.1 ∙ length-append (block_numbered blocks span.block) grown.0 in
+    omega (arith, p.inside k d within))
+
+module _ (closed : List (List ℕ)) (words more : List ℕ) (spans : List Span) (p : AreSpans (blocks_of closed words) spans) (span : Span)
+    (block : span.block ≡ length closed) (start : span.start ≡ length words) (len : span.len ≡ length more)
+    (short : length more ≤ MAX_PLACES) where
+  abbrev before : List (List ℕ)
+  before = blocks_of closed words
+
+  abbrev now : List (List ℕ)
+  now = blocks_of closed (words ++ more)
+
+  grow : Grow before now
+  grow = last_grows closed words more
+
+  last_block : block_numbered now span.block ≡ words ++ more
+  last_block = rw block (get_or-append_seam closed (words ++ more) [] [])
+
+  last_inside : span.start + span.len ≤ length (block_numbered now span.block)
+  last_inside = rw last_block (omega (arith, length-append words more))
+
+  as_many : length now ≡ length before
+  as_many = omega (arith, length_push closed (words ++ more), length_push closed words)
+
+  last_there : span.block < length now
+  last_there = omega (arith, length_push closed (words ++ more))
+
+  all_there : All (λ s. s.block < length now) spans
+  all_there = λ k d within. omega (arith, p.there k d within, as_many)
+
+  sum_now : sum_by length now ≡ sum_by length before + length more
+  sum_now = omega (arith, sum_of_blocks closed (words ++ more), sum_of_blocks closed words, length-append words more)
 
   sum_of_one : sum_by (λ (s : Span). s.len) (span ∷ []) ≡ span.len
   sum_of_one = omega (arith, sum_by-cons (λ (s : Span). s.len) span [])
 
   -- the last words are a row more
-  pub spans_pushed : length spans < MAX_PASSABLE → AreSpans (words ++ more) (spans ++ span ∷ [])
+  pub spans_pushed : length spans < MAX_PASSABLE → AreSpans now (spans ++ span ∷ [])
   spans_pushed few = record {
-    inside = All-push (λ s. s.start + s.len ≤ length (words ++ more)) spans span (inside_more words more spans p) last_inside;
+    there = All-push (λ s. s.block < length now) spans span all_there last_there;
+    inside = All-push (λ s. s.start + s.len ≤ length (block_numbered now s.block)) spans span (inside_grown before now spans p grow) last_inside;
     short = All-push (λ s. s.len ≤ MAX_PLACES) spans span p.short (omega arith);
     few = omega (arith, length_push spans span);
-    all = omega (arith, sum_by-append (λ s. s.len) spans (span ∷ []), p.all, length-append words more, sum_of_one);
+    used = omega (arith, length_push spans span, p.used, as_many);
+    all = omega (arith, sum_by-append (λ s. s.len) spans (span ∷ []), p.all, sum_now, sum_of_one);
   }
 
-  pub rows_pushed : rows_in (words ++ more) (spans ++ span ∷ []) ≡ rows_in words spans ++ map run_of_word more ∷ []
+  pub rows_pushed : rows_in now (spans ++ span ∷ []) ≡ rows_in before spans ++ map run_of_word more ∷ []
   rows_pushed =
-      rw (map-append (row_in (words ++ more)) spans (span ∷ []), rows_in-more words more spans p, row_in-last words more span start len) refl
+      rw (map-append (row_in now) spans (span ∷ []), rows_in-grown before now spans p grow, row_in-last now words more span last_block start len) refl
 
-  module _ (place : ℕ) (within : place < length spans) (empty : row_at (rows_in words spans) place ≡ []) where
+  module _ (place : ℕ) (within : place < length spans) (empty : row_at (rows_in before spans) place ≡ []) where
     -- a row without runs has no words
     none_before : (get_or spans place nowhere).len ≡ 0
     none_before =
-        let at = get_or-map (row_in words) spans place nowhere [] within in
-        let none : row_in words (get_or spans place nowhere) ≡ [] = sym at ∙ empty in
-        let len = length-row_in words (get_or spans place nowhere) (p.inside place nowhere within) in
-        let zero : length (row_in words (get_or spans place nowhere)) ≡ 0 = ap length none in
+        let at = get_or-map (row_in before) spans place nowhere [] within in
+        let none : row_in before (get_or spans place nowhere) ≡ [] = sym at ∙ empty in
+        let len = length-row_in before (get_or spans place nowhere) (p.inside place nowhere within) in
+        let zero : length (row_in before (get_or spans place nowhere)) ≡ 0 = ap length none in
         omega arith
 
     -- the last words are a row that had none
-    pub spans_put : AreSpans (words ++ more) (set spans place span)
+    pub spans_put : AreSpans now (set spans place span)
     spans_put = record {
-      inside = All-set (λ s. s.start + s.len ≤ length (words ++ more)) spans place span last_inside (inside_more words more spans p);
+      there = All-set (λ s. s.block < length now) spans place span last_there all_there;
+      inside = All-set (λ s. s.start + s.len ≤ length (block_numbered now s.block)) spans place span last_inside (inside_grown before now spans p grow);
       short = All-set (λ s. s.len ≤ MAX_PLACES) spans place span (omega arith) p.short;
       few = omega (arith, length-set spans place span, p.few);
-      all = omega (arith, none_before, sum_by-set (λ s. s.len) spans place span nowhere within, p.all, length-append words more);
+      used = omega (arith, length-set spans place span, p.used, as_many);
+      all = omega (arith, none_before, sum_by-set (λ s. s.len) spans place span nowhere within, p.all, sum_now);
     }
 
-    pub rows_put : rows_in (words ++ more) (set spans place span) ≡ set (rows_in words spans) place (map run_of_word more)
+    pub rows_put : rows_in now (set spans place span) ≡ set (rows_in before spans) place (map run_of_word more)
     rows_put =
-        rw (map-set (row_in (words ++ more)) spans place span, rows_in-more words more spans p, row_in-last words more span start len) refl
+        rw (map-set (row_in now) spans place span, rows_in-grown before now spans p grow, row_in-last now words more span last_block start len) refl
 
 -- ---- two pools
 
-module _ (words more : List ℕ) (spans others : List Span) (p : AreSpans words spans) (q : AreSpans more others) where
+module _ (blocks others : List (List ℕ)) (spans more : List Span) (p : AreSpans blocks spans) (q : AreSpans others more) where
   abbrev both : List Span
-  both = spans ++ map (moved (length words)) others
+  both = spans ++ map (moved (length blocks)) more
 
-  sum_by-moved : (xs : List Span) → sum_by (λ span. span.len) (map (moved (length words)) xs) ≡ sum_by (λ span. span.len) xs
+  sum_by-moved : (xs : List Span) → sum_by (λ span. span.len) (map (moved (length blocks)) xs) ≡ sum_by (λ span. span.len) xs
   sum_by-moved [] = refl
   sum_by-moved (x ∷ xs) =
-      let later = sum_by-cons (λ span. span.len) (moved (length words) x) (map (moved (length words)) xs) in
+      let later = sum_by-cons (λ span. span.len) (moved (length blocks) x) (map (moved (length blocks)) xs) in
       let here = sum_by-cons (λ span. span.len) x xs in
       let rest = sum_by-moved xs in
       omega arith
 
-  pub spans_appended : length spans + length others ≤ MAX_PASSABLE → AreSpans (words ++ more) both
-  spans_appended few = record {
+  pub spans_appended : 0 < length spans → 0 < length more → length spans + length more ≤ MAX_PASSABLE → AreSpans (blocks ++ others) both
+  spans_appended some other few = record {
+    there =
+        All-append (λ s. s.block < length (blocks ++ others)) spans (map (moved (length blocks)) more)
+        (λ k d within. omega (arith, length-append blocks others, p.there k d within))
+        (All-map (λ s. s.block < length (blocks ++ others)) (moved (length blocks)) more
+        (λ k d within. omega (arith, length-append blocks others, q.there k d within)));
     inside =
-        All-append (λ s. s.start + s.len ≤ length (words ++ more)) spans (map (moved (length words)) others) (inside_more words more spans p)
-        (All-map (λ s. s.start + s.len ≤ length (words ++ more)) (moved (length words)) others
-        (λ k d within. (let size = length-append words more in omega (arith, q.inside k d within))));
+        All-append (λ s. s.start + s.len ≤ length (block_numbered (blocks ++ others) s.block)) spans (map (moved (length blocks)) more)
+        (inside_grown blocks (blocks ++ others) spans p (left_grows blocks others))
+        (All-map (λ s. s.start + s.len ≤ length (block_numbered (blocks ++ others) s.block)) (moved (length blocks)) more
+        (λ k d within. (rw (get_or-append-add blocks others (get_or more k d).block []) (q.inside k d within))));
     short =
-        All-append (λ s. s.len ≤ MAX_PLACES) spans (map (moved (length words)) others) p.short
-        (All-map (λ s. s.len ≤ MAX_PLACES) (moved (length words)) others (λ k d within. q.short k d within));
-    few = omega (arith, length-append spans (map (moved (length words)) others), length-map others (moved (length words)));
-    all = omega (arith, sum_by-append (λ s. s.len) spans (map (moved (length words)) others), sum_by-moved others, p.all, q.all, length-append words more);
+        All-append (λ s. s.len ≤ MAX_PLACES) spans (map (moved (length blocks)) more) p.short
+        (All-map (λ s. s.len ≤ MAX_PLACES) (moved (length blocks)) more (λ k d within. q.short k d within));
+    few = omega (arith, length-append spans (map (moved (length blocks)) more), length-map more (moved (length blocks)));
+    used = omega (arith, length-append spans (map (moved (length blocks)) more), length-map more (moved (length blocks)), length-append blocks others, p.used, q.used);
+    all = omega (arith, sum_by-append (λ s. s.len) spans (map (moved (length blocks)) more), sum_by-moved more, p.all, q.all, sum_by-append length blocks others);
   }
 
-  pub rows_appended : rows_in (words ++ more) both ≡ rows_in words spans ++ rows_in more others
+  pub rows_appended : rows_in (blocks ++ others) both ≡ rows_in blocks spans ++ rows_in others more
   rows_appended =
-      let each = map_same_on (λ s. row_in (words ++ more) (moved (length words) s)) (row_in more) others (λ k d within. row_in-moved words more (get_or others k d)) in
-      rw (map-append (row_in (words ++ more)) spans (map (moved (length words)) others), rows_in-more words more spans p, map-map (row_in (words ++ more)) (moved (length words)) others, each) refl
+      let first = rows_in-grown blocks (blocks ++ others) spans p (left_grows blocks others) in
+      let second = map-map (row_in (blocks ++ others)) (moved (length blocks)) more in
+      let each = map_same_on (λ s. row_in (blocks ++ others) (moved (length blocks) s)) (row_in others) more (λ k d within. row_in-moved blocks others (get_or more k d)) in
+      rw (map-append (row_in (blocks ++ others)) spans (map (moved (length blocks)) more), first, second, each) refl
+
+-- the last block of the one pool stands before the blocks of the other
+blocks_joined : (closed more : List (List ℕ)) (words last : List ℕ) → blocks_of (closed ++ words ∷ more) last ≡ blocks_of closed words ++ blocks_of more last
+blocks_joined closed more words last =
+    append_assoc closed (words ∷ more) (last ∷ []) ∙ sym (append_assoc closed (words ∷ []) (blocks_of more last))
 
 -- ---- empty rows
 
-pub spans_blank : (count : ℕ) (span : Span) → span.start ≡ 0 → span.len ≡ 0 → count ≤ MAX_PASSABLE → AreSpans [] (replicate count span)
-spans_blank count span start len few = record {
-  inside = All-replicate (λ s. s.start + s.len ≤ 0) count span (omega arith);
+pub spans_blank : (count : ℕ) (span : Span) → span.start ≡ 0 → span.len ≡ 0 → span.block ≡ 0 → count ≤ MAX_PASSABLE → AreSpans (blocks_of [] []) (replicate count span)
+spans_blank count span start len block few = record {
+  there = All-replicate (λ s. s.block < 1) count span (omega arith);
+  inside = All-replicate (λ s. s.start + s.len ≤ length (block_numbered (blocks_of [] []) s.block)) count span (rw (start, len, block) (omega arith));
   short = All-replicate (λ s. s.len ≤ MAX_PLACES) count span (omega arith);
   few = omega (arith, length-replicate count span);
+  used = omega (arith, length-replicate count span);
   all =
       let product : count * span.len ≡ 0 = rw len (omega arith) in
-      sum_by-replicate (λ s. s.len) count span ∙ product;
+      let none = sum_of_blocks [] [] in
+      sum_by-replicate (λ s. s.len) count span ∙ product ∙ sym none;
 }
 
-pub rows_blank : (count : ℕ) (span : Span) → span.start ≡ 0 → span.len ≡ 0 → rows_in [] (replicate count span) ≡ replicate count []
-rows_blank count span start len =
+pub rows_blank : (count : ℕ) (span : Span) → span.len ≡ 0 → rows_in (blocks_of [] []) (replicate count span) ≡ replicate count []
+rows_blank count span len =
     let spans = replicate count span in
     let size = length-replicate count span in
-    let rows = length-map spans (row_in []) in
+    let rows = length-map spans (row_in (blocks_of [] [])) in
     let blank = length-replicate {A = List Run} count [] in
-    same_lists (rows_in [] spans) (replicate count []) (omega arith) (λ k d within.
+    same_lists (rows_in (blocks_of [] []) spans) (replicate count []) (omega arith) (λ k d within.
     (let inside : k < length spans = omega arith in
     let below : k < count = omega arith in
-    let read = get_or-map (row_in []) spans k span d inside in
+    let read = get_or-map (row_in (blocks_of [] [])) spans k span d inside in
     let same = get_or-replicate count k span span below in
-    let none = row_in-none span start len in
+    let none = row_in-none (blocks_of [] []) span len in
     let other = get_or-replicate {A = List Run} count k [] d below in
-    read ∙ ap (row_in []) same ∙ none ∙ sym other))
+    read ∙ ap (row_in (blocks_of [] [])) same ∙ none ∙ sym other))
 
 -- ---- as the code reads them
 
 -- as many rows as spans
-pub length-rows_in : (words : List ℕ) (spans : List Span) → length (rows_in words spans) ≡ length spans
-length-rows_in words spans = length-map spans (row_in words)
+pub length-rows_in : (blocks : List (List ℕ)) (spans : List Span) → length (rows_in blocks spans) ≡ length spans
+length-rows_in blocks spans = length-map spans (row_in blocks)
 
 -- so a row has a span
-pub row_has_span : (words : List ℕ) (spans : List Span) (place : ℕ) → place < length (rows_in words spans) → place < length spans
-row_has_span words spans place within = omega (arith, length-rows_in words spans)
+pub row_has_span : (blocks : List (List ℕ)) (spans : List Span) (place : ℕ) → place < length (rows_in blocks spans) → place < length spans
+row_has_span blocks spans place within = omega (arith, length-rows_in blocks spans)
 
 -- and there is room for a span where there is for a row
-pub room_for_span : (words : List ℕ) (spans : List Span) → length (rows_in words spans) < MAX_PASSABLE → length spans < MAX_PASSABLE
-room_for_span words spans few = omega (arith, length-rows_in words spans)
+pub room_for_span : (blocks : List (List ℕ)) (spans : List Span) → length (rows_in blocks spans) < MAX_PASSABLE → length spans < MAX_PASSABLE
+room_for_span blocks spans few = omega (arith, length-rows_in blocks spans)
 
 -- the row at a place
-pub row_read : (words : List ℕ) (spans : List Span) (place : ℕ) (span : Span) → place < length spans → span ≡ get_or spans place nowhere
-    → map run_of_word (take (span.start + span.len - span.start) (drop span.start words)) ≡ row_at (rows_in words spans) place
+pub row_read : (blocks : List (List ℕ)) (words : List ℕ) (spans : List Span) (place : ℕ) (span : Span) → place < length spans → span ≡ get_or spans place nowhere
+    → words ≡ block_numbered blocks span.block
+    → map run_of_word (take (span.start + span.len - span.start) (drop span.start words)) ≡ row_at (rows_in blocks spans) place
 unfolding row_in
-row_read words spans place span within is =
+row_read blocks words spans place span within is block =
     let len : span.start + span.len - span.start ≡ span.len = omega arith in
-    let read = get_or-map (row_in words) spans place nowhere [] within in
-    rw (len, read, ← is) refl
+    let read = get_or-map (row_in blocks) spans place nowhere [] within in
+    rw (len, block, read, ← is) refl
 
 -- it has no more words than a row may have
-pub row_short : (words read : List ℕ) (spans : List Span) (place : ℕ) (span : Span) → AreSpans words spans → place < length spans → span ≡ get_or spans place nowhere
-    → length (take (span.start + span.len - span.start) (drop span.start read)) ≤ MAX_PLACES
-row_short words read spans place span p within is =
+pub row_short : (blocks : List (List ℕ)) (words : List ℕ) (spans : List Span) (place : ℕ) (span : Span) → AreSpans blocks spans → place < length spans → span ≡ get_or spans place nowhere
+    → length (take (span.start + span.len - span.start) (drop span.start words)) ≤ MAX_PLACES
+row_short blocks words spans place span p within is =
     let short : span.len ≤ MAX_PLACES = rw is (p.short place nowhere within) in
-    omega (arith, length-take (span.start + span.len - span.start) (drop span.start read))
+    omega (arith, length-take (span.start + span.len - span.start) (drop span.start words))
 
 -- the words of a packed row behind the others
-module _ (words new : List ℕ) (spans : List Span) (sets : List ℕ) (p : AreSpans words spans) (few : length sets ≤ MAX_PLACES) (appended : AppendsRow words new sets) where
+module _ (closed : List (List ℕ)) (words new : List ℕ) (spans : List Span) (sets : List ℕ) (p : AreSpans (blocks_of closed words) spans)
+    (few : length sets ≤ MAX_PLACES) (appended : AppendsRow words new sets) where
   abbrev added : List ℕ
   added = appended.row
 
@@ -236,40 +355,43 @@ module _ (words new : List ℕ) (spans : List Span) (sets : List ℕ) (p : AreSp
   short_appended =
       omega (arith, length-map added run_of_word, length-row (map run_of_word added) (length sets) appended.packed.tight.row, few)
 
-  pub few_appended : length new < 2 ^ 32
-  few_appended = omega (arith, size_appended, short_appended, few_words words spans p)
+  pub sets_can_be_span : CanBeSpan (length closed) (length words) (length new)
+  sets_can_be_span = can_be_span closed words added new spans p size_appended short_appended
 
-  module _ (span : Span) (start : span.start ≡ length words) (end : span.start + span.len ≡ length new) where
+  module _ (span : Span) (block : span.block ≡ length closed) (start : span.start ≡ length words) (end : span.start + span.len ≡ length new) where
     len_appended : span.len ≡ length added
     len_appended = omega (arith, size_appended)
 
-    pub spans_pushed_sets : (now : List Span) → now ≡ spans ++ span ∷ [] → length spans < MAX_PASSABLE → AreSpans new now
+    pub spans_pushed_sets : (now : List Span) → now ≡ spans ++ span ∷ [] → length spans < MAX_PASSABLE → AreSpans (blocks_of closed new) now
     spans_pushed_sets now push room =
-        rw (appended.behind, push) (spans_pushed words added spans p span start len_appended short_appended room)
+        rw (appended.behind, push) (spans_pushed closed words added spans p span block start len_appended short_appended room)
 
-    pub rows_pushed_sets : (now : List Span) → now ≡ spans ++ span ∷ [] → PushesPacked (rows_in words spans) (rows_in new now) sets
+    pub rows_pushed_sets : (now : List Span) → now ≡ spans ++ span ∷ [] → PushesPacked (rows_in (blocks_of closed words) spans) (rows_in (blocks_of closed new) now) sets
     rows_pushed_sets now push =
-        let rows : rows_in (words ++ added) now ≡ rows_in words spans ++ map run_of_word added ∷ [] =
-        rw push (rows_pushed words added spans p span start len_appended short_appended) in
+        let rows : rows_in (blocks_of closed (words ++ added)) now ≡ rows_in (blocks_of closed words) spans ++ map run_of_word added ∷ [] =
+        rw push (rows_pushed closed words added spans p span block start len_appended short_appended) in
         record {
           row = map run_of_word added;
           packed = appended.packed;
-          last = ap (λ w. rows_in w now) appended.behind ∙ rows;
+          last = ap (λ w. rows_in (blocks_of closed w) now) appended.behind ∙ rows;
         }
 
-    module _ (place : ℕ) (within : place < length spans) (empty : row_at (rows_in words spans) place ≡ []) where
-      pub spans_put_sets : AreSpans new (set spans place span)
-      spans_put_sets = rw appended.behind (spans_put words added spans p span start len_appended short_appended place within empty)
+    module _ (place : ℕ) (within : place < length spans) (empty : row_at (rows_in (blocks_of closed words) spans) place ≡ []) where
+      pub spans_put_sets : AreSpans (blocks_of closed new) (set spans place span)
+      spans_put_sets = rw appended.behind (spans_put closed words added spans p span block start len_appended short_appended place within empty)
 
-      pub rows_put_sets : PutsPacked (rows_in words spans) (rows_in new (set spans place span)) place sets
+      pub rows_put_sets : PutsPacked (rows_in (blocks_of closed words) spans) (rows_in (blocks_of closed new) (set spans place span)) place sets
       rows_put_sets = record {
         row = map run_of_word added;
         packed = appended.packed;
-        there = ap (λ w. rows_in w (set spans place span)) appended.behind ∙ (rows_put words added spans p span start len_appended short_appended place within empty);
+        there =
+            ap (λ w. rows_in (blocks_of closed w) (set spans place span)) appended.behind
+            ∙ (rows_put closed words added spans p span block start len_appended short_appended place within empty);
       }
 
 -- the words of runs behind the others
-module _ (words new : List ℕ) (spans : List Span) (runs : List Run) (p : AreSpans words spans) (kept : CanBeKept runs) (appended : new ≡ words ++ map word_of runs) where
+module _ (closed : List (List ℕ)) (words new : List ℕ) (spans : List Span) (runs : List Run) (p : AreSpans (blocks_of closed words) spans)
+    (kept : CanBeKept runs) (appended : new ≡ words ++ map word_of runs) where
   abbrev made : List ℕ
   made = map word_of runs
 
@@ -279,34 +401,71 @@ module _ (words new : List ℕ) (spans : List Span) (runs : List Run) (p : AreSp
   short_made : length made ≤ MAX_PLACES
   short_made = omega (arith, length-map runs word_of, kept.few)
 
-  pub few_made : length new < 2 ^ 32
-  few_made = omega (arith, size_made, short_made, few_words words spans p)
+  pub runs_can_be_span : CanBeSpan (length closed) (length words) (length new)
+  runs_can_be_span = can_be_span closed words made new spans p size_made short_made
 
   made_back : map run_of_word made ≡ runs
   made_back = map-run_of_word runs (λ k d within. (let small : (get_or runs k d).mv ≤ 7 = kept.moves k d within in omega arith))
 
-  module _ (span : Span) (start : span.start ≡ length words) (end : span.start + span.len ≡ length new) (now : List Span) (push : now ≡ spans ++ span ∷ []) where
+  module _ (span : Span) (block : span.block ≡ length closed) (start : span.start ≡ length words) (end : span.start + span.len ≡ length new)
+      (now : List Span) (push : now ≡ spans ++ span ∷ []) where
     len_made : span.len ≡ length made
     len_made = omega (arith, size_made)
 
-    pub spans_pushed_runs : length spans < MAX_PASSABLE → AreSpans new now
-    spans_pushed_runs room = rw (appended, push) (spans_pushed words made spans p span start len_made short_made room)
+    pub spans_pushed_runs : length spans < MAX_PASSABLE → AreSpans (blocks_of closed new) now
+    spans_pushed_runs room = rw (appended, push) (spans_pushed closed words made spans p span block start len_made short_made room)
 
-    pub rows_pushed_runs : rows_in new now ≡ rows_in words spans ++ runs ∷ []
+    pub rows_pushed_runs : rows_in (blocks_of closed new) now ≡ rows_in (blocks_of closed words) spans ++ runs ∷ []
     rows_pushed_runs =
-        rw (appended, push) (rows_pushed words made spans p span start len_made short_made ∙ ap (λ row. rows_in words spans ++ row ∷ []) made_back)
+        rw (appended, push) (rows_pushed closed words made spans p span block start len_made short_made ∙ ap (λ row. rows_in (blocks_of closed words) spans ++ row ∷ []) made_back)
 
--- the words and the spans of a pool behind those of another
-module _ (words more : List ℕ) (spans others : List Span) (p : AreSpans words spans) (q : AreSpans more others) (size : ℕ) (all : size ≡ length words) where
-  pub starts_fit : All (λ span. size + span.start < 2 ^ 32) others
-  starts_fit = λ k d within. omega (arith, q.inside k d within, few_words words spans p, few_words more others q)
+-- the blocks and the spans of a pool behind those of another
+module _ {X : Type 0} (items : X → List ℕ) (closed more : List X) (words last : List ℕ) (spans others : List Span)
+    (p : AreSpans (blocks_of (map items closed) words) spans) (q : AreSpans (blocks_of (map items more) last) others)
+    (some : 0 < length spans) (other : 0 < length others)
+    (few : length (rows_in (blocks_of (map items closed) words) spans) + length (rows_in (blocks_of (map items more) last) others) ≤ MAX_PASSABLE)
+    (size : ℕ) (all : size ≡ length closed + 1) where
+  abbrev here : List (List ℕ)
+  here = blocks_of (map items closed) words
 
-  module _ (new : List ℕ) (now : List Span) (joined : new ≡ words ++ more) (shifted : now ≡ spans ++ map (moved size) others) where
-    pub spans_joined : length (rows_in words spans) + length (rows_in more others) ≤ MAX_PASSABLE → AreSpans new now
-    spans_joined few =
-        let here = length-rows_in words spans in
-        let there = length-rows_in more others in
-        rw (joined, shifted, all) (spans_appended words more spans others p q (omega arith))
+  abbrev there : List (List ℕ)
+  there = blocks_of (map items more) last
 
-    pub rows_joined : rows_in new now ≡ rows_in words spans ++ rows_in more others
-    rows_joined = rw (joined, shifted, all) (rows_appended words more spans others p q)
+  size_is : size ≡ length here
+  size_is = omega (arith, all, length_push (map items closed) words, length-map closed items)
+
+  few_spans : length spans + length others ≤ MAX_PASSABLE
+  few_spans = omega (arith, few, length-rows_in here spans, length-rows_in there others)
+
+  pub size_fits : size < 2 ^ 16
+  size_fits = omega (arith, size_is, p.used, few_spans)
+
+  pub numbers_fit : All (λ span. size + span.block < 2 ^ 16) others
+  numbers_fit = λ k d within. omega (arith, q.there k d within, p.used, q.used, size_is, few_spans)
+
+  module _ (new : List X) (ending : X) (now : List Span) (joined : new ≡ closed ++ ending ∷ more) (ends : items ending ≡ words)
+      (shifted : now ≡ spans ++ map (moved size) others) where
+    blocks_are : blocks_of (map items new) last ≡ here ++ there
+    blocks_are =
+        let all_items : map items new ≡ map items closed ++ words ∷ map items more =
+        ap (map items) joined ∙ map-append items closed (ending ∷ more) ∙ ap (λ block. map items closed ++ block ∷ map items more) ends in
+        ap (λ blocks. blocks_of blocks last) all_items ∙ blocks_joined (map items closed) (map items more) words last
+
+    pub spans_joined : AreSpans (blocks_of (map items new) last) now
+    spans_joined = rw (blocks_are, shifted, size_is) (spans_appended here there spans others p q some other few_spans)
+
+    pub rows_joined : rows_in (blocks_of (map items new) last) now ≡ rows_in here spans ++ rows_in there others
+    rows_joined = rw (blocks_are, shifted, size_is) (rows_appended here there spans others p q)
+
+-- the words of all blocks, counted block by block
+module _ {X : Type 0} (items : X → List ℕ) (closed : List X) (words : List ℕ) where
+  sum_by_items : (blocks : List X) → sum_by length (map items blocks) ≡ sum_by (λ block. length (items block)) blocks
+  sum_by_items [] = refl
+  sum_by_items (block ∷ blocks) =
+      let seen = sum_by-cons length (items block) (map items blocks) in
+      let counted = sum_by-cons (λ block. length (items block)) block blocks in
+      let rest = sum_by_items blocks in
+      omega arith
+
+  pub words_counted : sum_by length (blocks_of (map items closed) words) ≡ length words + sum_by (λ block. length (items block)) closed
+  words_counted = omega (arith, sum_of_blocks (map items closed) words, sum_by_items closed)

@@ -1,5 +1,5 @@
 -- How rows lie in a list of words, and the places of cells in their bounds.
-use Rattle.std.specs.Prelude.{◌≡◌, ℕ, ◌+◌, ◌*◌, ◌<◌, ◌≤◌, ◌⊎◌, List, length, map, take, drop, slice_index, All, sum_by}
+use Rattle.std.specs.Prelude.{◌≡◌, ℕ, suc, ◌+◌, ◌-◌, ◌*◌, ◌^◌, ◌<◌, ◌≤◌, ◌⊎◌, List, [], ◌∷◌, ◌++◌, length, map, take, drop, slice_index, slice_index_or, All, sum_by}
 use Rattle.run_pack.specs.declared.Run.{Run}
 use Rattle.run_pack.specs.declared.TheConstants.{MAX_PLACES}
 use Rattle.run_pack.specs.Runs.{run_of_word}
@@ -10,28 +10,46 @@ use Rattle.moves.specs.Rectangles.{Rectangle, IsWithin, place_in}
 use Rattle.row_store.specs.declared.pool.Span.{Span}
 use Rattle.row_store.specs.declared.TheConstants.{NO_PLACE}
 
+-- the words of the block with that number
+abbrev pub block_numbered : List (List ℕ) → ℕ → List ℕ
+block_numbered blocks number = slice_index_or blocks number []
+
+-- the blocks, of which the last one stands apart
+abbrev pub blocks_of : List (List ℕ) → List ℕ → List (List ℕ)
+blocks_of closed words = closed ++ words ∷ []
+
+-- the words of the block with that number, from `start` to before `end`, can be those of a row
+pub record CanBeSpan (block start end : ℕ) : Type 0 where
+  pub number : block < 2 ^ 16
+  pub order : start ≤ end
+  pub short : end - start ≤ MAX_PLACES
+  pub limit : end < 2 ^ 32
+
 -- the words of a row
-abbrev pub words_at : List ℕ → Span → List ℕ
-words_at words span = take span.len (drop span.start words)
+abbrev pub words_at : List (List ℕ) → Span → List ℕ
+words_at blocks span = take span.len (drop span.start (block_numbered blocks span.block))
 
 -- the row whose words lie there
-unfoldable pub row_in : List ℕ → Span → List Run
-row_in words span = map run_of_word (words_at words span)
+unfoldable pub row_in : List (List ℕ) → Span → List Run
+row_in blocks span = map run_of_word (words_at blocks span)
 
 -- the rows whose words lie there
-abbrev pub rows_in : List ℕ → List Span → List (List Run)
-rows_in words spans = map (row_in words) spans
+abbrev pub rows_in : List (List ℕ) → List Span → List (List Run)
+rows_in blocks spans = map (row_in blocks) spans
 
--- the rows lie among the words, none is longer than a row may be, and each word is one of a row's
-pub record AreSpans (words : List ℕ) (spans : List Span) : Type 0 where
-  pub inside : All (λ span. span.start + span.len ≤ length words) spans
+-- the rows lie in the blocks, none is longer than a row may be, each word is one of a row's, and only a pool without
+-- rows has a block more than rows
+pub record AreSpans (blocks : List (List ℕ)) (spans : List Span) : Type 0 where
+  pub there : All (λ span. span.block < length blocks) spans
+  pub inside : All (λ span. span.start + span.len ≤ length (block_numbered blocks span.block)) spans
   pub short : All (λ span. span.len ≤ MAX_PLACES) spans
   pub few : length spans ≤ MAX_PASSABLE
-  pub all : sum_by (λ span. span.len) spans ≡ length words
+  pub used : length blocks ≤ suc (length spans - 1)
+  pub all : sum_by (λ span. span.len) spans ≡ sum_by length blocks
 
--- the span of a row that comes so many words later
+-- the span of a row whose block comes so many blocks later
 abbrev pub moved : ℕ → Span → Span
-moved words span = record { start = words + span.start; len = span.len }
+moved blocks span = record { start = span.start; len = span.len; block = blocks + span.block }
 
 -- all cells lie in the area, and each place of the area has the number of its cell, or none where it has no cell
 pub record ArePlaces (cells : List Cell) (area : Rectangle) (places : List ℕ) : Type 0 where

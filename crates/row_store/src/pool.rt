@@ -1,28 +1,35 @@
-//! Rows of runs in one list of words, each found again by where it starts and how many words it has.
+//! Rows of runs in blocks of words, each found again by its block, where it starts there and how many words it has.
 
-ghost use Rattle.std.specs.Prelude.{◌≡◌, ◌+◌, ◌*◌, ◌^◌, ◌<◌, ◌≤◌, [], ◌∷◌, ◌++◌, map, take, length, replicate, slice_set, sum_by, All, IfOk, OnOk, OnErr};
+ghost use Rattle.std.specs.Prelude.{◌≡◌, ◌+◌, ◌-◌, ◌*◌, ◌^◌, ◌<◌, ◌≤◌, [], ◌∷◌, ◌++◌, map, take, length, replicate, slice_set, sum_by, All, IfOk, OnOk, OnErr, vec_capacity};
 ghost use Rattle.run_pack.specs.Runs.{ArePackable, word_of, run_of_word};
 ghost use Rattle.row_store.specs.Rows.{row_at};
 ghost use Rattle.row_store.specs.Pools.{CanBeKept, PushesPacked, PutsPacked};
-ghost use Rattle.row_store.specs.Layout.{moved};
+ghost use Rattle.row_store.specs.Layout.{block_numbered, blocks_of, moved, CanBeSpan};
 
 use moves::MAX_PASSABLE;
 use run_pack::{MAX_PLACES, Run, append_words, word};
 use std::alloc::{AllocError, Global};
 use std::marker::Model;
+use std::mem;
 
 /// Where the words of a row lie.
 #[derive(Clone, Copy)]
 struct Span {
+    /// The first word in its block.
     start: u32,
-    len: u32,
+    len: u16,
+    block: u16,
 }
 
-/// A list of rows, whose runs lie as words in the order in which the rows were written.
+/// A list of rows, whose runs lie as words in the order in which the rows were written. The words of pools that were
+/// appended stay where they are, as blocks of their own.
 ///
 /// A run takes four bytes and a row eight more.
 #[derive(Drop)]
 pub struct RowPool {
+    /// The blocks to which no row is added any more, with no memory that they do not use.
+    closed: Vec<Vec<u32>>,
+    /// The last block.
     words: Vec<u32>,
     spans: Vec<Span>,
 }
@@ -30,13 +37,15 @@ pub struct RowPool {
 impl Model for RowPool {
     ghost use Rattle.std.specs.Prelude.{List};
     ghost use Rattle.run_pack.specs.declared.Run.{Run};
-    ghost use Rattle.row_store.specs.Layout.{rows_in, AreSpans};
+    ghost use Rattle.std.specs.Prelude.{map};
+    ghost use Rattle.row_store.specs.Layout.{rows_in, blocks_of, AreSpans};
 
     ghost Value = { List (List Run) };
 
-    ghost view = { λ p. rows_in p.words.items p.spans.items };
+    ghost view = { λ p. rows_in (blocks_of (map (λ block. block.items) p.closed.items) p.words.items) p.spans.items };
 
-    ghost invariant = { λ p. AreSpans p.words.items p.spans.items };
+    ghost invariant = { λ p.
+        AreSpans (blocks_of (map (λ block. block.items) p.closed.items) p.words.items) p.spans.items };
 }
 
 impl RowPool {
@@ -45,6 +54,7 @@ impl RowPool {
         ensures { result ≡ [] }
     {
         RowPool {
+            closed: Vec::new(alloc),
             words: Vec::new(alloc),
             spans: Vec::new(alloc),
         }
@@ -59,8 +69,13 @@ impl RowPool {
         requires { count ≤ MAX_PASSABLE }
         ensures { IfOk result (λ pool. pool ≡ replicate count []) }
     {
-        let span = Span { start: 0, len: 0 };
+        let span = Span {
+            start: 0,
+            len: 0,
+            block: 0,
+        };
         Ok(RowPool {
+            closed: Vec::new(alloc),
             words: Vec::new(alloc),
             spans: vec![in alloc; span; count]?,
         })
@@ -77,10 +92,11 @@ impl RowPool {
         ensures ok { OnOk result (self.new ≡ self.old ++ runs.now ∷ []) }
         ensures refused { OnErr result (self.new ≡ self.old) }
     {
+        let block = self.closed.len();
         let start = self.words.len();
         self.spans.reserve(1)?;
         append_runs(&mut self.words, runs)?;
-        self.spans.push(span_from(start, self.words.len()))?;
+        self.spans.push(span_from(block, start, self.words.len()))?;
         Ok(())
     }
 
@@ -95,10 +111,11 @@ impl RowPool {
         ensures ok { OnOk result (PushesPacked self.old self.new sets.now) }
         ensures refused { OnErr result (self.new ≡ self.old) }
     {
+        let block = self.closed.len();
         let start = self.words.len();
         self.spans.reserve(1)?;
         append_words(&mut self.words, sets)?;
-        self.spans.push(span_from(start, self.words.len()))?;
+        self.spans.push(span_from(block, start, self.words.len()))?;
         Ok(())
     }
 
@@ -114,9 +131,10 @@ impl RowPool {
         ensures ok { OnOk result (PutsPacked self.old self.new place sets.now) }
         ensures refused { OnErr result (self.new ≡ self.old) }
     {
+        let block = self.closed.len();
         let start = self.words.len();
         append_words(&mut self.words, sets)?;
-        self.spans[place] = span_from(start, self.words.len());
+        self.spans[place] = span_from(block, start, self.words.len());
         Ok(())
     }
 
@@ -132,15 +150,15 @@ impl RowPool {
         ensures ok { OnOk result (self.new ≡ slice_set self.old place (map run_of_word words.now)) }
         ensures refused { OnErr result (self.new ≡ self.old) }
     {
+        let block = self.closed.len();
         let start = self.words.len();
         self.words.extend_from_slice(words)?;
-        let span = span_from(start, self.words.len());
+        let span = span_from(block, start, self.words.len());
         self.spans[place] = span;
         Ok(())
     }
 
-    /// Adds the rows of another pool, in their order. Nothing is copied where this one is empty, and else no more
-    /// memory is taken than the rows need.
+    /// Adds the rows of another pool, in their order. No word is copied, however long the rows are.
     ///
     /// # Errors
     ///
@@ -154,18 +172,20 @@ impl RowPool {
             *self = other;
             return Ok(());
         }
-        let (words, spans) = (self.words.len(), self.spans.len());
-        self.spans.reserve_exact(other.spans.len())?;
-        self.words.reserve_exact(other.words.len())?;
-        self.words.extend_from_slice(&other.words)?;
-        match append_spans(&mut self.spans, &other.spans, words as u32) {
-            Ok(()) => Ok(()),
-            Err(full) => {
-                self.words.truncate(words);
-                self.spans.truncate(spans);
-                Err(full)
-            }
+        if other.spans.is_empty() {
+            return Ok(());
         }
+        let blocks = self.closed.len() + 1;
+        let RowPool {
+            closed,
+            words,
+            spans,
+        } = other;
+        self.words.shrink_to_fit();
+        self.spans.reserve_exact(spans.len())?;
+        append_blocks(&mut self.closed, &mut self.words, closed, words)?;
+        append_spans(&mut self.spans, &spans, blocks as u16);
+        Ok(())
     }
 
     /// How many rows there are.
@@ -179,7 +199,7 @@ impl RowPool {
     pub fn runs(&self) -> u64
         ensures { result ≡ sum_by length self.now }
     {
-        self.words.len() as u64
+        count_words(&self.closed, &self.words)
     }
 
     /// The words of a row, one a run.
@@ -190,29 +210,56 @@ impl RowPool {
     {
         let span = self.spans[place];
         let start = span.start as usize;
-        &self.words[start..start + span.len as usize]
+        let block = block_at(&self.closed, &self.words, usize::from(span.block));
+        &block[start..start + usize::from(span.len)]
     }
 
     /// Gives back memory that the rows do not need.
     pub fn shrink(&mut self)
         ensures { self.new ≡ self.old }
     {
+        self.closed.shrink_to_fit();
         self.words.shrink_to_fit();
         self.spans.shrink_to_fit();
     }
 }
 
-/// The span of the words from a place to before another.
-fn span_from(start: usize, end: usize) -> Span
-    requires order { start ≤ end }
-    requires limit { end < 2 ^ 32 }
+/// The span of the words of a block from a place to before another.
+fn span_from(block: usize, start: usize, end: usize) -> Span
+    requires { CanBeSpan block start end }
+    ensures block { result.block ≡ block }
     ensures start { result.start ≡ start }
     ensures end { result.start + result.len ≡ end }
 {
     Span {
         start: start as u32,
-        len: (end - start) as u32,
+        len: (end - start) as u16,
+        block: block as u16,
     }
+}
+
+/// The words of the block with that number, of which the last one stands apart.
+fn block_at<'a>(closed: &'a [Vec<u32>], words: &'a [u32], number: usize) -> &'a [u32]
+    requires { number ≤ length closed.now }
+    ensures { result.now ≡ block_numbered (blocks_of (map (λ block. block.items) closed.now) words.now) number }
+{
+    if number < closed.len() {
+        &closed[number]
+    } else {
+        words
+    }
+}
+
+/// How many words the blocks have, of which the last one stands apart.
+fn count_words(closed: &[Vec<u32>], words: &[u32]) -> u64
+    requires { sum_by length (blocks_of (map (λ block. block.items) closed.now) words.now) < 2 ^ 32 }
+    ensures { result ≡ sum_by length (blocks_of (map (λ block. block.items) closed.now) words.now) }
+{
+    let mut count = words.len() as u64;
+    for block in closed {
+        count += block.len() as u64;
+    }
+    count
 }
 
 /// Appends a word for each run. After an error the words are as before.
@@ -243,17 +290,35 @@ fn push_words(words: &mut Vec<u32>, runs: &[Run]) -> Result<(), AllocError>
     Ok(())
 }
 
-/// Appends the spans of rows that lie behind so many words. After an error some of them may stand there.
-fn append_spans(spans: &mut Vec<Span>, others: &[Span], words: u32) -> Result<(), AllocError>
-    requires { All (λ span. words + span.start < 2 ^ 32) others.now }
-    ensures kept { take (length spans.old.items) spans.new.items ≡ spans.old.items }
-    ensures ok { OnOk result (spans.new.items ≡ spans.old.items ++ map (moved words) others.now) }
+/// Adds the blocks of another pool to those of one, of which the last block of each stands apart. After an error they
+/// are as before.
+fn append_blocks(
+    closed: &mut Vec<Vec<u32>>,
+    words: &mut Vec<u32>,
+    more: Vec<Vec<u32>>,
+    last: Vec<u32>,
+) -> Result<(), AllocError>
+    ensures ok { OnOk result (
+        (closed.new.items ≡ closed.old.items ++ words.old ∷ more.items) × (words.new ≡ last)) }
+    ensures refused { OnErr result ((closed.new.items ≡ closed.old.items) × (words.new ≡ words.old)) }
+{
+    let mut more = more;
+    closed.reserve_exact(more.len() + 1)?;
+    closed.push(mem::replace(words, last))?;
+    closed.append(&mut more)?;
+    Ok(())
+}
+
+/// Appends the spans of rows whose blocks come behind so many others, where there is room for them.
+fn append_spans(spans: &mut Vec<Span>, others: &[Span], blocks: u16)
+    requires room { length spans.old.items + length others.now ≤ vec_capacity spans.old }
+    requires blocks { All (λ span. blocks + span.block < 2 ^ 16) others.now }
+    ensures { spans.new.items ≡ spans.old.items ++ map (moved blocks) others.now }
 {
     for span in others {
-        spans.push(Span {
-            start: words + span.start,
-            len: span.len,
-        })?;
+        spans.push_reserved(Span {
+            block: blocks + span.block,
+            ..*span
+        });
     }
-    Ok(())
 }

@@ -154,12 +154,19 @@ fn adds_rows_of_runs(rt: HostRuntime) -> Result<(), Fail> {
 #[test]
 fn appends_pools(rt: HostRuntime) -> Result<(), Fail> {
     let alloc = rt.alloc();
-    for cut in 0..4 {
-        let mut pool = rows_of_line(&rt, alloc, 0, cut)?;
-        let other = rows_of_line(&rt, alloc, cut, 3)?;
-        assert!(rt; pool.len() <= 3 && other.len() <= 3);
-        pool.append(other)?;
+    for (first, second) in [(0, 0), (0, 2), (1, 1), (1, 2), (2, 3), (3, 3)] {
+        let mut pool = rows_of_line(&rt, alloc, 0, first)?;
+        for (from, to) in [(first, second), (second, 3)] {
+            let other = rows_of_line(&rt, alloc, from, to)?;
+            assert!(rt; pool.len() <= 3 && other.len() <= 3);
+            pool.append(other)?;
+        }
         assert_eq!(rt; text_of(alloc, &pool)?.as_str(), " 0E/ 0W 2E/ 0W");
+        assert_eq!(rt; pool.runs(), 4);
+        pool.shrink();
+        push_sets(&rt, &mut pool, &LINE[1])?;
+        assert_eq!(rt; text_of(alloc, &pool)?.as_str(), " 0E/ 0W 2E/ 0W/ 0W 2E");
+        assert_eq!(rt; pool.runs(), 6);
     }
     let mut none = RowPool::new(alloc);
     assert!(rt; none.len() == 0);
@@ -167,5 +174,27 @@ fn appends_pools(rt: HostRuntime) -> Result<(), Fail> {
     assert!(rt; other.len() == 0);
     none.append(other)?;
     assert_eq!(rt; none.len(), 0);
+    Ok(())
+}
+
+/// Rows may be put among those of a pool to which others were appended, and it may be appended itself.
+#[test]
+fn appends_appended_pools(rt: HostRuntime) -> Result<(), Fail> {
+    let alloc = rt.alloc();
+    let mut blank = RowPool::blank(alloc, 2)?;
+    let last = rows_of_line(&rt, alloc, 2, 3)?;
+    assert!(rt; blank.len() == 2 && last.len() == 1);
+    blank.append(last)?;
+    put_sets(&rt, &mut blank, 1, &LINE[1])?;
+    put_words(&rt, &mut blank, 0, WORDS[0])?;
+    assert_eq!(rt; text_of(alloc, &blank)?.as_str(), " 0E/ 0W 2E/ 0W");
+    let mut pool = rows_of_line(&rt, alloc, 1, 3)?;
+    assert!(rt; pool.len() == 2 && blank.len() == 3);
+    pool.append(blank)?;
+    assert_eq!(rt;
+        text_of(alloc, &pool)?.as_str(),
+        " 0W 2E/ 0W/ 0E/ 0W 2E/ 0W"
+    );
+    assert_eq!(rt; pool.runs(), 7);
     Ok(())
 }

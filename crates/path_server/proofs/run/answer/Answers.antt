@@ -1,8 +1,8 @@
 use Rattle.std.proofs.Common.{subst}
 use Rattle.clap.proofs.TakesLemmas.{passed_up}
-use Rattle.path_server.specs.declared.request.BuildOptions.{BuildOptions}
-use Rattle.path_server.specs.Requests.{asked}
-use Rattle.path_server.specs.Runs.{IsCause, IsFirstVersion, run_over}
+use Rattle.path_commands.specs.declared.request.BuildOptions.{BuildOptions}
+use Rattle.path_commands.specs.Requests.{asked}
+use Rattle.path_commands.specs.Runs.{IsCause, IsFirstVersion, run_over}
 use Rattle.path_server.proofs.RunLemmas.{answer_is, asks_of, refusal_is, second_fails}
 use Rattle.path_server.proofs.run.answer.Goals as goal
 

@@ -1,5 +1,5 @@
-use Rattle.path_server.specs.declared.status.Status.TheVariants as status
-use Rattle.path_server.specs.Runs.{run_over}
+use Rattle.path_commands.specs.declared.status.Status.TheVariants as status
+use Rattle.path_commands.specs.Runs.{run_over}
 use Rattle.path_server.proofs.RunLemmas.{breaks_refusal, puts_refusal}
 use Rattle.path_server.proofs.run.print.Goals as goal
 

@@ -1,25 +1,30 @@
 use Rattle.std.proofs.Common.{◌≡◌, [], ◌∷◌, ◌++◌, length, ap, ◌∙◌, rules}
 use Rattle.row_store.specs.declared.pool.Span.{Span}
-use Rattle.row_store.proofs.Spans.{few_made, room_for_span, spans_pushed_runs, rows_pushed_runs}
+use Rattle.row_store.proofs.Spans.{counted, runs_can_be_span, room_for_span, spans_pushed_runs, rows_pushed_runs}
 use Rattle.row_store.proofs.pool.RowPool.push_row.Goals as goal
 
-pub span_from-requires-clause-limit : goal.span_from-requires-clause-limit
-span_from-requires-clause-limit c =
-    let size : c.len.result ≡ length c.append_runs.new.words.items = search rules in
-    rw size (few_made _ _ _ _ c.self.invariant c.requires.runs c.in_ok-append_runs.ensures.ok)
+pub span_from-requires : goal.span_from-requires
+span_from-requires c =
+    let block : c.len-block.result ≡ length c.self.inside.closed.items = search rules in
+    let start : c.len-start.result ≡ length c.self.inside.words.items = search rules in
+    let end : c.len.result ≡ length c.append_runs.new.words.items = search rules in
+    rw (counted (λ block. block.items) _ _ block, start, end)
+    (runs_can_be_span _ _ _ _ _ c.self.invariant c.requires.runs c.in_ok-append_runs.ensures.ok)
 
 pub invariant_of-self-2 : goal.invariant_of-self-2
 invariant_of-self-2 c =
+    let home : c.span_from.result.block ≡ length c.self.inside.closed.items = search rules in
     let span : Span = c.span_from.result in
     let pushed = c.in_ok-push.ensures.items ∙ ap (λ xs. xs ++ span ∷ []) c.in_ok-reserve.ensures.items in
     let room = room_for_span _ _ (rw (← c.self.view_is) at c.requires.rows) in
-    spans_pushed_runs _ _ _ _ c.self.invariant c.requires.runs c.in_ok-append_runs.ensures.ok
-    span (search rules) (search rules) _ pushed room
+    spans_pushed_runs _ _ _ _ _ c.self.invariant c.requires.runs c.in_ok-append_runs.ensures.ok
+    span (counted (λ block. block.items) _ _ home) (search rules) (search rules) _ pushed room
 
 pub returns-clause-ok : goal.returns-clause-ok
 returns-clause-ok c =
+    let home : c.span_from.result.block ≡ length c.self.inside.closed.items = search rules in
     let span : Span = c.span_from.result in
     let pushed = c.in_ok-push.ensures.items ∙ ap (λ xs. xs ++ span ∷ []) c.in_ok-reserve.ensures.items in
     rw (← c.self.view_is)
-    (rows_pushed_runs _ _ _ _ c.self.invariant c.requires.runs c.in_ok-append_runs.ensures.ok
-    span (search rules) (search rules) _ pushed)
+    (rows_pushed_runs _ _ _ _ _ c.self.invariant c.requires.runs c.in_ok-append_runs.ensures.ok
+    span (counted (λ block. block.items) _ _ home) (search rules) (search rules) _ pushed)

@@ -1,18 +1,15 @@
-use Rattle.std.proofs.Common.{◌∙◌}
+use Rattle.std.proofs.Common.{◌≡◌, map, ◌∙◌}
 use Rattle.std.proofs.lemmas.List.{get_or_default}
-use Rattle.row_store.proofs.Spans.{nowhere, row_has_span, row_read, row_short}
+use Rattle.row_store.specs.Layout.{block_numbered, blocks_of}
+use Rattle.row_store.proofs.Spans.{nowhere, row_has_span, row_read}
 use Rattle.row_store.proofs.pool.RowPool.row.Goals as goal
 
 pub returns-clause-row : goal.returns-clause-row
 returns-clause-row c =
     let spans = c.self.inside.spans.items in
-    let within = row_has_span c.self.inside.words.items spans c.args.place (rw (← c.self.view_is) at c.requires) in
+    let blocks = blocks_of (map (λ block. block.items) c.self.inside.closed.items) c.self.inside.words.items in
+    let within = row_has_span blocks spans c.args.place (rw (← c.self.view_is) at c.requires) in
     let span = c.index-span.ensures ∙ get_or_default spans c.args.place c.index-span.result.now nowhere within in
-    rw (← c.self.view_is, c.deref.ensures.value) (row_read _ _ _ _ within span)
-
-pub returns-clause-limit : goal.returns-clause-limit
-returns-clause-limit c =
-    let spans = c.self.inside.spans.items in
-    let within = row_has_span c.self.inside.words.items spans c.args.place (rw (← c.self.view_is) at c.requires) in
-    let span = c.index-span.ensures ∙ get_or_default spans c.args.place c.index-span.result.now nowhere within in
-    row_short _ _ _ _ _ c.self.invariant within span
+    let block : c.block_at-block.result.now ≡ block_numbered blocks c.index-span.result.now.block =
+    rw (c.deref.ensures.value, c.deref-2.ensures.value, c.from.ensures) at c.block_at-block.ensures in
+    rw (← c.self.view_is, c.from-2.ensures) (row_read _ _ _ _ _ within span block)

@@ -1,0 +1,11 @@
+pub mod Telling
+pub mod Writing
+pub mod FileLemmas
+pub mod ClapLemmas
+pub mod CommandLemmas
+pub mod NumberLemmas
+pub mod RequestLemmas
+pub mod OptionLemmas
+pub mod PlainLemmas
+pub mod AskLemmas
+pub mod ServingLemmas

@@ -1,0 +1,311 @@
+-- What a run of the program is about, and how it may end.
+use Rattle.std.specs.Prelude.{◌≡◌, ◌⊎◌, ℕ, ◌<◌, ◌≤◌, List, length, Option, None, Some, IfSome, Ok, Err}
+use Rattle.std.specs.Prelude.{String, Vec}
+use Rattle.std.specs.Global.{Global}
+use Rattle.std.specs.Io.KnownBytes.{Appends}
+use Rattle.wire.specs.Causes.{Rose}
+use Rattle.wire.specs.Contents.{PutsPrefix}
+use Rattle.clap.specs.Walk.{Text}
+use Rattle.moves.specs.declared.Cell.{Cell}
+use Rattle.moves.specs.Maps.{Map}
+use Rattle.map_read.specs.declared.fault.MapFault.{MapFault}
+use Rattle.map_read.specs.declared.fault.MapFault.TheVariants.{TooManyCells}
+use Rattle.map_read.specs.MapText.{map_of}
+use Rattle.map_read.specs.declared.TheConstants.{MAX_MAP_BYTES}
+use Rattle.scen_read.specs.declared.fault.ScenFault.{ScenFault}
+use Rattle.scen_read.specs.declared.scenario.ScenLine.{ScenLine}
+use Rattle.scen_read.specs.declared.TheConstants.{MAX_SCEN_BYTES}
+use Rattle.scen_read.specs.ScenText.{scenarios_of}
+use Rattle.scen_run.specs.declared.made.Made.TheVariants.{Map as Whole, TooMany}
+use Rattle.scen_run.specs.Made.{IsMade, formula_map}
+use Rattle.scen_run.specs.Results.{HaveLengths}
+use Rattle.path_replay.specs.declared.event.Event.{Event}
+use Rattle.path_replay.specs.declared.TheConstants.{MAX_EVENTS_BYTES}
+use Rattle.path_replay.specs.Events.{AreEventsOf, HavePasses, text_said}
+use Rattle.cell_order.specs.declared.OrderKind.{OrderKind}
+use Rattle.versions.specs.Databases.{Versioned, IsVersion}
+use Rattle.versions.specs.Answers.{IsAnswer, refused}
+use Rattle.path_commands.specs.declared.request.Sides.{Sides}
+use Rattle.path_commands.specs.declared.status.Status.{Status}
+use Rattle.path_commands.specs.declared.status.Status.TheVariants as status
+use Rattle.path_commands.specs.declared.task.Task.{Task}
+use Rattle.path_commands.specs.declared.task.Task.TheVariants as task
+use Rattle.path_commands.specs.Words.{texts_of}
+use Rattle.path_commands.specs.Requests.{Asked, path, check, scen, made, replay, talk, serve, ask, build_of, request_of}
+use Rattle.path_commands.specs.Texts.{check_text}
+use Rattle.path_commands.specs.Queries.{TellsAnswer, TellsReplay, TellsResults, TellsTotals}
+use Rattle.path_commands.specs.Statuses.{status_text}
+
+-- a file in a run: its bytes, where they are told, and how often reading it has failed, before the
+-- run and after it
+pub record RunFile : Type 0 where
+  pub held : Option Text
+  pub before : ℕ
+  pub after : ℕ
+
+-- the file of this name
+abbrev pub file_over : {F : Type 0} → (F → Text → Option Text) → (F → Text → ℕ) → F → F → Text
+    → RunFile
+file_over content faults old new name =
+    record { held = content old name; before = faults old name; after = faults new name }
+
+-- a run: the words of its command line, and the file of each name
+pub record Run : Type 0 where
+  pub words : List Text
+  pub file : Text → RunFile
+
+-- the run with these words, over files that were such before it and such after it
+abbrev pub run_over : {F : Type 0} → List (String Global) → (F → Text → Option Text)
+    → (F → Text → ℕ) → F → F → Run
+run_over words content faults old new =
+    record { words = texts_of words; file = file_over content faults old new }
+
+-- ---- what was asked for
+
+-- the words ask for that
+abbrev pub Asks : Run → Asked → Type 0
+Asks run asked = request_of run.words ≡ Some asked
+
+-- told bytes are these, and not more than there may be
+abbrev pub HoldsBytes : RunFile → ℕ → List ℕ → Type 0
+HoldsBytes file limit bytes = IfSome file.held (λ told. (length told ≤ limit) × (told ≡ bytes))
+
+-- told bytes are not too many, and stand for this map
+abbrev pub HoldsMap : RunFile → Map → Type 0
+HoldsMap file map =
+    IfSome file.held (λ bytes. (length bytes ≤ MAX_MAP_BYTES) × (map_of bytes ≡ Ok map))
+
+-- told bytes are not too many, and stand for no map for that reason
+abbrev pub HoldsNoMap : RunFile → MapFault → Type 0
+HoldsNoMap file fault =
+    IfSome file.held (λ bytes. (length bytes ≤ MAX_MAP_BYTES) × (map_of bytes ≡ Err fault))
+
+-- told bytes are not too many, and stand for these scenarios
+abbrev pub HoldsScenarios : RunFile → List ScenLine → Type 0
+HoldsScenarios file scenarios =
+    IfSome file.held
+    (λ bytes. (length bytes ≤ MAX_SCEN_BYTES) × (scenarios_of bytes ≡ Ok scenarios))
+
+-- told bytes are not too many, and stand for no scenarios for that reason
+abbrev pub HoldsNoScenarios : RunFile → ScenFault → Type 0
+HoldsNoScenarios file fault =
+    IfSome file.held
+    (λ bytes. (length bytes ≤ MAX_SCEN_BYTES) × (scenarios_of bytes ≡ Err fault))
+
+-- told bytes are not too many, and stand for these events
+abbrev pub HoldsEvents : RunFile → List Event → Type 0
+HoldsEvents file events =
+    IfSome file.held (λ bytes. (length bytes ≤ MAX_EVENTS_BYTES) × AreEventsOf bytes events)
+
+-- told bytes are not too many, and that line is the first that is neither blank nor an event
+abbrev pub HoldsNoEvents : RunFile → ℕ → Type 0
+HoldsNoEvents file line =
+    IfSome file.held (λ bytes. (length bytes ≤ MAX_EVENTS_BYTES) × (text_said bytes ≡ Err line))
+
+-- told bytes are more than there may be
+abbrev pub IsTooLong : RunFile → ℕ → ℕ → Type 0
+IsTooLong file limit told = (told ≡ limit) × IfSome file.held (λ bytes. limit < length bytes)
+
+-- reading the file has failed in the run
+abbrev pub HasFailed : RunFile → Type 0
+HasFailed file = Rose file.before file.after
+
+-- ---- the map that is asked about, and its first version
+
+-- the map that is made of two sides and a seed
+abbrev pub map_made : Sides → ℕ → Map
+map_made sides seed = formula_map sides.width sides.height seed
+
+-- where each command has its map from; `ask` has none
+abbrev pub GivesMap : (Text → RunFile) → Asked → Map → Type 0
+GivesMap file (path name start goal build) map = HoldsMap (file name) map
+GivesMap file (check name build) map = HoldsMap (file name) map
+GivesMap file (scen name scenarios build) map = HoldsMap (file name) map
+GivesMap file (made sides seed build) map = IsMade (map_made sides seed) (Whole map)
+GivesMap file (replay name events build) map = HoldsMap (file name) map
+GivesMap file (talk name room build) map = HoldsMap (file name) map
+GivesMap file (serve name doors room build) map = HoldsMap (file name) map
+GivesMap file (ask port said) map = ⊥
+
+-- the task is that of the scenarios in a file
+pub record GivesScenarios (file : RunFile) (asked : Task) : Type 0 where
+  pub scenarios : Vec ScenLine Global
+  pub is : asked ≡ task.Scen scenarios
+  pub holds : HoldsScenarios file scenarios.items
+
+-- the task is that of the events in a file
+pub record GivesEvents (file : RunFile) (asked : Task) : Type 0 where
+  pub events : Vec Event Global
+  pub is : asked ≡ task.Replay events
+  pub holds : HoldsEvents file events.items
+
+-- what each command does with the first version of its map, and where it has that from; sessions are
+-- no such task
+abbrev pub GivesTask : (Text → RunFile) → Asked → Task → Type 0
+GivesTask file (path name start goal build) asked = asked ≡ task.Path start goal
+GivesTask file (check name build) asked = asked ≡ task.Check
+GivesTask file (scen name scenarios build) asked = GivesScenarios (file scenarios) asked
+GivesTask file (made sides seed build) asked = asked ≡ task.Made seed
+GivesTask file (replay name events build) asked = GivesEvents (file events) asked
+GivesTask file (talk name room build) asked = ⊥
+GivesTask file (serve name doors room build) asked = ⊥
+GivesTask file (ask port said) asked = ⊥
+
+-- the first version of a map in an order: the one that comes after no edit
+pub record IsFirstVersion (map : Map) (order : OrderKind) (version : Versioned) : Type 0 where
+  pub same_map : version.map ≡ map
+  pub unedited : version.prefix ≡ 0
+  pub same_order : version.order ≡ order
+  pub whole : IsVersion version
+
+-- the words ask for this task, and for it of the first version of a map in the order asked for
+pub record AsksOf (run : Run) (task : Task) (version : Versioned) : Type 0 where
+  pub asked : Asked
+  pub asks : Asks run asked
+  pub map : Map
+  pub gives : GivesMap run.file asked map
+  pub does : GivesTask run.file asked task
+  pub first : IsFirstVersion map (build_of asked).order version
+
+-- ---- the answer
+
+-- the text answers what was asked of the version
+abbrev pub IsAnswerOn : Versioned → Task → List ℕ → Type 0
+IsAnswerOn version (task.Path start goal) text = TellsAnswer version start goal text
+IsAnswerOn version task.Check text = text ≡ check_text version
+IsAnswerOn version (task.Scen lines) text = TellsResults version lines.items text
+IsAnswerOn version (task.Made seed) text = TellsTotals version seed text
+IsAnswerOn version (task.Replay events) text = TellsReplay version events.items text
+
+-- the words ask for something of a map, and the text is what its first version answers
+pub record IsAnswerTo (run : Run) (text : List ℕ) : Type 0 where
+  pub task : Task
+  pub version : Versioned
+  pub of : AsksOf run task version
+  pub answers : IsAnswerOn version task text
+
+-- ---- the causes of the other statuses. Want of memory alone is free.
+
+-- why the bytes of a file are not read, of which there may be so many
+abbrev pub IsFileCause : RunFile → ℕ → Status → Type 0
+IsFileCause file limit (status.TooLong told) = IsTooLong file limit told
+IsFileCause file limit status.ReadFault = HasFailed file
+IsFileCause file limit status.NoMemory = Unit {0}
+IsFileCause file limit _ = ⊥
+
+-- why a file gives no map
+abbrev pub IsMapFileCause : RunFile → Status → Type 0
+IsMapFileCause file (status.Map fault) = HoldsNoMap file fault
+IsMapFileCause file cause = IsFileCause file MAX_MAP_BYTES cause
+
+-- why the map of a formula is none that is searched: it has too many passable cells
+abbrev pub IsMadeCause : Map → Status → Type 0
+IsMadeCause map (status.Map (TooManyCells x y)) = IsMade map (TooMany x y)
+IsMadeCause map status.NoMemory = Unit {0}
+IsMadeCause map _ = ⊥
+
+-- why a file gives no scenarios
+abbrev pub IsScenFileCause : RunFile → Status → Type 0
+IsScenFileCause file (status.Scen fault) = HoldsNoScenarios file fault
+IsScenFileCause file cause = IsFileCause file MAX_SCEN_BYTES cause
+
+-- why a file gives no events
+abbrev pub IsEventsFileCause : RunFile → Status → Type 0
+IsEventsFileCause file (status.Events line) = HoldsNoEvents file line
+IsEventsFileCause file cause = IsFileCause file MAX_EVENTS_BYTES cause
+
+-- why what was asked for has no map
+abbrev pub GivesNoMap : (Text → RunFile) → Asked → Status → Type 0
+GivesNoMap file (path name start goal build) cause = IsMapFileCause (file name) cause
+GivesNoMap file (check name build) cause = IsMapFileCause (file name) cause
+GivesNoMap file (scen name scenarios build) cause = IsMapFileCause (file name) cause
+GivesNoMap file (made sides seed build) cause = IsMadeCause (map_made sides seed) cause
+GivesNoMap file (replay name events build) cause = IsMapFileCause (file name) cause
+GivesNoMap file (talk name room build) cause = IsMapFileCause (file name) cause
+GivesNoMap file (serve name doors room build) cause = IsMapFileCause (file name) cause
+GivesNoMap file (ask port said) cause = ⊥
+
+-- why what was asked for has a map, and cannot be done for want of another file
+abbrev pub GivesNoTask : (Text → RunFile) → Asked → Status → Type 0
+GivesNoTask file (scen name scenarios build) cause = IsScenFileCause (file scenarios) cause
+GivesNoTask file (replay name events build) cause = IsEventsFileCause (file events) cause
+GivesNoTask file _ cause = ⊥
+
+-- why a query of a version has no text: it is refused
+abbrev pub IsPathCause : Versioned → Cell → Cell → Status → Type 0
+IsPathCause version start goal (status.Query why) = IsAnswer version start goal (refused why)
+IsPathCause version start goal status.NoMemory = Unit {0}
+IsPathCause version start goal _ = ⊥
+
+-- why what was asked of a version has no answer
+abbrev pub IsVersionCause : Versioned → Task → Status → Type 0
+IsVersionCause version (task.Path start goal) cause = IsPathCause version start goal cause
+IsVersionCause version _ cause = cause ≡ status.NoMemory
+
+-- the words ask for something, and there is no map for it
+pub record FailsByMap (run : Run) (cause : Status) : Type 0 where
+  pub asked : Asked
+  pub asks : Asks run asked
+  pub fails : GivesNoMap run.file asked cause
+
+-- the words ask for something, there is a map for it, and another file is not what it has to be
+pub record FailsByTask (run : Run) (cause : Status) : Type 0 where
+  pub asked : Asked
+  pub asks : Asks run asked
+  pub map : Map
+  pub gives : GivesMap run.file asked map
+  pub fails : GivesNoTask run.file asked cause
+
+-- one of the two files
+abbrev pub FailsByFile : Run → Status → Type 0
+FailsByFile run cause = FailsByMap run cause ⊎ FailsByTask run cause
+
+-- the words ask for something of a map, and its first version has no answer
+pub record FailsByVersion (run : Run) (cause : Status) : Type 0 where
+  pub task : Task
+  pub version : Versioned
+  pub of : AsksOf run task version
+  pub fails : IsVersionCause version task cause
+
+-- the cause of each status other than `Done`
+abbrev pub IsCause : Run → Status → Type 0
+IsCause run status.Done = ⊥
+IsCause run status.Usage = request_of run.words ≡ None
+IsCause run (status.Map fault) = FailsByMap run (status.Map fault)
+IsCause run (status.Scen fault) = FailsByTask run (status.Scen fault)
+IsCause run (status.Query refusal) = FailsByVersion run (status.Query refusal)
+IsCause run status.ReadFault = FailsByFile run status.ReadFault
+IsCause run status.WriteFault = ⊥
+IsCause run status.NoMemory = Unit {0}
+IsCause run (status.TooLong limit) = FailsByFile run (status.TooLong limit)
+IsCause run (status.Events line) = FailsByTask run (status.Events line)
+IsCause run (status.Broken fault) = ⊥
+IsCause run status.BadAnswer = ⊥
+
+-- ---- what a task needs
+
+-- scenarios have lengths that may be compared, and events have passes of a replay
+abbrev pub MayBeDone : Task → Type 0
+MayBeDone (task.Scen lines) = HaveLengths lines.items
+MayBeDone (task.Replay events) = HavePasses events.items
+MayBeDone _ = Unit {0}
+
+-- ---- how a run ends
+
+-- the status and the text are right: the answer, or a status that has its cause, with its line
+abbrev pub IsRight : Run → Status → List ℕ → Type 0
+IsRight run status.Done text = IsAnswerTo run text
+IsRight run status text = IsCause run status × (text ≡ status_text status)
+
+-- the output grew by the whole text that is right with this status
+pub record PutsAll (run : Run) (ended : Status) (old new : Option (List ℕ)) : Type 0 where
+  pub text : List ℕ
+  pub right : IsRight run ended text
+  pub put : Appends old new text
+
+-- the output grew by a first part, less than the whole, of a text that is right with some status
+pub record BreaksOff (run : Run) (old new : Option (List ℕ)) : Type 0 where
+  pub ended : Status
+  pub text : List ℕ
+  pub right : IsRight run ended text
+  pub put : PutsPrefix old new text

@@ -1,0 +1,121 @@
+//! The request that words spell.
+
+ghost use Rattle.std.specs.Prelude.{◌≡◌, ◌∷◌, [], Bool, Option, None, Some, MatchOption, map, option_map};
+ghost use Rattle.path_replay.specs.Events.{first_passable};
+ghost use Rattle.path_commands.specs.SaidRequests.{change_said, first_cell, first_coordinate, named_said, query_said};
+ghost use Rattle.path_commands.specs.SaidRequests.{request_said, said_of, spelled};
+
+use crate::words::coordinate;
+use edit_log::{CellChange, Edit};
+use moves::Cell;
+use query_proto::Request;
+
+/// The request that the words spell; `None` exactly where they spell none.
+#[tactic(auto, unfolding(crate::specs::SaidRequests::request_said))]
+pub fn request_in(words: &[&str]) -> Option<Request>
+    ensures { option_map said_of result ≡ request_said (spelled words.now) }
+{
+    let (name, words) = cut_word(words)?;
+    request_named(name, words)
+}
+
+/// The request of that name, with the words after it.
+fn request_named(name: &str, words: &[&str]) -> Option<Request>
+    ensures { option_map said_of result ≡ named_said name.now (spelled words.now) }
+{
+    if name == "query" {
+        return query_in(words);
+    }
+    if name == "change" {
+        return change_in(words);
+    }
+    if !words.is_empty() {
+        return None;
+    }
+    if name == "build" {
+        return Some(Request::Build);
+    }
+    if name == "status" {
+        return Some(Request::Status);
+    }
+    if name == "bye" {
+        return Some(Request::Bye);
+    }
+    if name == "stop" {
+        return Some(Request::Stop);
+    }
+    None
+}
+
+/// The query that the words after `query` spell.
+#[tactic(auto, unfolding(crate::specs::SaidRequests::query_said))]
+fn query_in(words: &[&str]) -> Option<Request>
+    ensures { option_map said_of result ≡ query_said (spelled words.now) }
+{
+    let (start, words) = first_cell(words)?;
+    let (goal, words) = first_cell(words)?;
+    if !words.is_empty() {
+        return None;
+    }
+    Some(Request::Query { start, goal })
+}
+
+/// The change that the words after `change` spell.
+#[tactic(auto, unfolding(crate::specs::SaidRequests::change_said))]
+fn change_in(words: &[&str]) -> Option<Request>
+    ensures { option_map said_of result ≡ change_said (spelled words.now) }
+{
+    let (cell, words) = first_cell(words)?;
+    let (passable, words) = first_passable(words)?;
+    if !words.is_empty() {
+        return None;
+    }
+    Some(Request::Change(Edit::one(CellChange { cell, passable })))
+}
+
+/// The cell in the first two words, its column before its row, and the words after it.
+#[tactic(auto, unfolding(crate::specs::SaidRequests::first_cell))]
+fn first_cell<'w, 'a>(words: &'w [&'a str]) -> Option<(Cell, &'w [&'a str])>
+    ensures { MatchOption result (first_cell (spelled words.now) ≡ None)
+        (λ first. first_cell (spelled words.now) ≡ Some (first.0, spelled first.1.now)) }
+{
+    let (x, words) = first_coordinate(words)?;
+    let (y, words) = first_coordinate(words)?;
+    Some((Cell { x, y }, words))
+}
+
+/// The column or the row in the first word, and the words after it.
+fn first_coordinate<'w, 'a>(words: &'w [&'a str]) -> Option<(u16, &'w [&'a str])>
+    ensures { MatchOption result (first_coordinate (spelled words.now) ≡ None)
+        (λ first. first_coordinate (spelled words.now) ≡ Some (first.0, spelled first.1.now)) }
+{
+    let (word, words) = cut_word(words)?;
+    let number = coordinate(word)?;
+    Some((number, words))
+}
+
+/// Whether a cell is passable, in the first word, and the words after it.
+fn first_passable<'w, 'a>(words: &'w [&'a str]) -> Option<(bool, &'w [&'a str])>
+    ensures { MatchOption result (first_passable (spelled words.now) ≡ None)
+        (λ first. first_passable (spelled words.now) ≡ Some (first.0, spelled first.1.now)) }
+{
+    let (word, words) = cut_word(words)?;
+    if word == "0" {
+        return Some((false, words));
+    }
+    if word == "1" {
+        return Some((true, words));
+    }
+    None
+}
+
+/// The first word, and the words after it.
+fn cut_word<'w, 'a>(words: &'w [&'a str]) -> Option<(&'a str, &'w [&'a str])>
+    ensures { MatchOption result (spelled words.now ≡ [])
+        (λ cut. spelled words.now ≡ cut.0.now ∷ spelled cut.1.now) }
+{
+    match words {
+        [] => None,
+        [first, rest @ ..] => Some((first, rest)),
+    }
+}

@@ -1,0 +1,288 @@
+//! The commands of the program: a line each, with its name, its arguments and its options.
+ghost use Rattle.std.specs.Prelude.{◌≡◌, bytes_eq, false, find, flat_map, map, position, IfOk};
+ghost use Rattle.std.specs.Prelude.{is_some, slice_get};
+ghost use Rattle.clap.specs.Words.{app_of, rule_of};
+ghost use Rattle.path_commands.specs.Commands.{app_for, field_text, form_text, is_value, rule_for};
+ghost use Rattle.path_commands.specs.Words.{several_rule};
+ghost use Rattle.path_commands.specs.Commands.{verb_name, verb_named, verb_rules, verb_synopsis};
+
+use crate::words::{NumberKind, file_name, order};
+use clap::{Arg, ArgAction, Command};
+use std::alloc::{AllocError, Global};
+use std::fmt;
+use std::fmt::Write;
+
+/// A command of the program.
+#[derive(Clone, Copy, Debug, PartialEq, Eq)]
+pub enum Verb {
+    /// A best path between two cells of a map.
+    Path,
+    /// Whether a file is a map, and its size.
+    Check,
+    /// What a map says of a file of scenarios.
+    Scen,
+    /// How large a map is that is made of two sides and a seed, and what queries on it come to.
+    Made,
+    /// What a file of events prints, on a board that begins with a map.
+    Replay,
+    /// A session on a board that begins with a map.
+    Talk,
+    /// Sessions at the doors of a port, on a board that begins with a map.
+    Serve,
+    /// One request to a server, and its answer.
+    Ask,
+}
+
+/// An argument or an option of a command, and what its value may be.
+#[derive(Clone, Copy, Debug, PartialEq, Eq)]
+pub enum Field {
+    /// An argument of this name, which is required. Arguments are given in order.
+    Argument(&'static str, Value),
+    /// An option `--NAME VALUE`, which may be left out.
+    Setting(&'static str, Value),
+    /// An argument of this name that has one or more values, behind all others.
+    Several(&'static str),
+}
+
+/// What a value may be.
+#[derive(Clone, Copy, Debug, PartialEq, Eq)]
+pub enum Value {
+    /// The name of a file.
+    File,
+    /// A number.
+    Number(NumberKind),
+    /// An order of cells.
+    Order,
+}
+
+static PATH_FIELDS: [Field; 7] = [
+    Field::Argument("MAP", Value::File),
+    Field::Argument("SX", Value::Number(NumberKind::Coordinate)),
+    Field::Argument("SY", Value::Number(NumberKind::Coordinate)),
+    Field::Argument("GX", Value::Number(NumberKind::Coordinate)),
+    Field::Argument("GY", Value::Number(NumberKind::Coordinate)),
+    Field::Setting("order", Value::Order),
+    Field::Setting("workers", Value::Number(NumberKind::Workers)),
+];
+
+static CHECK_FIELDS: [Field; 3] = [
+    Field::Argument("MAP", Value::File),
+    Field::Setting("order", Value::Order),
+    Field::Setting("workers", Value::Number(NumberKind::Workers)),
+];
+
+static SCEN_FIELDS: [Field; 4] = [
+    Field::Argument("MAP", Value::File),
+    Field::Argument("SCEN", Value::File),
+    Field::Setting("order", Value::Order),
+    Field::Setting("workers", Value::Number(NumberKind::Workers)),
+];
+
+static MADE_FIELDS: [Field; 5] = [
+    Field::Argument("W", Value::Number(NumberKind::Side)),
+    Field::Argument("H", Value::Number(NumberKind::Side)),
+    Field::Argument("SEED", Value::Number(NumberKind::Seed)),
+    Field::Setting("order", Value::Order),
+    Field::Setting("workers", Value::Number(NumberKind::Workers)),
+];
+
+static REPLAY_FIELDS: [Field; 4] = [
+    Field::Argument("MAP", Value::File),
+    Field::Argument("EVENTS", Value::File),
+    Field::Setting("order", Value::Order),
+    Field::Setting("workers", Value::Number(NumberKind::Workers)),
+];
+
+static TALK_FIELDS: [Field; 4] = [
+    Field::Argument("MAP", Value::File),
+    Field::Setting("order", Value::Order),
+    Field::Setting("workers", Value::Number(NumberKind::Workers)),
+    Field::Setting("room", Value::Number(NumberKind::Room)),
+];
+
+static SERVE_FIELDS: [Field; 6] = [
+    Field::Argument("MAP", Value::File),
+    Field::Argument("PORT", Value::Number(NumberKind::Port)),
+    Field::Argument("DOORS", Value::Number(NumberKind::Doors)),
+    Field::Setting("order", Value::Order),
+    Field::Setting("workers", Value::Number(NumberKind::Workers)),
+    Field::Setting("room", Value::Number(NumberKind::Room)),
+];
+
+static ASK_FIELDS: [Field; 2] = [
+    Field::Argument("PORT", Value::Number(NumberKind::Port)),
+    Field::Several("WORDS"),
+];
+
+impl Verb {
+    /// All commands.
+    pub const ALL: [Verb; 8] = [
+        Verb::Path,
+        Verb::Check,
+        Verb::Scen,
+        Verb::Made,
+        Verb::Replay,
+        Verb::Talk,
+        Verb::Serve,
+        Verb::Ask,
+    ];
+
+    /// The word that names the command.
+    pub fn name(self) -> &'static str
+        ensures { result.now ≡ verb_name self }
+    {
+        match self {
+            Verb::Path => "path",
+            Verb::Check => "check",
+            Verb::Scen => "scen",
+            Verb::Made => "made",
+            Verb::Replay => "replay",
+            Verb::Talk => "talk",
+            Verb::Serve => "serve",
+            Verb::Ask => "ask",
+        }
+    }
+
+    /// Its arguments in order, and its options.
+    pub fn fields(self) -> &'static [Field]
+        ensures rules { map rule_for result.now ≡ verb_rules self }
+        ensures shown { flat_map field_text result.now ≡ verb_synopsis self }
+    {
+        match self {
+            Verb::Path => PATH_FIELDS.as_slice(),
+            Verb::Check => CHECK_FIELDS.as_slice(),
+            Verb::Scen => SCEN_FIELDS.as_slice(),
+            Verb::Made => MADE_FIELDS.as_slice(),
+            Verb::Replay => REPLAY_FIELDS.as_slice(),
+            Verb::Talk => TALK_FIELDS.as_slice(),
+            Verb::Serve => SERVE_FIELDS.as_slice(),
+            Verb::Ask => ASK_FIELDS.as_slice(),
+        }
+    }
+
+    /// The command of this name, byte by byte.
+    #[tactic(auto, unfolding(crate::specs::Commands::verb_named))]
+    pub fn named(name: &str) -> Option<Verb>
+        ensures { result ≡ verb_named name.now }
+    {
+        first_named(&Verb::ALL, name)
+    }
+}
+
+/// The first of these commands that has the name.
+fn first_named(verbs: &[Verb], name: &str) -> Option<Verb>
+    ensures { result ≡ find (λ verb. bytes_eq (verb_name verb) name.now) verbs.now }
+{
+    let place = first_place(verbs, name)?;
+    verb_at(verbs, place)
+}
+
+/// The command at that place.
+fn verb_at(verbs: &[Verb], place: usize) -> Option<Verb>
+    ensures { result ≡ slice_get verbs.now place }
+{
+    verbs.get(place).copied()
+}
+
+/// The place of the first of these commands that has the name.
+fn first_place(verbs: &[Verb], name: &str) -> Option<usize>
+    ensures { result ≡ position (λ verb. bytes_eq (verb_name verb) name.now) verbs.now }
+{
+    verbs.iter().position(|verb| verb.name() == name)
+}
+
+impl Field {
+    /// What clap is told of it.
+    fn arg<'a>(self, alloc: Global) -> Arg<'a>
+        ensures rule { rule_of result ≡ rule_for self }
+        ensures local { result.global ≡ false }
+    {
+        match self {
+            Field::Argument(id, _) => Arg::new(alloc, id).required(true).action(ArgAction::Set),
+            Field::Setting(id, _) => Arg::new(alloc, id).long(id).action(ArgAction::Set),
+            Field::Several(id) => several(alloc, id),
+        }
+    }
+}
+
+/// What clap is told of an argument that has one or more values.
+fn several<'a>(alloc: Global, id: &'a str) -> Arg<'a>
+    ensures rule { rule_of result ≡ several_rule id.entry.now }
+    ensures local { result.global ≡ false }
+{
+    Arg::new(alloc, id)
+        .required(true)
+        .num_args(1..)
+        .action(ArgAction::Set)
+}
+
+impl fmt::Display for Field {
+    ghost use Rattle.std.specs.Prelude.{Some};
+
+    ghost output = { λ field. Some (field_text field) };
+
+    fn fmt<W: fmt::Write>(&self, f: &mut fmt::Formatter<W>) -> fmt::Result {
+        match self {
+            Field::Argument(id, _) => write!(f, " {id}"),
+            Field::Setting(id, value) => write!(f, " [--{id} {value}]"),
+            Field::Several(id) => write!(f, " {id}.."),
+        }
+    }
+}
+
+impl Value {
+    /// Whether the text is such a value.
+    pub fn takes(self, text: &str) -> bool
+        ensures { result ≡ is_value self text.now }
+    {
+        match self {
+            Value::File => file_name(text).is_some(),
+            Value::Number(kind) => kind.read(text).is_some(),
+            Value::Order => order(text).is_some(),
+        }
+    }
+
+    /// Writes what such a value is, in words.
+    pub fn push_wanted(self, text: &mut String) -> Result<(), AllocError> {
+        match self {
+            Value::File => text.push_str("the name of a file"),
+            Value::Number(kind) => {
+                let (least, most) = (kind.least(), kind.most());
+                write!(text, "a number from {least} to {most}")
+            }
+            Value::Order => text.push_str("rows or dfs"),
+        }
+    }
+}
+
+/// How a value of an option is shown.
+impl fmt::Display for Value {
+    ghost use Rattle.std.specs.Prelude.{Some};
+
+    ghost output = { λ value. Some (form_text value) };
+
+    fn fmt<W: fmt::Write>(&self, f: &mut fmt::Formatter<W>) -> fmt::Result {
+        match self {
+            Value::File => write!(f, "FILE"),
+            Value::Number(_) => write!(f, "N"),
+            Value::Order => write!(f, "rows|dfs"),
+        }
+    }
+}
+
+/// The command as clap reads it: its arguments and options, and not even those for help and for the
+/// version.
+pub fn command<'a>(alloc: Global, verb: Verb) -> Result<Command<'a>, AllocError>
+    ensures { IfOk result (λ command. app_of command ≡ app_for verb) }
+{
+    let name: &'a str = verb.name();
+    let fields = verb.fields();
+    let mut command = Command::new(alloc, name)
+        .disable_help_flag(true)
+        .disable_version_flag(true);
+    for field in fields {
+        let argument = field.arg(alloc);
+        command = command.arg(argument)?;
+    }
+    Ok(command)
+}

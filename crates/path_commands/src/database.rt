@@ -1,0 +1,68 @@
+//! The first version of a map, from which its paths are read, and the board that begins with it.
+ghost use Rattle.std.specs.Prelude.{◌≡◌, ◌≤◌, IfErr, IfOk};
+ghost use Rattle.moves.specs.Maps.{IsSearchable};
+ghost use Rattle.path_core.specs.Boards.{new_board};
+ghost use Rattle.path_core.specs.declared.TheConstants.{MAX_ENTRIES};
+ghost use Rattle.path_commands.specs.Runs.{IsFirstVersion, IsMapFileCause, file_over};
+ghost use Rattle.path_commands.specs.Talks.{IsFirstBoard};
+ghost use Rattle.path_commands.specs.Words.{AreWorkers};
+
+use crate::map_file::read_grid;
+use crate::means::Means;
+use crate::request::BuildOptions;
+use crate::status::Status;
+use build_pool::Gate;
+use moves::Grid;
+use path_core::Board;
+use std::alloc::{AllocError, Global};
+use std::sync::Arc;
+use std::thread::Threads;
+use version_build::{build, plan};
+use versions::Version;
+use wire::{Bell, Files};
+
+/// The version of a map that comes after no edit, built as the options say. It is the same one for
+/// any number of threads.
+pub fn first_version<R: Threads + Sync, B: Bell, G: Gate>(
+    means: &Means<R, B, G>,
+    grid: Grid,
+    options: BuildOptions,
+) -> Result<Version, AllocError>
+    requires small { IsSearchable grid }
+    requires workers { AreWorkers options.workers }
+    ensures { IfOk result (IsFirstVersion grid options.order) }
+{
+    let plan = plan(means.alloc, None, grid, 0, options.order)?;
+    let (version, _) = build(means.rt, means.alloc, plan, options.workers, means.gate)?;
+    Ok(version)
+}
+
+/// The board that begins with the map in the file of that name, with this room.
+pub fn first_board<R: Threads + Sync, F: Files, B: Bell, G: Gate>(
+    means: &Means<R, B, G>,
+    files: &mut F,
+    name: &str,
+    room: u32,
+    options: BuildOptions,
+) -> Result<Board, Status>
+    requires room { room ≤ MAX_ENTRIES }
+    requires workers { AreWorkers options.workers }
+    ensures board { IfOk result (IsFirstBoard
+        (file_over F.content F.faults files.old files.new name.now) options.order room) }
+    ensures refused { IfErr result
+        (IsMapFileCause (file_over F.content F.faults files.old files.new name.now)) }
+{
+    let grid = read_grid(means.alloc, files, name)?;
+    let version = first_version(means, grid, options)?;
+    Ok(board_with(means.alloc, version, room)?)
+}
+
+/// A board with no entries, whose first version this is, with this room.
+fn board_with(alloc: Global, version: Version, room: u32) -> Result<Board, AllocError>
+    requires unedited { version.prefix ≡ 0 }
+    requires room { room ≤ MAX_ENTRIES }
+    ensures { IfOk result (λ board. board ≡ new_board version.map version room) }
+{
+    let grid = version.grid().copy()?;
+    Board::start_with(alloc, grid, Arc::new(alloc, version)?, room)
+}

@@ -1,0 +1,45 @@
+//! The commands of the program: what the words of a command line ask for, what each command does, and
+//! the texts and statuses with which a run ends.
+#![tactic(auto)]
+
+pub mod ask;
+mod asked;
+mod check;
+mod commands;
+mod database;
+mod file;
+mod heard;
+mod help;
+mod made;
+mod map_file;
+mod means;
+mod output;
+mod path;
+mod replay;
+mod request;
+pub mod request_laws;
+mod scen;
+pub mod serve;
+mod serving;
+mod status;
+mod system;
+pub mod talk;
+mod task;
+mod words;
+
+pub use check::answer_check;
+pub use database::first_version;
+pub use help::{advice, argument_advice};
+pub use made::{answer_made, made_grid};
+pub use map_file::read_grid;
+pub use means::Means;
+pub use output::{put, refuse};
+pub use path::answer_path;
+pub use replay::answer_replay;
+pub use request::{
+    BuildOptions, Request, RequestError, Sides, is_ask, is_serve, is_talk, read_request,
+};
+pub use scen::answer_scen;
+pub use status::Status;
+pub use system::{command_words, exit_code};
+pub use task::{Task, task_for};

@@ -1,0 +1,47 @@
+//! `replay MAP EVENTS`: what a file of events prints, on a board that begins with a map.
+ghost use Rattle.std.specs.Prelude.{◌≡◌, IfErr, IfOk};
+ghost use Rattle.path_replay.specs.Events.{HavePasses};
+ghost use Rattle.path_commands.specs.Queries.{TellsReplay};
+ghost use Rattle.path_commands.specs.Runs.{HoldsEvents, IsEventsFileCause, file_over};
+
+use crate::file::read_file;
+use crate::status::Status;
+use path_core::Board;
+use path_replay::{Event, EventsError, MAX_EVENTS_BYTES, read_events, run_events};
+use std::alloc::{AllocError, Global};
+use std::sync::Arc;
+use text_lines::Text;
+use versions::Version;
+use wire::Files;
+
+/// The events in the file of that name.
+pub fn read_event_file<F: Files>(
+    alloc: Global,
+    files: &mut F,
+    name: &str,
+) -> Result<Vec<Event>, Status>
+    ensures events { IfOk result (λ events. HoldsEvents
+        (file_over F.content F.faults files.old files.new name.now) events.items) }
+    ensures passes { IfOk result (λ events. HavePasses events.items) }
+    ensures refused { IfErr result
+        (IsEventsFileCause (file_over F.content F.faults files.old files.new name.now)) }
+{
+    let bytes = read_file(alloc, files, name, MAX_EVENTS_BYTES)?;
+    match read_events(alloc, bytes.as_slice()) {
+        Ok(events) => Ok(events),
+        Err(EventsError::Line(line)) => Err(Status::Events { line }),
+        Err(EventsError::NoMemory) => Err(Status::NoMemory),
+    }
+}
+
+/// The lines that the events print on a board with no entries, of which this is the first version.
+pub fn answer_replay(alloc: Global, version: Version, events: &[Event]) -> Result<Text, AllocError>
+    requires unedited { version.prefix ≡ 0 }
+    requires passes { HavePasses events.now }
+    ensures { IfOk result (TellsReplay version events.now) }
+{
+    let grid = version.grid().copy()?;
+    let mut board = Board::start(alloc, grid, Arc::new(alloc, version)?)?;
+    let kind = board.kind();
+    run_events(alloc, &mut board, kind, events)
+}

@@ -1,0 +1,49 @@
+//! `scen MAP SCEN`: what a map's database says of a file of scenarios.
+ghost use Rattle.std.specs.Prelude.{IfErr, IfOk, string_bytes};
+ghost use Rattle.scen_run.specs.Results.{HaveLengths};
+ghost use Rattle.path_commands.specs.Queries.{TellsResults};
+ghost use Rattle.path_commands.specs.Runs.{HoldsScenarios, IsScenFileCause, file_over};
+
+use crate::file::read_file;
+use crate::status::Status;
+use scen_read::{MAX_SCEN_BYTES, ScenError, ScenLine, read_scen};
+use scen_run::{report, run_lines};
+use std::alloc::{AllocError, Global};
+use std::thread::Threads;
+use versions::Version;
+use wire::Files;
+
+/// The scenarios in the file of that name.
+pub fn read_scenarios<F: Files>(
+    alloc: Global,
+    files: &mut F,
+    name: &str,
+) -> Result<Vec<ScenLine>, Status>
+    ensures scenarios { IfOk result (λ lines. HoldsScenarios
+        (file_over F.content F.faults files.old files.new name.now) lines.items) }
+    ensures lengths { IfOk result (λ lines. HaveLengths lines.items) }
+    ensures refused { IfErr result
+        (IsScenFileCause (file_over F.content F.faults files.old files.new name.now)) }
+{
+    let bytes = read_file(alloc, files, name, MAX_SCEN_BYTES)?;
+    match read_scen(alloc, bytes.as_slice()) {
+        Ok(lines) => Ok(lines),
+        Err(ScenError::Fault(fault)) => Err(Status::Scen(fault)),
+        Err(ScenError::NoMemory) => Err(Status::NoMemory),
+    }
+}
+
+/// The report on what the version says of the scenarios. The lines are shared among threads.
+pub fn answer_scen<R: Threads + Sync>(
+    rt: &R,
+    alloc: Global,
+    version: &Version,
+    scenarios: &[ScenLine],
+) -> Result<String, AllocError>
+    requires { HaveLengths scenarios.now }
+    ensures { IfOk result (λ text.
+        TellsResults version.now scenarios.now (string_bytes text)) }
+{
+    let results = run_lines(rt, alloc, version, scenarios)?;
+    report(alloc, results.as_slice())
+}

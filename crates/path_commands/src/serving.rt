@@ -1,0 +1,277 @@
+//! A board that is served at the doors of a house, beside one builder.
+
+ghost use Rattle.std.specs.Prelude.{◌≡◌, ◌≢◌, ◌<◌, ◌≤◌, ◌∷◌, [], false, IfErr, IfOk, IsTrue, OnOk, string_bytes};
+ghost use Rattle.std.specs.Io.KnownBytes.{Appends};
+ghost use Rattle.wire.specs.Causes.{Rose};
+ghost use Rattle.wire.specs.Houses.{HasLentDoors};
+ghost use Rattle.session.specs.declared.boards.TheConstants.{MAX_DOORS};
+ghost use Rattle.path_commands.specs.declared.status.Status.{Status};
+ghost use Rattle.path_commands.specs.Serving.{CanBeServed, EndsAt, EndsBegun, FailsToBegin, Puts, PutsCause, PutsClosing};
+ghost use Rattle.path_commands.specs.Serving.{PutsLine, ServeEnds};
+ghost use Rattle.path_commands.specs.Serving.{closing_text, doors_over, ear_over, history_text, serving_text};
+ghost use Rattle.path_commands.specs.Words.{AreWorkers};
+
+use crate::check::push_number;
+use crate::means::Means;
+use crate::status;
+use crate::status::Status;
+use build_pool::Gate;
+use path_core::Board;
+use session::serve_board;
+use std::alloc::{AllocError, Global};
+use std::fmt::Write;
+use std::sync::Wait;
+use std::thread::Threads;
+use wire::{Bell, Door, DoorsAsked, Ear, House, Sink, put_all};
+
+/// A board to serve, and the doors at which that is asked for.
+#[derive(Drop)]
+pub struct Opening {
+    /// The board.
+    pub board: Board,
+    /// The doors that are asked for.
+    pub doors: DoorsAsked,
+    /// How many threads build the board's versions.
+    pub workers: u32,
+}
+
+/// A board to serve, and the doors that a house gave for it.
+#[derive(Drop)]
+struct Opened<D: Door> {
+    board: Board,
+    doors: Vec<D>,
+    workers: u32,
+}
+
+/// Serves a board at doors of the house, side by side, and builds its versions beside them. What is put is a line
+/// before the first knock, and lines that tell the board's history when all is over. The doors are handed back by then.
+///
+/// # Errors
+///
+/// - `ReadFault` where the house could not open the doors, or a knock at one failed.
+/// - `WriteFault` where the output did not take all. Without the first line no door is served.
+/// - `NoMemory` for want of memory.
+pub fn serve_on<H: House, O: Sink, B: Bell, E: Ear, G: Gate, R: Threads + Wait + Sync>(
+    means: &Means<R, B, G>,
+    opening: Opening,
+    house: &mut H,
+    out: &mut O,
+    ear: &mut E,
+) -> Status
+    requires some { 0 < opening.doors.count }
+    requires few { opening.doors.count ≤ MAX_DOORS }
+    requires workers { AreWorkers opening.workers }
+    requires unedited { opening.board.history ≡ [] }
+    requires unasked { H.asked house.old ≡ [] }
+    requires unlent { HasLentDoors (H.lent house.old) 0 }
+    requires waiting { E.over ear.old ≡ false }
+    ensures ends { ServeEnds H.Door H.Conn
+        (doors_over H.Door.talks H.Door.closed H.Door.faults H.Door.port H.lent H.door_faults
+        house.old house.new)
+        (ear_over E.rung E.over ear.old ear.new) opening.board opening.doors (O.bytes out.old)
+        (O.bytes out.new) result }
+    ensures fault { result ≡ Status.ReadFault →
+        Rose (H.door_faults house.old) (H.door_faults house.new) }
+    ensures write { result ≡ Status.WriteFault → Rose (O.faults out.old) (O.faults out.new) }
+    ensures asked { H.asked house.new ≡ opening.doors ∷ [] }
+    ensures called { H.called house.new ≡ H.called house.old }
+    ensures reads { H.read_faults house.new ≡ H.read_faults house.old }
+    ensures writes { H.write_faults house.new ≡ H.write_faults house.old }
+{
+    match house.doors(means.alloc, opening.doors.port, opening.doors.count) {
+        Ok(doors) => {
+            let opened = Opened {
+                board: opening.board,
+                doors,
+                workers: opening.workers,
+            };
+            serve_at(means, opened, opening.doors.port, house, out, ear)
+        }
+        Err(error) => put_cause(means.alloc, out, Status::from(error)),
+    }
+}
+
+/// Serves a board at doors that a house gave at that port, and hands them back.
+fn serve_at<H: House, O: Sink, B: Bell, E: Ear, G: Gate, R: Threads + Wait + Sync>(
+    means: &Means<R, B, G>,
+    opened: Opened<H::Door>,
+    port: u16,
+    house: &mut H,
+    out: &mut O,
+    ear: &mut E,
+) -> Status
+    requires { CanBeServed H.Door H.Conn H.Door.closed H.Door.faults opened.board
+        opened.doors.items opened.workers (H.lent house.old) (E.over ear.old) }
+    ensures ends { EndsAt H.Door H.Conn
+        (doors_over H.Door.talks H.Door.closed H.Door.faults H.Door.port H.lent H.door_faults
+        house.old house.new)
+        (ear_over E.rung E.over ear.old ear.new) opened.board opened.doors.items port
+        (O.bytes out.old) (O.bytes out.new) result }
+    ensures fault { result ≡ Status.ReadFault →
+        Rose (H.door_faults house.old) (H.door_faults house.new) }
+    ensures write { result ≡ Status.WriteFault → Rose (O.faults out.old) (O.faults out.new) }
+    ensures asked { H.asked house.new ≡ H.asked house.old }
+    ensures called { H.called house.new ≡ H.called house.old }
+    ensures reads { H.read_faults house.new ≡ H.read_faults house.old }
+    ensures writes { H.write_faults house.new ≡ H.write_faults house.old }
+{
+    match begin(means.alloc, out, port) {
+        Ok(()) => serve_begun(means, opened, house, out, ear),
+        Err(ended) => {
+            house.shut(opened.doors);
+            ended
+        }
+    }
+}
+
+/// The same, where the first line has been put.
+fn serve_begun<H: House, O: Sink, B: Bell, E: Ear, G: Gate, R: Threads + Wait + Sync>(
+    means: &Means<R, B, G>,
+    opened: Opened<H::Door>,
+    house: &mut H,
+    out: &mut O,
+    ear: &mut E,
+) -> Status
+    requires { CanBeServed H.Door H.Conn H.Door.closed H.Door.faults opened.board
+        opened.doors.items opened.workers (H.lent house.old) (E.over ear.old) }
+    ensures ends { EndsBegun H.Door H.Conn
+        (doors_over H.Door.talks H.Door.closed H.Door.faults H.Door.port H.lent H.door_faults
+        house.old house.new)
+        (ear_over E.rung E.over ear.old ear.new) opened.board opened.doors.items
+        (O.bytes out.old) (O.bytes out.new) result }
+    ensures fault { result ≡ Status.ReadFault →
+        Rose (H.door_faults house.old) (H.door_faults house.new) }
+    ensures write { result ≡ Status.WriteFault → Rose (O.faults out.old) (O.faults out.new) }
+    ensures asked { H.asked house.new ≡ H.asked house.old }
+    ensures called { H.called house.new ≡ H.called house.old }
+    ensures reads { H.read_faults house.new ≡ H.read_faults house.old }
+    ensures writes { H.write_faults house.new ≡ H.write_faults house.old }
+{
+    match serve_board(
+        means.rt,
+        means.alloc,
+        opened.board,
+        opened.doors,
+        means.bell,
+        ear,
+        opened.workers,
+        means.gate,
+    ) {
+        Ok(served) => {
+            house.shut(served.doors);
+            put_closing(means.alloc, out, &served.board, served.failed)
+        }
+        Err(refused) => {
+            house.shut(refused.doors);
+            put_no_memory(out)
+        }
+    }
+}
+
+/// Puts the line that stands before all else.
+///
+/// # Errors
+///
+/// The status with which the run ends without it: `WriteFault`, or `NoMemory`, whose line was put.
+fn begin<O: Sink>(alloc: Global, out: &mut O, port: u16) -> Result<(), Status>
+    ensures first { OnOk result (Appends (O.bytes out.old) (O.bytes out.new) (serving_text port)) }
+    ensures failed { IfErr result (FailsToBegin (O.bytes out.old) (O.bytes out.new) port) }
+    ensures no_read { IfErr result (λ ended. ended ≢ Status.ReadFault) }
+    ensures write { IfErr result (λ ended. ended ≡ Status.WriteFault →
+        Rose (O.faults out.old) (O.faults out.new)) }
+    ensures later { O.faults out.old ≤ O.faults out.new }
+{
+    let Ok(line) = serving_text(alloc, port) else {
+        return Err(put_no_memory(out));
+    };
+    match put_all(out, line.as_bytes()) {
+        Ok(()) => Ok(()),
+        Err(_) => Err(Status::WriteFault),
+    }
+}
+
+/// Puts the lines that tell a board's history, and that of a fault behind them where a knock failed.
+fn put_closing<O: Sink>(alloc: Global, out: &mut O, board: &Board, failed: bool) -> Status
+    ensures put { PutsClosing (O.bytes out.old) (O.bytes out.new) board.now.history failed result }
+    ensures fault { result ≡ Status.ReadFault → IsTrue failed }
+    ensures write { result ≡ Status.WriteFault → Rose (O.faults out.old) (O.faults out.new) }
+{
+    let Ok(text) = closing_text(alloc, board, failed) else {
+        return put_no_memory(out);
+    };
+    let status = if failed {
+        Status::ReadFault
+    } else {
+        Status::Done
+    };
+    put(out, text.as_bytes(), status)
+}
+
+/// Puts the line of a status; where there is no memory for it, that of want of memory.
+pub fn put_cause<O: Sink>(alloc: Global, out: &mut O, status: Status) -> Status
+    requires { status ≢ Status.WriteFault }
+    ensures put { PutsCause (O.bytes out.old) (O.bytes out.new) status result }
+    ensures fault { result ≡ Status.ReadFault → status ≡ Status.ReadFault }
+    ensures write { result ≡ Status.WriteFault → Rose (O.faults out.old) (O.faults out.new) }
+{
+    match status::status_text(alloc, &status) {
+        Ok(line) => put(out, line.as_bytes(), status),
+        Err(_) => put_no_memory(out),
+    }
+}
+
+/// Puts the line of want of memory.
+fn put_no_memory<O: Sink>(out: &mut O) -> Status
+    ensures put { PutsLine (O.bytes out.old) (O.bytes out.new) Status.NoMemory result }
+    ensures fault { result ≢ Status.ReadFault }
+    ensures write { result ≡ Status.WriteFault → Rose (O.faults out.old) (O.faults out.new) }
+    ensures later { O.faults out.old ≤ O.faults out.new }
+{
+    put(out, b"out of memory\n", Status::NoMemory)
+}
+
+/// Puts a text, and says that status where all of it was taken.
+fn put<O: Sink>(out: &mut O, text: &[u8], status: Status) -> Status
+    requires { status ≢ Status.WriteFault }
+    ensures put { Puts (O.bytes out.old) (O.bytes out.new) text.now status result }
+    ensures fault { result ≡ Status.ReadFault → status ≡ Status.ReadFault }
+    ensures write { result ≡ Status.WriteFault → Rose (O.faults out.old) (O.faults out.new) }
+    ensures later { O.faults out.old ≤ O.faults out.new }
+{
+    match put_all(out, text) {
+        Ok(()) => status,
+        Err(_) => Status::WriteFault,
+    }
+}
+
+/// The line that stands before all else.
+fn serving_text(alloc: Global, port: u16) -> Result<String, AllocError>
+    ensures { IfOk result (λ text. string_bytes text ≡ serving_text port) }
+{
+    let mut text = String::new(alloc);
+    write!(text, "serving {port}\n")?;
+    Ok(text)
+}
+
+/// The lines that tell a board's history, and that of a fault behind them where a knock failed.
+fn closing_text(alloc: Global, board: &Board, failed: bool) -> Result<String, AllocError>
+    ensures { IfOk result (λ text. string_bytes text ≡ closing_text board.now.history failed) }
+{
+    let mut text = history_text(alloc, board)?;
+    if failed {
+        text.push_str("read fault\n")?;
+    }
+    Ok(text)
+}
+
+/// How many edits were accepted and how many versions published, and which version is the last, a line each.
+fn history_text(alloc: Global, board: &Board) -> Result<String, AllocError>
+    ensures { IfOk result (λ text. string_bytes text ≡ history_text board.now.history) }
+{
+    let version = board.look().prefix;
+    let mut text = String::new(alloc);
+    push_number(&mut text, "accepted ", u64::from(board.accepted()))?;
+    push_number(&mut text, "published ", u64::from(board.published()))?;
+    push_number(&mut text, "version ", u64::from(version))?;
+    Ok(text)
+}

@@ -1,0 +1,51 @@
+//! Where the program meets the system: its arguments and its exit status.
+
+ghost use Rattle.std.specs.Prelude.{◌≡◌, drop};
+ghost use Rattle.std.specs.Process.{exit_status};
+ghost use Rattle.path_commands.specs.Statuses.{status_code};
+ghost use Rattle.path_commands.specs.System.{AreWordsOf, IsErrorOf};
+
+use crate::request::RequestError;
+use crate::status::Status;
+use std::io;
+use std::io::ErrorKind;
+use std::process::ExitCode;
+
+/// The words of the command line: the arguments after the program's own name, which is the first.
+/// Where the arguments could not be read, memory ran out, or one of them is no text, which no
+/// command takes.
+pub fn command_words(arguments: &io::Result<Vec<String>>) -> Result<&[String], RequestError>
+    ensures { AreWordsOf arguments.now result }
+{
+    match arguments {
+        Ok(arguments) => Ok(behind_first(arguments.as_slice())),
+        Err(error) => Err(argument_error(error)),
+    }
+}
+
+/// All words but the first.
+fn behind_first(words: &[String]) -> &[String]
+    ensures { result.now ≡ drop 1 words.now }
+{
+    match words {
+        [] => words,
+        [_, rest @ ..] => rest,
+    }
+}
+
+/// Why the arguments were not read.
+fn argument_error(error: &io::Error) -> RequestError
+    ensures { IsErrorOf error.now result }
+{
+    match error.kind() {
+        ErrorKind::OutOfMemory => RequestError::NoMemory,
+        _ => RequestError::Usage,
+    }
+}
+
+/// The exit status of the process.
+pub fn exit_code(status: &Status) -> ExitCode
+    ensures { exit_status result ≡ status_code status.now }
+{
+    ExitCode::from(status.code())
+}

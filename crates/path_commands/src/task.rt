@@ -1,0 +1,61 @@
+//! What is done with the first version of a map, once all files are read.
+ghost use Rattle.std.specs.Prelude.{◌≡◌, ◌≢◌, IfErr, IfOk};
+ghost use Rattle.path_commands.specs.declared.commands.Verb.{Verb};
+ghost use Rattle.path_commands.specs.Requests.{asked, verb_asked};
+ghost use Rattle.path_commands.specs.Runs.{GivesNoTask, GivesTask, MayBeDone, file_over};
+
+use crate::replay::read_event_file;
+use crate::request::Request;
+use crate::scen::read_scenarios;
+use crate::status::Status;
+use moves::Cell;
+use path_replay::Event;
+use scen_read::ScenLine;
+use std::alloc::Global;
+use wire::Files;
+
+/// What is done with the first version of a map.
+#[derive(Drop)]
+pub enum Task {
+    /// A path between two cells is told.
+    Path {
+        /// The cell that the path begins with.
+        start: Cell,
+        /// The cell that the path ends with.
+        goal: Cell,
+    },
+    /// The size is told.
+    Check,
+    /// The results of scenarios are told.
+    Scen(Vec<ScenLine>),
+    /// The size is told, and what the queries of a seed come to.
+    Made {
+        /// The seed.
+        seed: u32,
+    },
+    /// The lines of events are told.
+    Replay(Vec<Event>),
+}
+
+/// What is to be done, with what the second file says where there is one. Sessions are no task, and a request
+/// to a server is none.
+pub fn task_for<F: Files>(alloc: Global, files: &mut F, request: Request) -> Result<Task, Status>
+    requires talk { verb_asked (asked request) ≢ Verb.Talk }
+    requires serve { verb_asked (asked request) ≢ Verb.Serve }
+    requires ask { verb_asked (asked request) ≢ Verb.Ask }
+    ensures task { IfOk result
+        (GivesTask (file_over F.content F.faults files.old files.new) (asked request.entry)) }
+    ensures may { IfOk result MayBeDone }
+    ensures refused { IfErr result
+        (GivesNoTask (file_over F.content F.faults files.old files.new) (asked request.entry)) }
+{
+    match request {
+        Request::Path { start, goal, .. } => Ok(Task::Path { start, goal }),
+        Request::Check { .. } => Ok(Task::Check),
+        Request::Scen { scenarios, .. } => Ok(Task::Scen(read_scenarios(alloc, files, scenarios)?)),
+        Request::Made { seed, .. } => Ok(Task::Made { seed }),
+        Request::Replay { events, .. } => Ok(Task::Replay(read_event_file(alloc, files, events)?)),
+        Request::Talk { .. } | Request::Serve { .. } => unreachable!(),
+        Request::Ask { .. } => unreachable!(),
+    }
+}

@@ -1,5 +1,0 @@
-use Rattle.path_server.proofs.PlainLemmas.{plain_words_read}
-use Rattle.path_server.proofs.request_laws.plain_words_are_read.Goals as goal
-
-pub returns : goal.returns
-returns c = plain_words_read
