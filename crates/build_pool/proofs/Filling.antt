@@ -1,7 +1,8 @@
 -- Rows that are put one by one, in any order.
-use Rattle.std.proofs.Common.{◌≡◌, ◌≢◌, ℕ, ◌+◌, ◌<◌, ◌≤◌, List, [], length, replicate, set, slice_index, ap, ◌∙◌, inl, inr, arith}
+use Rattle.std.proofs.Common.{◌≡◌, ◌≢◌, ℕ, ◌+◌, ◌<◌, ◌≤◌, ◌⊎◌, List, [], ◌∷◌, length, replicate, set, slice_index, ap, refl, subst, ◌∙◌, Result, Ok, IfOk, inl, inr, arith}
 use Rattle.std.proofs.lemmas.Bool.{cases_eq, cases_lt}
-use Rattle.std.proofs.lemmas.List.{get_or-set_same, get_or-set_other, length-map, length-set}
+use Rattle.std.proofs.lemmas.List.{get_or-set_same, get_or-set_other, length-map, length-replicate, length-set}
+use Rattle.std.specs.declared.alloc.AllocError.{AllocError}
 use Rattle.run_pack.specs.declared.Run.{Run}
 use Rattle.run_pack.specs.Runs.{run_of_word, IsTight}
 use Rattle.run_pack.proofs.RowLemmas.{length-row}
@@ -12,16 +13,16 @@ use Rattle.moves.specs.FirstSetLists.{cell_of, AreFirstSets}
 use Rattle.moves.proofs.OneValue.{one_value}
 use Rattle.moves.proofs.SamePaths.{same_first_move, same_passable_back}
 use Rattle.row_store.specs.Rows.{row_at}
-use Rattle.row_store.specs.Pools.{PutsPacked}
+use Rattle.row_store.specs.Pools.{AreMerged, PutsPacked, merged}
 use Rattle.row_store.proofs.RowLaws.{same_just}
 use Rattle.lane_rows.specs.Tiles.{Tile, IsSolved}
 use Rattle.lane_rows.specs.Packed.{words_in, IsPackedFrom, HavePackedRows}
 use Rattle.build_pool.specs.Places.{AreWithNear}
-use Rattle.build_pool.specs.Pieces.{AreRowsOver, AreFirstOver, IsRowOver, AreWordsOver, ArePartly, AreWhole, AreDone}
+use Rattle.build_pool.specs.Pieces.{AreRowsBetween, AreFirstOver, IsRowOver, AreWordsOver, ArePartly, AreSome, AreWhole, AreDone}
 
 -- blank rows
-pub part_blank : (cells : List Cell) (from count : ℕ) (rows : List (List Run)) → rows ≡ replicate count [] → ArePartly cells from rows
-part_blank cells from count rows blank = record {
+pub part_blank : (cells : List Cell) (count : ℕ) (rows : List (List Run)) → rows ≡ replicate count [] → ArePartly cells rows
+part_blank cells count rows blank = record {
   each = λ k within. inl (ap (λ xs. row_at xs k) blank ∙ one_value count k []);
 }
 
@@ -43,34 +44,34 @@ first_over map cells place sets just first = record {
 pub row_over : (cells : List Cell) (place : ℕ) (sets : List ℕ) (row : List Run) → AreFirstOver cells place sets → IsTight row sets → IsRowOver cells place row
 row_over cells place sets row first tight = record { over = λ map just. record { sets = sets; first = first.over map just; tight = tight } }
 
-module _ (cells : List Cell) (from : ℕ) (rows new : List (List Run)) (index place : ℕ) (row : List Run)
-    (within : index < length rows) (is : from + index ≡ place) (over : IsRowOver cells place row) (there : new ≡ set rows index row) where
+module _ (cells : List Cell) (rows new : List (List Run)) (place : ℕ) (row : List Run) (within : place < length rows)
+    (over : IsRowOver cells place row) (there : new ≡ set rows place row) where
   pub put_size : length new ≡ length rows
-  put_size = ap length there ∙ length-set rows index row
+  put_size = ap length there ∙ length-set rows place row
 
   -- the row stands at its place
-  pub put_here : IsRowOver cells (from + index) (row_at new index)
+  pub put_here : IsRowOver cells place (row_at new place)
   put_here =
-      let read : row_at new index ≡ row = ap (λ xs. row_at xs index) there ∙ get_or-set_same rows index row [] within in
-      rw (is, read) over
+      let read : row_at new place ≡ row = ap (λ xs. row_at xs place) there ∙ get_or-set_same rows place row [] within in
+      rw read over
 
-  pub put_other : (k : ℕ) → k ≢ index → row_at new k ≡ row_at rows k
-  put_other k other = ap (λ xs. row_at xs k) there ∙ get_or-set_other rows index k row [] other
+  pub put_other : (k : ℕ) → k ≢ place → row_at new k ≡ row_at rows k
+  put_other k other = ap (λ xs. row_at xs k) there ∙ get_or-set_other rows place k row [] other
 
-  pub part_put : ArePartly cells from rows → ArePartly cells from new
+  pub part_put : ArePartly cells rows → ArePartly cells new
   part_put p = record {
-    each = λ k inside. elim (cases_eq k index) [
+    each = λ k inside. elim (cases_eq k place) [
       | inl same ↦ inr (rw same put_here)
       | inr other ↦ rw (put_other k other) (p.each k (let size = put_size in omega arith))
     ];
   }
 
-pub done_none : (cells : List Cell) (from : ℕ) (rows : List (List Run)) → ArePartly cells from rows → AreDone cells from 0 rows
-done_none cells from rows part = record { part = part; done = λ k before. absurd (omega arith) }
+pub done_none : (cells : List Cell) (rows : List (List Run)) → ArePartly cells rows → AreDone cells 0 rows
+done_none cells rows part = record { part = part; done = λ k before. absurd (omega arith) }
 
-pub done_kept : (cells : List Cell) (from upto : ℕ) (rows : List (List Run)) → AreDone cells from upto rows
-    → upto < length rows → (row_at rows upto ≡ [] → ⊥) → AreDone cells from (upto + 1) rows
-done_kept cells from upto rows p within there = record {
+pub done_kept : (cells : List Cell) (upto : ℕ) (rows : List (List Run)) → AreDone cells upto rows
+    → upto < length rows → (row_at rows upto ≡ [] → ⊥) → AreDone cells (upto + 1) rows
+done_kept cells upto rows p within there = record {
   part = p.part;
   done = λ k before. elim (cases_lt k upto) [
     | inl early ↦ p.done k early
@@ -83,19 +84,19 @@ done_kept cells from upto rows p within there = record {
   ];
 }
 
-pub done_put : (cells : List Cell) (from upto : ℕ) (rows new : List (List Run)) (place : ℕ) (sets : List ℕ)
-    → AreDone cells from upto rows → upto < length rows → from + upto ≡ place → AreFirstOver cells place sets → PutsPacked rows new upto sets
-    → AreDone cells from (upto + 1) new
-done_put cells from upto rows new place sets p within is first put = record {
-  part = part_put cells from rows new upto place put.row within is over put.there p.part;
+pub done_put : (cells : List Cell) (upto : ℕ) (rows new : List (List Run)) (sets : List ℕ)
+    → AreDone cells upto rows → upto < length rows → AreFirstOver cells upto sets → PutsPacked rows new upto sets
+    → AreDone cells (upto + 1) new
+done_put cells upto rows new sets p within first put = record {
+  part = part_put cells rows new upto put.row within over put.there p.part;
   done = λ k before. elim (cases_lt k upto) [
-    | inl early ↦ rw (put_other cells from rows new upto place put.row within is over put.there k (λ same. absurd (omega arith))) (p.done k early)
-    | inr late ↦ let same : k ≡ upto = omega arith in rw same (put_here cells from rows new upto place put.row within is over put.there)
+    | inl early ↦ rw (put_other cells rows new upto put.row within over put.there k (λ same. absurd (omega arith))) (p.done k early)
+    | inr late ↦ let same : k ≡ upto = omega arith in rw same (put_here cells rows new upto put.row within over put.there)
   ];
 }
   where
-    over : IsRowOver cells place put.row
-    over = row_over cells place sets put.row first put.packed.tight
+    over : IsRowOver cells upto put.row
+    over = row_over cells upto sets put.row first put.packed.tight
 
 -- the packed rows of a solved tile
 pub packed_over : (cells : List Cell) (near : List (List ℕ)) (tile : Tile) (words : List (List ℕ)) → AreWithNear cells near → IsSolved near tile
@@ -111,15 +112,46 @@ packed_over cells near tile words with solved packed lane l = record {
     from : (map : Map) → HasJust map cells → IsPackedFrom map cells (cell_of cells (slice_index tile.sources lane)) (words_in words lane)
     from map just = packed lane l map cells near (record { just = just; numbered = with.sources.numbered; edges = with.edges; pairs = with.pairs }) solved
 
-pub done_all : (cells : List Cell) (from upto count : ℕ) (rows : List (List Run)) → AreDone cells from upto rows → length rows ≡ count → count ≤ upto → AreWhole cells from count rows
-done_all cells from upto count rows p size all = record { size = size; each = λ k within. p.done k (omega arith) }
+pub done_all : (cells : List Cell) (upto count : ℕ) (rows : List (List Run)) → AreDone cells upto rows → length rows ≡ count → count ≤ upto → AreWhole cells count rows
+done_all cells upto count rows p size all = record { size = size; each = λ k within. p.done k (omega arith) }
 
--- so they are the rows between two places
-pub whole_over : (cells : List Cell) (from count start upto : ℕ) (rows : List (List Run))
-    → AreWhole cells from count rows → from ≡ start → from + count ≡ upto → AreRowsOver cells start upto rows
-whole_over cells from count start upto rows p begins ends map just = record {
+-- ---- the rows of several workers
+
+-- a merged row is one of the two
+merged_is : (row other : List Run) → (merged row other ≡ other) ⊎ (merged row other ≡ row)
+merged_is [] other = inl refl
+merged_is (run ∷ runs) other = inr refl
+
+pub some_blank : (cells : List Cell) (count : ℕ) (rows : List (List Run)) → rows ≡ replicate count [] → count ≡ length cells → AreSome cells rows
+some_blank cells count rows blank all = record {
+  size = ap length blank ∙ length-replicate {A = List Run} count [] ∙ all;
+  part = part_blank cells count rows blank;
+}
+
+pub some_merged : (cells : List Cell) (rows other new : List (List Run)) → AreSome cells rows → AreSome cells other → AreMerged rows other new → AreSome cells new
+some_merged cells rows other new p q m = record {
+  size = m.whole ∙ p.size;
+  part = record {
+    each = λ k within.
+        (let own : k < length rows = omega (arith, within, m.whole) in
+        let others : k < length other = omega (arith, own, p.size, q.size) in
+        rw (m.each k own) (elim (merged_is (row_at rows k) (row_at other k)) [
+          | inl given ↦ rw given (q.part.each k others)
+          | inr kept ↦ rw kept (p.part.each k own)
+        ]));
+  };
+}
+
+-- the rows of a worker that were built
+pub share_is : (cells : List Cell) (share : Result (List (List Run)) AllocError) (rows : List (List Run)) → IfOk share (AreSome cells) → share ≡ Ok rows → AreSome cells rows
+share_is cells share rows told is = subst (λ s. IfOk s (AreSome cells)) is told
+
+-- so all rows are those from the first place on
+pub whole_between : (map : Map) (cells : List Cell) (rows : List (List Run)) → HasJust map cells → AreWhole cells (length cells) rows → AreRowsBetween map cells 0 (length cells) rows
+whole_between map cells rows just p = record {
   whole = let size = p.size in omega arith;
   each = λ k within.
-      (let over = (p.each k (let size = p.size in omega arith)).over map just in
-      rw (← begins) over);
+      (let place : 0 + k ≡ k = omega arith in
+      let row = (p.each k (let size = p.size in omega arith)).over map just in
+      rw place row);
 }

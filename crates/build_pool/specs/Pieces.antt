@@ -23,20 +23,12 @@ pub record AreRowsBetween (map : Map) (cells : List Cell) (from upto : ℕ) (row
   pub whole : from + length rows ≡ upto
   pub each : (k : ℕ) → k < length rows → IsRowFrom map cells (cell_of cells (from + k)) (row_at rows k)
 
--- the rows of the cells from one place to before another, over each map that has just these cells
-abbrev pub AreRowsOver : List Cell → ℕ → ℕ → List (List Run) → Type 0
-AreRowsOver cells from upto rows = (map : Map) → HasJust map cells → AreRowsBetween map cells from upto rows
-
--- what it takes to build a piece: the cells with their neighbours, and the piece is one of so many
+-- what it takes to build the rows of a piece: the cells with their neighbours, and the piece is one of so many
 pub record CanBuild (cells : List Cell) (near : List (List ℕ)) (all number : ℕ) : Type 0 where
   pub table : AreWithNear cells near
   pub few : length cells ≤ MAX_PASSABLE
   pub pieces : all ≤ MAX_WORKERS
   pub piece : number < all
-
--- the rows of one piece of so many
-abbrev pub ArePieceRows : List Cell → ℕ → ℕ → List (List Run) → Type 0
-ArePieceRows cells pieces piece rows = AreRowsOver cells (cut (length cells) pieces piece) (cut (length cells) pieces (piece + 1)) rows
 
 -- the first sets from the cell at a place, over each map that has just these cells
 pub record AreFirstOver (cells : List Cell) (place : ℕ) (sets : List ℕ) : Type 0 where
@@ -56,15 +48,20 @@ abbrev pub ArePackedOver : List Cell → Tile → Type 0
 ArePackedOver cells tile = (lane : ℕ) → lane < 16 → AreWordsOver cells (slice_index tile.sources lane) (words_in tile.words lane)
 
 -- each row is blank, or that of its place
-pub record ArePartly (cells : List Cell) (from : ℕ) (rows : List (List Run)) : Type 0 where
-  pub each : (k : ℕ) → k < length rows → (row_at rows k ≡ []) ⊎ IsRowOver cells (from + k) (row_at rows k)
+pub record ArePartly (cells : List Cell) (rows : List (List Run)) : Type 0 where
+  pub each : (place : ℕ) → place < length rows → (row_at rows place ≡ []) ⊎ IsRowOver cells place (row_at rows place)
+
+-- what one worker builds: a row for each cell, blank or that of its place
+pub record AreSome (cells : List Cell) (rows : List (List Run)) : Type 0 where
+  pub size : length rows ≡ length cells
+  pub part : ArePartly cells rows
 
 -- so many rows, each that of its place
-pub record AreWhole (cells : List Cell) (from count : ℕ) (rows : List (List Run)) : Type 0 where
+pub record AreWhole (cells : List Cell) (count : ℕ) (rows : List (List Run)) : Type 0 where
   pub size : length rows ≡ count
-  pub each : (k : ℕ) → k < count → IsRowOver cells (from + k) (row_at rows k)
+  pub each : (place : ℕ) → place < count → IsRowOver cells place (row_at rows place)
 
 -- each row is blank, or that of its place; those before a place are built
-pub record AreDone (cells : List Cell) (from upto : ℕ) (rows : List (List Run)) : Type 0 where
-  pub part : ArePartly cells from rows
-  pub done : (k : ℕ) → k < upto → IsRowOver cells (from + k) (row_at rows k)
+pub record AreDone (cells : List Cell) (upto : ℕ) (rows : List (List Run)) : Type 0 where
+  pub part : ArePartly cells rows
+  pub done : (place : ℕ) → place < upto → IsRowOver cells place (row_at rows place)

@@ -1,7 +1,8 @@
 //! Builds the rows of a component: from each of its cells a search, the first sets to all its cells, and their row.
 //!
-//! The sources are cut into pieces, one for each worker, that run side by side. Rows depend on the cells alone, so the
-//! result is the same for any number of workers. (Botea 2011; Strasser, Harabor and Botea 2014)
+//! The sources are cut into pieces, one for each worker, that run side by side; who is done with its own takes over from
+//! others. Rows depend on the cells alone, so the result is the same for any number of workers.
+//! (Botea 2011; Strasser, Harabor and Botea 2014)
 #![tactic(auto)]
 
 ghost use Rattle.std.specs.Prelude.{◌≡◌, ◌+◌, ◌*◌, ◌/◌, ◌<◌, ◌≤◌, length, IfOk};
@@ -10,9 +11,10 @@ ghost use Rattle.moves.specs.FirstSetLists.{cell_of, AreFirstSets};
 ghost use Rattle.cell_order.specs.Orders.{kind_of, ordered};
 ghost use Rattle.row_store.specs.Rows.{IsRowFrom, AreRows};
 ghost use Rattle.build_pool.specs.Places.{CanBeBuilt, AreComponent};
-ghost use Rattle.build_pool.specs.Pieces.{CanBuild, ArePieceRows};
+ghost use Rattle.build_pool.specs.Pieces.{CanBuild, AreSome};
 
 mod board;
+mod pending;
 mod piece;
 mod plain;
 mod rows;
@@ -24,8 +26,9 @@ use first_sets::FirstSets;
 use grid_search::Search;
 use lane_rows::Near;
 use moves::{Cell, Grid, MAX_PASSABLE};
-use piece::{Share, build_piece};
-use plain::write_sets;
+use pending::Pending;
+use piece::{Share, build_share};
+use plain::{put_rest, write_sets};
 use row_store::{CompData, RowPool};
 use run_pack::{Run, pack};
 use std::alloc::{AllocError, Global};
@@ -56,7 +59,7 @@ impl Gate for FreeGate {
 /// from 1 to 32,768 cells in row-major order that are connected by straight moves among themselves and lie on one map.
 ///
 /// With n cells, piece i has the sources from place i·n / workers to before (i + 1)·n / workers, rounded down. Each
-/// piece passes the gate once, before its rows.
+/// piece passes the gate once, before its rows, whoever builds them.
 ///
 /// # Errors
 ///
@@ -123,20 +126,25 @@ fn build_with<R: Threads + Sync, G: Gate>(
 {
     let order = order_of(alloc, kind, cells)?;
     let near = Near::of(alloc, &order)?;
-    let pieces = thread::map_indices(
+    let pending = Pending::new(alloc, order.len())?;
+    let shares = thread::map_indices(
         rt,
         alloc,
         effort.workers as usize,
         &|piece: usize| -> Result<RowPool, AllocError>
             requires { CanBuild order.items near effort.workers piece }
-            ensures { IfOk result (ArePieceRows order.items effort.workers piece) }
-        { build_piece(alloc, &order, &near, effort.share(piece as u32), gate) },
+            ensures { IfOk result (AreSome order.items) }
+        {
+            let share = effort.share(piece as u32);
+            build_share(alloc, &order, &near, &pending, share, gate)
+        },
     )?;
-    let mut pool = RowPool::new(alloc);
-    for piece in pieces {
-        pool.append(piece?)?;
+    let mut rows = RowPool::blank(alloc, order.len())?;
+    for share in shares {
+        rows.merge(share?)?;
     }
-    CompData::of_pool(alloc, kind.number(), order, pool)
+    put_rest(alloc, &order, &mut rows)?;
+    CompData::of_pool(alloc, kind.number(), order, rows)
 }
 
 /// The row of one source: the tight row of its first sets to the cells, which are a whole component of the grid in some

@@ -1,22 +1,23 @@
-//! The rows of some of a component's cells.
+//! The rows that one worker builds.
 //!
-//! Sixteen near sources at a time are solved in the lanes of a vector, and the row of each goes to its place. What is
-//! found so is exact wherever it is found. Where a tile isn't solved its rows stay blank, and so the last step goes
-//! over the rows and builds what is blank by a plain search. It is the same row: rows depend on the cells alone.
+//! Sixteen near sources at a time are solved in the lanes of a vector, and the row of each goes to its place. A worker
+//! takes the sources of its own piece, and then, from behind, those of other pieces that are left. What is found so is
+//! exact wherever and by whomever it is found. Where a tile isn't solved its rows stay blank, and in the end what is
+//! blank is built by a plain search. It is the same row: rows depend on the cells alone.
 
 ghost use Rattle.std.specs.Prelude.{◌≡◌, ◌+◌, ◌*◌, ◌/◌, ◌<◌, ◌≤◌, length, IfOk, OnOk};
-ghost use Rattle.build_pool.specs.Places.{AreSources, AreWithNear};
-ghost use Rattle.build_pool.specs.Pieces.{cut, CanBuild, ArePackedOver, ArePartly, ArePieceRows};
+ghost use Rattle.build_pool.specs.Places.{AreWithNear};
+ghost use Rattle.build_pool.specs.Pieces.{cut, CanBuild, ArePackedOver, ArePartly, AreSome};
 
-use crate::plain::put_rest;
-use crate::rows::PieceRows;
+use crate::pending::Pending;
+use crate::rows::put_row;
 use crate::{Gate, MAX_WORKERS};
-use lane_rows::{Near, Tiles};
+use lane_rows::{LANES, Near, Tiles};
 use moves::{Cell, MAX_PASSABLE};
 use row_store::RowPool;
 use std::alloc::{AllocError, Global};
 
-/// One piece of so many, and how often the places of a tile are gone over back and forth before it is given up, where
+/// One worker of so many, and how often the places of a tile are gone over back and forth before it is given up, where
 /// tiles are built at all.
 #[derive(Clone, Copy)]
 pub(crate) struct Share {
@@ -25,24 +26,53 @@ pub(crate) struct Share {
     pub sweeps: Option<u32>,
 }
 
-/// The rows of one piece of the cells, after it has passed the gate. All that a row needs to be built is taken once.
-pub(crate) fn build_piece<G: Gate>(
+/// The rows that one worker builds, after its piece has passed the gate; those of others are blank. All that a row needs
+/// to be built is taken once.
+pub(crate) fn build_share<G: Gate>(
     alloc: Global,
     cells: &[Cell],
     near: &Near,
+    pending: &Pending,
     share: Share,
     gate: &G,
 ) -> Result<RowPool, AllocError>
     requires { CanBuild cells.now near.now share.workers share.piece }
-    ensures { IfOk result (ArePieceRows cells.now share.workers share.piece) }
+    ensures { IfOk result (AreSome cells.now) }
 {
     gate.enter(share.piece);
-    let from = cut_of(cells.len(), share.workers, share.piece);
-    let upto = cut_of(cells.len(), share.workers, share.piece + 1);
-    let mut rows = PieceRows::blank(alloc, from, upto)?;
-    put_tiles(alloc, cells, near, share.sweeps, &mut rows)?;
-    put_rest(alloc, cells, &mut rows)?;
-    Ok(rows.pool)
+    let own = Piece::of(cells.len(), share.workers, share.piece);
+    pending.offer(own.from, own.upto);
+    let mut rows = RowPool::blank(alloc, cells.len())?;
+    put_pieces(alloc, cells, near, pending, share, &mut rows)?;
+    Ok(rows)
+}
+
+/// The places from one to before another, from one end to the other.
+#[derive(Clone, Copy)]
+struct Piece {
+    from: usize,
+    upto: usize,
+    /// From which end a worker takes sources: its own piece from the front, another from behind.
+    is_own: bool,
+}
+
+impl Piece {
+    /// One piece of so many, as its own worker sees it.
+    fn of(places: usize, workers: u32, number: u32) -> Piece
+        requires places { places ≤ MAX_PASSABLE }
+        requires worker { 0 < workers }
+        requires workers { workers ≤ MAX_WORKERS }
+        requires number { number < workers }
+        ensures from { result.from ≡ cut places workers number }
+        ensures upto { result.upto ≡ cut places workers (number + 1) }
+        ensures limit { result.upto ≤ places }
+    {
+        Piece {
+            from: cut_of(places, workers, number),
+            upto: cut_of(places, workers, number + 1),
+            is_own: true,
+        }
+    }
 }
 
 /// Where a piece begins.
@@ -61,107 +91,185 @@ fn cut_of(places: usize, workers: u32, piece: u32) -> usize
 #[derive(Drop)]
 struct Workbench {
     tiles: Tiles,
-    /// The places that no tile has taken yet.
+    /// The places of the piece at hand that may be taken, as far as the worker knows.
     wanted: Vec<bool>,
+    /// How many visits there were when it last looked.
+    visits: u64,
     sweeps: u32,
 }
 
-/// Builds rows by tiles of sixteen sources that are near one another. Those of a tile that isn't solved stay blank, and
-/// with no sweeps all do.
-fn put_tiles(
+impl Workbench {
+    /// For a component of so many cells.
+    fn new(alloc: Global, places: usize, sweeps: u32) -> Result<Workbench, AllocError>
+        requires { places ≤ MAX_PASSABLE }
+        ensures count { IfOk result (λ bench. bench.tiles.count ≡ places) }
+        ensures marks { IfOk result (λ bench. length bench.wanted.items ≡ places) }
+    {
+        Ok(Workbench {
+            tiles: Tiles::new(alloc, places)?,
+            wanted: vec![in alloc; false; places]?,
+            visits: 0,
+            sweeps,
+        })
+    }
+}
+
+/// Builds rows of the worker's own piece, and then of the pieces before it and from the last one on. Without sweeps it
+/// builds none.
+fn put_pieces(
     alloc: Global,
     cells: &[Cell],
     near: &Near,
-    sweeps: Option<u32>,
-    rows: &mut PieceRows,
+    pending: &Pending,
+    share: Share,
+    rows: &mut RowPool,
 ) -> Result<(), AllocError>
-    requires sources { AreWithNear cells.now near.now }
-    requires inside { rows.old.from + length rows.old.pool ≤ length cells.now }
-    requires part { ArePartly cells.now rows.old.from rows.old.pool }
-    ensures from { OnOk result (rows.new.from ≡ rows.old.from) }
-    ensures whole { OnOk result (length rows.new.pool ≡ length rows.old.pool) }
-    ensures part { OnOk result (ArePartly cells.now rows.old.from rows.new.pool) }
+    requires can { CanBuild cells.now near.now share.workers share.piece }
+    requires part { ArePartly cells.now rows.old }
+    ensures whole { OnOk result (length rows.new ≡ length rows.old) }
+    ensures part { OnOk result (ArePartly cells.now rows.new) }
 {
-    let Some(sweeps) = sweeps else {
+    let Some(sweeps) = share.sweeps else {
         return Ok(());
     };
-    let from = rows.from;
-    let upto = from + rows.pool.len();
-    let mut bench = Workbench {
-        tiles: Tiles::new(alloc, near.len())?,
-        wanted: wanted_between(alloc, near.len(), from, upto)?,
-        sweeps,
-    };
-    for first in from..upto {
-        put_tile(near, cells, first as u16, &mut bench, rows)?;
+    let mut bench = Workbench::new(alloc, near.len(), sweeps)?;
+    for steps in 0..share.workers {
+        let number = (share.piece + share.workers - steps) % share.workers;
+        let piece = Piece {
+            is_own: steps == 0,
+            ..Piece::of(near.len(), share.workers, number)
+        };
+        put_piece(near, cells, pending, piece, &mut bench, rows)?;
     }
     Ok(())
 }
 
-/// Builds the rows of a tile from the place on, where that is still wanted.
+/// Builds rows of a piece as long as there are some that may be taken.
+fn put_piece(
+    near: &Near,
+    cells: &[Cell],
+    pending: &Pending,
+    piece: Piece,
+    bench: &mut Workbench,
+    rows: &mut RowPool,
+) -> Result<(), AllocError>
+    requires sources { AreWithNear cells.now near.now }
+    requires piece { piece.upto ≤ length near.now }
+    requires count { bench.old.tiles.count ≡ length near.now }
+    requires marks { length bench.old.wanted.items ≡ length near.now }
+    requires part { ArePartly cells.now rows.old }
+    ensures count { OnOk result (bench.new.tiles.count ≡ length near.now) }
+    ensures marks { OnOk result (length bench.new.wanted.items ≡ length near.now) }
+    ensures whole { OnOk result (length rows.new ≡ length rows.old) }
+    ensures part { OnOk result (ArePartly cells.now rows.new) }
+{
+    pending.note(bench.wanted.as_mut_slice(), piece.from, piece.upto);
+    for place in piece.from..piece.upto {
+        let first = if piece.is_own {
+            place
+        } else {
+            piece.upto - 1 - (place - piece.from)
+        };
+        if pending.may_be_taken(first) {
+            put_tile(near, cells, pending, piece, first as u16, bench, rows)?;
+        }
+    }
+    forget(bench.wanted.as_mut_slice(), piece);
+    Ok(())
+}
+
+/// No place of the piece is wanted any more.
+fn forget(wanted: &mut [bool], piece: Piece)
+    ensures { length wanted.new ≡ length wanted.old }
+{
+    for place in piece.from..piece.upto {
+        if place < wanted.len() {
+            wanted[place] = false;
+        }
+    }
+}
+
+/// Builds the rows of a tile from the place on, where that may still be taken.
 fn put_tile(
     near: &Near,
     cells: &[Cell],
+    pending: &Pending,
+    piece: Piece,
     first: u16,
     bench: &mut Workbench,
-    rows: &mut PieceRows,
+    rows: &mut RowPool,
 ) -> Result<(), AllocError>
     requires sources { AreWithNear cells.now near.now }
     requires first { first < length near.now }
     requires count { bench.old.tiles.count ≡ length near.now }
     requires marks { length bench.old.wanted.items ≡ length near.now }
-    requires part { ArePartly cells.now rows.old.from rows.old.pool }
+    requires part { ArePartly cells.now rows.old }
     ensures count { OnOk result (bench.new.tiles.count ≡ length near.now) }
     ensures marks { OnOk result (length bench.new.wanted.items ≡ length near.now) }
-    ensures from { OnOk result (rows.new.from ≡ rows.old.from) }
-    ensures whole { OnOk result (length rows.new.pool ≡ length rows.old.pool) }
-    ensures part { OnOk result (ArePartly cells.now rows.old.from rows.new.pool) }
+    ensures whole { OnOk result (length rows.new ≡ length rows.old) }
+    ensures part { OnOk result (ArePartly cells.now rows.new) }
 {
+    look_again(pending, piece, bench);
     if !bench.wanted[usize::from(first)] {
         return Ok(());
     }
     let count = bench.tiles.choose(near, first, bench.wanted.as_mut_slice());
+    let taken = take_lanes(pending, &bench.tiles, count);
+    if !piece.is_own {
+        pending.count_visit();
+    }
     if !bench.tiles.run(near, bench.sweeps) {
         return Ok(());
     }
     bench.tiles.pack()?;
-    put_lanes(&bench.tiles, count, cells, rows)?;
+    put_lanes(&bench.tiles, taken, cells, rows)?;
     Ok(())
 }
 
-/// The marks of the places from one to before another.
-fn wanted_between(
-    alloc: Global,
-    places: usize,
-    from: usize,
-    upto: usize,
-) -> Result<Vec<bool>, AllocError>
-    requires { upto ≤ places }
-    ensures { IfOk result (λ wanted. length wanted.items ≡ places) }
+/// Notes what may still be taken of the piece, where others may have taken some.
+fn look_again(pending: &Pending, piece: Piece, bench: &mut Workbench)
+    ensures tiles { bench.new.tiles ≡ bench.old.tiles }
+    ensures marks { length bench.new.wanted.items ≡ length bench.old.wanted.items }
 {
-    let mut wanted = vec![in alloc; false; places]?;
-    for place in from..upto {
-        wanted[place] = true;
+    let visits = pending.visits();
+    if visits != bench.visits {
+        pending.note(bench.wanted.as_mut_slice(), piece.from, piece.upto);
+        bench.visits = visits;
     }
-    Ok(wanted)
 }
 
-/// Puts the packed rows of a tile, lane by lane.
+/// Takes the rows of a tile's sources, and says in which lanes nobody else was faster.
+fn take_lanes(pending: &Pending, tiles: &Tiles, count: usize) -> [bool; LANES]
+    requires { count ≤ 16 }
+{
+    let mut taken = [false; LANES];
+    for lane in 0..count {
+        taken[lane] = pending.take(usize::from(tiles.source(lane)));
+    }
+    taken
+}
+
+/// Puts the packed rows of the lanes that were taken.
 fn put_lanes(
     tiles: &Tiles,
-    count: usize,
+    taken: [bool; LANES],
     cells: &[Cell],
-    rows: &mut PieceRows,
+    rows: &mut RowPool,
 ) -> Result<(), AllocError>
-    requires lanes { count ≤ 16 }
     requires packed { ArePackedOver cells.now tiles.now }
-    requires part { ArePartly cells.now rows.old.from rows.old.pool }
-    ensures from { OnOk result (rows.new.from ≡ rows.old.from) }
-    ensures whole { OnOk result (length rows.new.pool ≡ length rows.old.pool) }
-    ensures part { OnOk result (ArePartly cells.now rows.old.from rows.new.pool) }
+    requires part { ArePartly cells.now rows.old }
+    ensures whole { OnOk result (length rows.new ≡ length rows.old) }
+    ensures part { OnOk result (ArePartly cells.now rows.new) }
 {
-    for lane in 0..count {
-        rows.put(cells, usize::from(tiles.source(lane)), tiles.words(lane))?;
+    for lane in 0..LANES {
+        if taken[lane] {
+            put_row(
+                rows,
+                cells,
+                usize::from(tiles.source(lane)),
+                tiles.words(lane),
+            )?;
+        }
     }
     Ok(())
 }

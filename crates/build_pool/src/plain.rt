@@ -7,10 +7,11 @@ ghost use Rattle.build_pool.specs.Places.{AreComponent, AreSources, IsBoardOf};
 ghost use Rattle.build_pool.specs.Pieces.{AreDone, ArePartly, AreWhole};
 
 use crate::board::board_of;
-use crate::rows::PieceRows;
+use crate::rows::{has_blank, is_blank};
 use first_sets::FirstSets;
 use grid_search::Search;
 use moves::{Cell, Grid};
+use row_store::RowPool;
 use std::alloc::{AllocError, Global};
 
 /// What a plain search needs.
@@ -21,17 +22,13 @@ struct Plain {
 }
 
 /// Builds the rows that are blank. Where there are none it takes no memory.
-pub(crate) fn put_rest(
-    alloc: Global,
-    cells: &[Cell],
-    rows: &mut PieceRows,
-) -> Result<(), AllocError>
+pub(crate) fn put_rest(alloc: Global, cells: &[Cell], rows: &mut RowPool) -> Result<(), AllocError>
     requires sources { AreSources cells.now }
-    requires inside { rows.old.from + length rows.old.pool ≤ length cells.now }
-    requires part { ArePartly cells.now rows.old.from rows.old.pool }
-    ensures whole { OnOk result (AreWhole cells.now rows.old.from (length rows.old.pool) rows.new.pool) }
+    requires inside { length rows.old ≤ length cells.now }
+    requires part { ArePartly cells.now rows.old }
+    ensures whole { OnOk result (AreWhole cells.now (length rows.old) rows.new) }
 {
-    if !rows.has_blank(cells) {
+    if !has_blank(rows, cells) {
         return Ok(());
     }
     let board = board_of(alloc, cells)?;
@@ -44,12 +41,12 @@ fn put_blank(
     alloc: Global,
     board: &Grid,
     cells: &[Cell],
-    rows: &mut PieceRows,
+    rows: &mut RowPool,
 ) -> Result<(), AllocError>
     requires board { IsBoardOf board.now cells.now }
-    requires inside { rows.old.from + length rows.old.pool ≤ length cells.now }
-    requires part { ArePartly cells.now rows.old.from rows.old.pool }
-    ensures whole { OnOk result (AreWhole cells.now rows.old.from (length rows.old.pool) rows.new.pool) }
+    requires inside { length rows.old ≤ length cells.now }
+    requires part { ArePartly cells.now rows.old }
+    ensures whole { OnOk result (AreWhole cells.now (length rows.old) rows.new) }
 {
     let room = (board.width() * board.height()) as usize;
     let mut plain = Plain {
@@ -57,38 +54,36 @@ fn put_blank(
         sets: FirstSets::new(alloc, room)?,
     };
     let mut bytes = vec![in alloc; 0u8; cells.len()]?;
-    for index in 0..rows.pool.len() {
-        put_plain(board, cells, index, &mut plain, bytes.as_mut_slice(), rows)?;
+    for place in 0..rows.len() {
+        put_plain(board, cells, place, &mut plain, bytes.as_mut_slice(), rows)?;
     }
     Ok(())
 }
 
-/// Builds the row at a place of the piece where it is blank.
+/// Builds the row at a place where it is blank.
 fn put_plain(
     board: &Grid,
     cells: &[Cell],
-    index: usize,
+    place: usize,
     plain: &mut Plain,
     bytes: &mut [u8],
-    rows: &mut PieceRows,
+    rows: &mut RowPool,
 ) -> Result<(), AllocError>
     requires board { IsBoardOf board.now cells.now }
-    requires index { index < length rows.old.pool }
-    requires inside { rows.old.from + length rows.old.pool ≤ length cells.now }
-    requires done { AreDone cells.now rows.old.from index rows.old.pool }
+    requires place { place < length rows.old }
+    requires inside { length rows.old ≤ length cells.now }
+    requires done { AreDone cells.now place rows.old }
     requires search { board.now.width * board.now.height ≤ plain.old.search.room }
     requires sets { board.now.width * board.now.height ≤ plain.old.sets.room }
     requires bytes { length bytes.old ≡ length cells.now }
-    ensures from { rows.new.from ≡ rows.old.from }
-    ensures whole { OnOk result (length rows.new.pool ≡ length rows.old.pool) }
-    ensures done { OnOk result (AreDone cells.now rows.old.from (index + 1) rows.new.pool) }
+    ensures whole { OnOk result (length rows.new ≡ length rows.old) }
+    ensures done { OnOk result (AreDone cells.now (place + 1) rows.new) }
     ensures search { plain.new.search.room ≡ plain.old.search.room }
     ensures sets { plain.new.sets.room ≡ plain.old.sets.room }
 {
-    if !rows.is_blank(index) {
+    if !is_blank(rows, place) {
         return Ok(());
     }
-    let place = rows.from + index;
     write_sets(
         board,
         cells,
@@ -97,7 +92,7 @@ fn put_plain(
         &mut plain.sets,
         bytes,
     );
-    rows.pool.put_sets(index, bytes)?;
+    rows.put_sets(place, bytes)?;
     Ok(())
 }
 

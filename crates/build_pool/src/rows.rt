@@ -1,84 +1,56 @@
-//! The rows of a piece while they are built, in whatever order they are found.
+//! The rows of a component while they are built, in whatever order they are found.
 
-ghost use Rattle.std.specs.Prelude.{◌≡◌, ◌+◌, ◌-◌, ◌<◌, ◌≤◌, [], length, replicate, IfOk, OnOk, IsTrue};
-ghost use Rattle.moves.specs.Maps.{Map};
+ghost use Rattle.std.specs.Prelude.{◌≡◌, ◌<◌, [], length, OnOk, IsTrue};
 ghost use Rattle.row_store.specs.Rows.{row_at};
 ghost use Rattle.build_pool.specs.Pieces.{AreDone, ArePartly, AreWhole, AreWordsOver};
 
-use moves::{Cell, MAX_PASSABLE};
+use moves::Cell;
 use row_store::RowPool;
-use std::alloc::{AllocError, Global};
+use std::alloc::AllocError;
 
-/// The rows of neighbouring places, blank where they are not built yet.
-#[derive(Drop)]
-pub(crate) struct PieceRows {
-    /// The place of the first row.
-    pub from: usize,
-    pub pool: RowPool,
+/// Puts the row that these words keep where its source has no row yet.
+///
+/// # Errors
+///
+/// `AllocError` where memory runs out.
+pub(crate) fn put_row(
+    rows: &mut RowPool,
+    cells: &[Cell],
+    place: usize,
+    words: &[u32],
+) -> Result<(), AllocError>
+    requires part { ArePartly cells.now rows.old }
+    requires words { AreWordsOver cells.now place words.now }
+    ensures whole { OnOk result (length rows.new ≡ length rows.old) }
+    ensures part { OnOk result (ArePartly cells.now rows.new) }
+{
+    // The cells are here for the contract alone.
+    let _ = cells;
+    if place < rows.len() && is_blank(rows, place) {
+        rows.put_words(place, words)?;
+    }
+    Ok(())
 }
 
-impl PieceRows {
-    /// Blank rows from one place to before another.
-    pub(crate) fn blank(alloc: Global, from: usize, upto: usize) -> Result<PieceRows, AllocError>
-        requires order { from ≤ upto }
-        requires few { upto ≤ MAX_PASSABLE }
-        ensures from { IfOk result (λ rows. rows.from ≡ from) }
-        ensures upto { IfOk result (λ rows. rows.from + length rows.pool ≡ upto) }
-        ensures blank { IfOk result (λ rows. rows.pool ≡ replicate (upto - from) []) }
-    {
-        let pool = RowPool::blank(alloc, upto - from)?;
-        Ok(PieceRows { from, pool })
-    }
+/// Whether the row at a place is blank.
+pub(crate) fn is_blank(rows: &RowPool, place: usize) -> bool
+    requires { place < length rows.now }
+    ensures blank { IsTrue result → row_at rows.now place ≡ [] }
+    ensures there { (IsTrue result → ⊥) → row_at rows.now place ≡ [] → ⊥ }
+{
+    rows.row(place).is_empty()
+}
 
-    /// Puts the row that these words keep where its source is in the piece and has no row yet.
-    ///
-    /// # Errors
-    ///
-    /// `AllocError` where memory runs out.
-    pub(crate) fn put(
-        &mut self,
-        cells: &[Cell],
-        place: usize,
-        words: &[u32],
-    ) -> Result<(), AllocError>
-        requires part { ArePartly cells.now self.old.from self.old.pool }
-        requires words { AreWordsOver cells.now place words.now }
-        ensures from { self.new.from ≡ self.old.from }
-        ensures whole { OnOk result (length self.new.pool ≡ length self.old.pool) }
-        ensures part { OnOk result (ArePartly cells.now self.old.from self.new.pool) }
-    {
-        // The cells are here for the contract alone.
-        let _ = cells;
-        if place < self.from {
-            return Ok(());
+/// Whether some row is blank.
+pub(crate) fn has_blank(rows: &RowPool, cells: &[Cell]) -> bool
+    requires part { ArePartly cells.now rows.now }
+    ensures whole { (IsTrue result → ⊥) → AreWhole cells.now (length rows.now) rows.now }
+{
+    let _ = cells;
+    for place in 0..rows.len() {
+        if is_blank(rows, place) {
+            return true;
         }
-        let index = place - self.from;
-        if index < self.pool.len() && self.is_blank(index) {
-            self.pool.put_words(index, words)?;
-        }
-        Ok(())
     }
-
-    /// Whether the row at a place of the piece is blank.
-    pub(crate) fn is_blank(&self, index: usize) -> bool
-        requires { index < length self.now.pool }
-        ensures blank { IsTrue result → row_at self.now.pool index ≡ [] }
-        ensures there { (IsTrue result → ⊥) → row_at self.now.pool index ≡ [] → ⊥ }
-    {
-        self.pool.row(index).is_empty()
-    }
-
-    /// Whether some row is blank.
-    pub(crate) fn has_blank(&self, cells: &[Cell]) -> bool
-        requires part { ArePartly cells.now self.now.from self.now.pool }
-        ensures whole { (IsTrue result → ⊥) → AreWhole cells.now self.now.from (length self.now.pool) self.now.pool }
-    {
-        let _ = cells;
-        for index in 0..self.pool.len() {
-            if self.is_blank(index) {
-                return true;
-            }
-        }
-        false
-    }
+    false
 }

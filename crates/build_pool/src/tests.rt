@@ -276,6 +276,23 @@ fn tiles_of_made_maps(rt: HostRuntime) -> Result<(), Fail> {
     Ok(())
 }
 
+/// Workers that are done take over from others; the rows are the same.
+#[test]
+fn workers_share_their_pieces(rt: HostRuntime) -> Result<(), Fail> {
+    let alloc = rt.alloc();
+    let mut grid = Grid::blocked(alloc, 30, 20)?;
+    fill(&rt, &mut grid, 30, 20, 85, 3);
+    for kind in [OrderKind::Rows, OrderKind::Dfs] {
+        let alone = rows_of(&rt, alloc, &grid, kind, 1)?;
+        for workers in [2, 4, 7, 64] {
+            let comp = rows_of(&rt, alloc, &grid, kind, workers)?;
+            rows_agree(&rt, &comp, &alone);
+            assert_eq!(rt; comp.runs(), alone.runs());
+        }
+    }
+    Ok(())
+}
+
 /// The fewest runs of a row that fits these sets, by a plain search over all rows: the least number of pieces, in each
 /// of which all sets have a move in common.
 fn fewest_runs(alloc: Global, sets: &[u8]) -> Result<u32, AllocError>

@@ -1,11 +1,10 @@
 -- Rows that lie in blocks of words.
-use Rattle.std.proofs.Common.{◌≡◌, ℕ, suc, ◌+◌, ◌-◌, ◌*◌, ◌^◌, ◌<◌, ◌≤◌, List, [], ◌∷◌, ◌++◌, length, map, take, drop, get_or, set, replicate, All, sum_by, inl, inr, arith, refl, sym, ap, ◌∙◌}
+use Rattle.std.proofs.Common.{◌≡◌, ℕ, suc, ◌+◌, ◌-◌, ◌*◌, ◌^◌, ◌<◌, ◌≤◌, ◌⊎◌, List, [], ◌∷◌, ◌++◌, length, map, take, drop, get_or, set, replicate, All, sum_by, inl, inr, arith, refl, sym, ap, subst, ◌∙◌}
 use Rattle.std.proofs.Math.ListN.{get_or-append}
 use Rattle.std.proofs.Math.Seq.{drop-append_seam, get_or-append_seam}
-use Rattle.std.proofs.lemmas.Bool.{cases_lt}
-use Rattle.std.proofs.lemmas.Simd.{map-map}
-use Rattle.std.proofs.lemmas.List.{length-append, length-map, length-set, length-drop, length-take, length-take-le, length-replicate, drop-append-le, take-append-le, take_all, map-append, map-set, get_or-map, get_or-replicate, get_or-append-add, same_lists, length_push, append-nil, append_assoc}
-use Rattle.std.proofs.lemmas.List.Elements.{All-push, All-append, All-set, All-map, All-replicate}
+use Rattle.std.proofs.lemmas.Bool.{cases_eq, cases_lt}
+use Rattle.std.proofs.lemmas.List.{length-append, length-map, length-set, length-drop, length-take, length-take-le, length-replicate, drop-append-le, take-append-le, take_all, map-append, map-set, get_or-map, get_or-replicate, get_or-set_same, get_or-set_other, get_or_default, get_or-append-add, same_lists, length_push, append-nil, append_assoc}
+use Rattle.std.proofs.lemmas.List.Elements.{All-push, All-set, All-replicate}
 use Rattle.std.proofs.lemmas.List.Sums.{sum_by-append, sum_by-cons, sum_by-set, sum_by-le}
 use Rattle.std.proofs.lemmas.List.Folds.{sum_by-replicate}
 use Rattle.run_pack.specs.declared.Run.{Run}
@@ -15,13 +14,10 @@ use Rattle.run_pack.proofs.RowLemmas.{length-row}
 use Rattle.run_pack.proofs.Words.{map-run_of_word}
 use Rattle.moves.specs.declared.TheConstants.{MAX_PASSABLE}
 use Rattle.row_store.specs.declared.pool.Span.{Span}
+use Rattle.row_store.specs.declared.pool.TheConstants.{MAX_BLOCKS}
 use Rattle.row_store.specs.Rows.{row_at}
-use Rattle.row_store.specs.Pools.{CanBeKept, PushesPacked, PutsPacked}
-use Rattle.row_store.specs.Layout.{block_numbered, blocks_of, row_in, rows_in, AreSpans, CanBeSpan, moved}
-
--- a span of no words
-abbrev pub nowhere : Span
-nowhere = record { start = 0; len = 0; block = 0 }
+use Rattle.row_store.specs.Pools.{AreMerged, CanBeKept, PushesPacked, PutsPacked, merged}
+use Rattle.row_store.specs.Layout.{block_numbered, blocks_of, row_in, rows_in, AreSpans, CanBeSpan, moved, nowhere, span_at, AreApart, AreFilled, IsFilled}
 
 -- functions that agree on each element of a list
 pub map_same_on : {X Y : Type 0} (f g : X → Y) (xs : List X) → All (λ x. f x ≡ g x) xs → map f xs ≡ map g xs
@@ -139,7 +135,7 @@ few_last closed words spans p = omega (arith, few_words (blocks_of closed words)
 
 -- a block has a number of sixteen bits
 pub few_closed : (closed : List (List ℕ)) (words : List ℕ) (spans : List Span) → AreSpans (blocks_of closed words) spans → length closed < 2 ^ 16
-few_closed closed words spans p = omega (arith, p.used, p.few, length_push closed words)
+few_closed closed words spans p = omega (arith, p.numbered, length_push closed words)
 
 -- words that were added at the end of the last block can be those of a row
 pub can_be_span : (closed : List (List ℕ)) (words more new : List ℕ) (spans : List Span)
@@ -202,7 +198,7 @@ module _ (closed : List (List ℕ)) (words more : List ℕ) (spans : List Span) 
     inside = All-push (λ s. s.start + s.len ≤ length (block_numbered now s.block)) spans span (inside_grown before now spans p grow) last_inside;
     short = All-push (λ s. s.len ≤ MAX_PLACES) spans span p.short (omega arith);
     few = omega (arith, length_push spans span);
-    used = omega (arith, length_push spans span, p.used, as_many);
+    numbered = omega (arith, p.numbered, as_many);
     all = omega (arith, sum_by-append (λ s. s.len) spans (span ∷ []), p.all, sum_now, sum_of_one);
   }
 
@@ -227,7 +223,7 @@ module _ (closed : List (List ℕ)) (words more : List ℕ) (spans : List Span) 
       inside = All-set (λ s. s.start + s.len ≤ length (block_numbered now s.block)) spans place span last_inside (inside_grown before now spans p grow);
       short = All-set (λ s. s.len ≤ MAX_PLACES) spans place span (omega arith) p.short;
       few = omega (arith, length-set spans place span, p.few);
-      used = omega (arith, length-set spans place span, p.used, as_many);
+      numbered = omega (arith, p.numbered, as_many);
       all = omega (arith, none_before, sum_by-set (λ s. s.len) spans place span nowhere within, p.all, sum_now);
     }
 
@@ -235,46 +231,136 @@ module _ (closed : List (List ℕ)) (words more : List ℕ) (spans : List Span) 
     rows_put =
         rw (map-set (row_in now) spans place span, rows_in-grown before now spans p grow, row_in-last now words more span last_block start len) refl
 
--- ---- two pools
+-- ---- two pools of as many rows
 
-module _ (blocks others : List (List ℕ)) (spans more : List Span) (p : AreSpans blocks spans) (q : AreSpans others more) where
-  abbrev both : List Span
-  both = spans ++ map (moved (length blocks)) more
+-- what holds of the span at each place holds of all
+all_spans : (P : Span → Type 0) (spans : List Span) → ((k : ℕ) → k < length spans → P (span_at spans k)) → All P spans
+all_spans P spans each = λ k d within. subst P (get_or_default spans k nowhere d within) (each k within)
 
-  sum_by-moved : (xs : List Span) → sum_by (λ span. span.len) (map (moved (length blocks)) xs) ≡ sum_by (λ span. span.len) xs
-  sum_by-moved [] = refl
-  sum_by-moved (x ∷ xs) =
-      let later = sum_by-cons (λ span. span.len) (moved (length blocks) x) (map (moved (length blocks)) xs) in
-      let here = sum_by-cons (λ span. span.len) x xs in
-      let rest = sum_by-moved xs in
-      omega arith
+-- the sum of a list whose elements are sums
+sum_of_both : (a b c : List Span) → length a ≡ length c → length b ≡ length c
+    → ((k : ℕ) → k < length c → (span_at c k).len ≡ (span_at a k).len + (span_at b k).len)
+    → sum_by (λ (s : Span). s.len) c ≡ sum_by (λ (s : Span). s.len) a + sum_by (λ (s : Span). s.len) b
+sum_of_both [] [] [] p q each = refl
+sum_of_both [] (y ∷ b) [] p q each = absurd (omega (arith, q))
+sum_of_both (x ∷ a) b [] p q each = absurd (omega (arith, p))
+sum_of_both [] b (z ∷ c) p q each = absurd (omega (arith, p))
+sum_of_both (x ∷ a) [] (z ∷ c) p q each = absurd (omega (arith, q))
+sum_of_both (x ∷ a) (y ∷ b) (z ∷ c) p q each =
+    let first : z.len ≡ x.len + y.len = each 0 (omega arith) in
+    let rest = sum_of_both a b c (omega (arith, p)) (omega (arith, q)) (λ k within. each (suc k) (omega arith)) in
+    omega (arith, first, rest, sum_by-cons (λ (s : Span). s.len) x a, sum_by-cons (λ (s : Span). s.len) y b, sum_by-cons (λ (s : Span). s.len) z c)
 
-  pub spans_appended : 0 < length spans → 0 < length more → length spans + length more ≤ MAX_PASSABLE → AreSpans (blocks ++ others) both
-  spans_appended some other few = record {
-    there =
-        All-append (λ s. s.block < length (blocks ++ others)) spans (map (moved (length blocks)) more)
-        (λ k d within. omega (arith, length-append blocks others, p.there k d within))
-        (All-map (λ s. s.block < length (blocks ++ others)) (moved (length blocks)) more
-        (λ k d within. omega (arith, length-append blocks others, q.there k d within)));
-    inside =
-        All-append (λ s. s.start + s.len ≤ length (block_numbered (blocks ++ others) s.block)) spans (map (moved (length blocks)) more)
-        (inside_grown blocks (blocks ++ others) spans p (left_grows blocks others))
-        (All-map (λ s. s.start + s.len ≤ length (block_numbered (blocks ++ others) s.block)) (moved (length blocks)) more
-        (λ k d within. (rw (get_or-append-add blocks others (get_or more k d).block []) (q.inside k d within))));
-    short =
-        All-append (λ s. s.len ≤ MAX_PLACES) spans (map (moved (length blocks)) more) p.short
-        (All-map (λ s. s.len ≤ MAX_PLACES) (moved (length blocks)) more (λ k d within. q.short k d within));
-    few = omega (arith, length-append spans (map (moved (length blocks)) more), length-map more (moved (length blocks)));
-    used = omega (arith, length-append spans (map (moved (length blocks)) more), length-map more (moved (length blocks)), length-append blocks others, p.used, q.used);
-    all = omega (arith, sum_by-append (λ s. s.len) spans (map (moved (length blocks)) more), sum_by-moved more, p.all, q.all, sum_by-append length blocks others);
+merged_own : (row other : List Run) → 0 < length row → merged row other ≡ row
+merged_own [] other some = absurd (omega arith)
+merged_own (run ∷ runs) other some = refl
+
+module _ (here there : List (List ℕ)) (spans more now : List Span) (p : AreSpans here spans) (q : AreSpans there more)
+    (size : length spans ≡ length more) (apart : AreApart spans more (length spans))
+    (filled : AreFilled (length here) spans more now (length spans)) (room : length here + length there ≤ MAX_BLOCKS) where
+  abbrev both : List (List ℕ)
+  both = here ++ there
+
+  abbrev Given : ℕ → Type 0
+  Given k = ((span_at spans k).len ≡ 0) × (span_at now k ≡ moved (length here) (span_at more k))
+
+  abbrev Kept : ℕ → Type 0
+  Kept k = ((span_at spans k).len ≡ 0 → ⊥) × (span_at now k ≡ span_at spans k)
+
+  given_or_kept : (k : ℕ) → k < length spans → Given k ⊎ Kept k
+  given_or_kept k within = elim (cases_eq (span_at spans k).len 0) [
+    | inl none ↦ inl (none, (filled.each k within).blank none)
+    | inr some ↦ inr (some, (filled.each k within).kept some)
+  ]
+
+  len_now : (k : ℕ) → k < length spans → (span_at now k).len ≡ (span_at spans k).len + (span_at more k).len
+  len_now k within = elim (given_or_kept k within) [
+    | inl given ↦ rw given.1 (omega (arith, given.0))
+    | inr kept ↦ elim (apart.each k within) [
+      | inl none ↦ absurd (kept.0 none)
+      | inr none ↦ rw kept.1 (omega (arith, none))
+    ]
+  ]
+
+  among : (k : ℕ) → k < length now → k < length spans
+  among k within = omega (arith, within, filled.whole)
+
+  among_more : (k : ℕ) → k < length now → k < length more
+  among_more k within = omega (arith, within, filled.whole, size)
+
+  pub spans_merged : AreSpans both now
+  spans_merged = record {
+    there = all_spans (λ s. s.block < length both) now (λ k within. elim (given_or_kept k (among k within)) [
+      | inl given ↦ rw given.1 (omega (arith, length-append here there, q.there k nowhere (among_more k within)))
+      | inr kept ↦ rw kept.1 (omega (arith, length-append here there, p.there k nowhere (among k within)))
+    ]);
+    inside = all_spans (λ s. s.start + s.len ≤ length (block_numbered both s.block)) now (λ k within. elim (given_or_kept k (among k within)) [
+      | inl given ↦ rw (given.1, get_or-append-add here there (span_at more k).block []) (q.inside k nowhere (among_more k within))
+      | inr kept ↦ rw kept.1 (inside_grown here both spans p (left_grows here there) k nowhere (among k within))
+    ]);
+    short = all_spans (λ s. s.len ≤ MAX_PLACES) now (λ k within. elim (given_or_kept k (among k within)) [
+      | inl given ↦ rw given.1 (q.short k nowhere (among_more k within))
+      | inr kept ↦ rw kept.1 (p.short k nowhere (among k within))
+    ]);
+    few = omega (arith, filled.whole, p.few);
+    numbered = omega (arith, length-append here there, room);
+    all =
+        let sum = sum_of_both spans more now (sym filled.whole) (omega (arith, filled.whole, size)) (λ k within. len_now k (among k within)) in
+        omega (arith, sum, p.all, q.all, sum_by-append length here there);
   }
 
-  pub rows_appended : rows_in (blocks ++ others) both ≡ rows_in blocks spans ++ rows_in others more
-  rows_appended =
-      let first = rows_in-grown blocks (blocks ++ others) spans p (left_grows blocks others) in
-      let second = map-map (row_in (blocks ++ others)) (moved (length blocks)) more in
-      let each = map_same_on (λ s. row_in (blocks ++ others) (moved (length blocks) s)) (row_in others) more (λ k d within. row_in-moved blocks others (get_or more k d)) in
-      rw (map-append (row_in (blocks ++ others)) spans (map (moved (length blocks)) more), first, second, each) refl
+  merged_at : (k : ℕ) → k < length spans → row_in both (span_at now k) ≡ merged (row_in here (span_at spans k)) (row_in there (span_at more k))
+  merged_at k within = elim (given_or_kept k within) [
+    | inl given ↦ rw (given.1, row_in-none here (span_at spans k) given.0) (row_in-moved here there (span_at more k))
+    | inr kept ↦
+        let inside = p.inside k nowhere within in
+        let grown = row_in-grown here both (span_at spans k) (left_grows here there) (p.there k nowhere within) inside in
+        let len = length-row_in here (span_at spans k) inside in
+        let some : 0 < length (row_in here (span_at spans k)) = elim (cases_lt 0 (span_at spans k).len) [
+          | inl more ↦ omega (arith, len, more)
+          | inr none ↦ absurd (kept.0 (omega (arith, none)))
+        ] in
+        rw kept.1 (grown ∙ sym (merged_own (row_in here (span_at spans k)) (row_in there (span_at more k)) some))
+  ]
+
+  pub rows_merged : AreMerged (rows_in here spans) (rows_in there more) (rows_in both now)
+  rows_merged = record {
+    whole = omega (arith, length-map now (row_in both), length-map spans (row_in here), filled.whole);
+    each = λ k within.
+        (let inside : k < length spans = omega (arith, within, length-map spans (row_in here)) in
+        let own = get_or-map (row_in here) spans k nowhere [] inside in
+        let other = get_or-map (row_in there) more k nowhere [] (omega (arith, inside, size)) in
+        let new = get_or-map (row_in both) now k nowhere [] (omega (arith, inside, filled.whole)) in
+        rw (own, other, new) (merged_at k inside));
+  }
+
+-- the spans before a place are filled, and one more
+pub filled_none : (blocks : ℕ) (before others : List Span) → AreFilled blocks before others before 0
+filled_none blocks before others = record { whole = refl; each = λ k within. absurd (omega arith); rest = λ k within. refl }
+
+pub filled_more : (blocks : ℕ) (before others now : List Span) (place : ℕ) (new : Span) → AreFilled blocks before others now place → place < length before
+    → IsFilled blocks (span_at now place) (span_at others place) new → AreFilled blocks before others (set now place new) (place + 1)
+filled_more blocks before others now place new p within is = record {
+  whole = length-set now place new ∙ p.whole;
+  each = λ k early. elim (cases_lt k place) [
+    | inl low ↦ rw (get_or-set_other now place k new nowhere (λ same. absurd (omega (arith, same, low)))) (p.each k low)
+    | inr high ↦
+        let here : k ≡ place = omega (arith, early, high) in
+        let read : span_at (set now place new) place ≡ new = get_or-set_same now place new nowhere (omega (arith, within, p.whole)) in
+        rw (here, read, ← p.rest place (omega arith)) is
+  ];
+  rest = λ k late. get_or-set_other now place k new nowhere (λ same. absurd (omega (arith, same, late))) ∙ p.rest k (omega (arith, late));
+}
+
+-- no place before the next one has words in both lists
+pub apart_more : (own others : List Span) (place : ℕ) → AreApart own others place → ((span_at own place).len ≡ 0) ⊎ ((span_at others place).len ≡ 0)
+    → AreApart own others (place + 1)
+apart_more own others place p here = record {
+  each = λ k early. elim (cases_lt k place) [
+    | inl low ↦ p.each k low
+    | inr high ↦ (let same : k ≡ place = omega (arith, early, high) in rw same here)
+  ];
+}
 
 -- the last block of the one pool stands before the blocks of the other
 blocks_joined : (closed more : List (List ℕ)) (words last : List ℕ) → blocks_of (closed ++ words ∷ more) last ≡ blocks_of closed words ++ blocks_of more last
@@ -289,7 +375,7 @@ spans_blank count span start len block few = record {
   inside = All-replicate (λ s. s.start + s.len ≤ length (block_numbered (blocks_of [] []) s.block)) count span (rw (start, len, block) (omega arith));
   short = All-replicate (λ s. s.len ≤ MAX_PLACES) count span (omega arith);
   few = omega (arith, length-replicate count span);
-  used = omega (arith, length-replicate count span);
+  numbered = omega arith;
   all =
       let product : count * span.len ≡ 0 = rw len (omega arith) in
       let none = sum_of_blocks [] [] in
@@ -419,43 +505,45 @@ module _ (closed : List (List ℕ)) (words new : List ℕ) (spans : List Span) (
     rows_pushed_runs =
         rw (appended, push) (rows_pushed closed words made spans p span block start len_made short_made ∙ ap (λ row. rows_in (blocks_of closed words) spans ++ row ∷ []) made_back)
 
--- the blocks and the spans of a pool behind those of another
+-- the blocks and the spans of a pool are merged with those of another
 module _ {X : Type 0} (items : X → List ℕ) (closed more : List X) (words last : List ℕ) (spans others : List Span)
     (p : AreSpans (blocks_of (map items closed) words) spans) (q : AreSpans (blocks_of (map items more) last) others)
-    (some : 0 < length spans) (other : 0 < length others)
-    (few : length (rows_in (blocks_of (map items closed) words) spans) + length (rows_in (blocks_of (map items more) last) others) ≤ MAX_PASSABLE)
-    (size : ℕ) (all : size ≡ length closed + 1) where
+    (size : length (rows_in (blocks_of (map items closed) words) spans) ≡ length (rows_in (blocks_of (map items more) last) others))
+    (blocks : ℕ) (counted : blocks ≡ length closed + 1) (room : blocks + length more < MAX_BLOCKS) where
   abbrev here : List (List ℕ)
   here = blocks_of (map items closed) words
 
   abbrev there : List (List ℕ)
   there = blocks_of (map items more) last
 
-  size_is : size ≡ length here
-  size_is = omega (arith, all, length_push (map items closed) words, length-map closed items)
+  blocks_here : blocks ≡ length here
+  blocks_here = omega (arith, counted, length_push (map items closed) words, length-map closed items)
 
-  few_spans : length spans + length others ≤ MAX_PASSABLE
-  few_spans = omega (arith, few, length-rows_in here spans, length-rows_in there others)
+  pub same_size : length spans ≡ length others
+  same_size = omega (arith, size, length-map spans (row_in here), length-map others (row_in there))
 
-  pub size_fits : size < 2 ^ 16
-  size_fits = omega (arith, size_is, p.used, few_spans)
-
-  pub numbers_fit : All (λ span. size + span.block < 2 ^ 16) others
-  numbers_fit = λ k d within. omega (arith, q.there k d within, p.used, q.used, size_is, few_spans)
+  pub numbers_fit : All (λ span. blocks + span.block < 2 ^ 16) others
+  numbers_fit = λ k d within. omega (arith, q.there k d within, room, length_push (map items more) last, length-map more items)
 
   module _ (new : List X) (ending : X) (now : List Span) (joined : new ≡ closed ++ ending ∷ more) (ends : items ending ≡ words)
-      (shifted : now ≡ spans ++ map (moved size) others) where
+      (apart : AreApart spans others (length spans)) (filled : AreFilled blocks spans others now (length spans)) where
     blocks_are : blocks_of (map items new) last ≡ here ++ there
     blocks_are =
         let all_items : map items new ≡ map items closed ++ words ∷ map items more =
         ap (map items) joined ∙ map-append items closed (ending ∷ more) ∙ ap (λ block. map items closed ++ block ∷ map items more) ends in
         ap (λ blocks. blocks_of blocks last) all_items ∙ blocks_joined (map items closed) (map items more) words last
 
-    pub spans_joined : AreSpans (blocks_of (map items new) last) now
-    spans_joined = rw (blocks_are, shifted, size_is) (spans_appended here there spans others p q some other few_spans)
+    all_filled : AreFilled (length here) spans others now (length spans)
+    all_filled = rw (← blocks_here) filled
 
-    pub rows_joined : rows_in (blocks_of (map items new) last) now ≡ rows_in here spans ++ rows_in there others
-    rows_joined = rw (blocks_are, shifted, size_is) (rows_appended here there spans others p q)
+    enough : length here + length there ≤ MAX_BLOCKS
+    enough = omega (arith, blocks_here, room, length_push (map items more) last, length-map more items)
+
+    pub spans_joined : AreSpans (blocks_of (map items new) last) now
+    spans_joined = rw blocks_are (spans_merged here there spans others now p q same_size apart all_filled enough)
+
+    pub rows_joined : AreMerged (rows_in here spans) (rows_in there others) (rows_in (blocks_of (map items new) last) now)
+    rows_joined = rw blocks_are (rows_merged here there spans others now p q same_size apart all_filled enough)
 
 -- the words of all blocks, counted block by block
 module _ {X : Type 0} (items : X → List ℕ) (closed : List X) (words : List ℕ) where

@@ -1,5 +1,5 @@
 -- How rows lie in a list of words, and the places of cells in their bounds.
-use Rattle.std.specs.Prelude.{◌≡◌, ℕ, suc, ◌+◌, ◌-◌, ◌*◌, ◌^◌, ◌<◌, ◌≤◌, ◌⊎◌, List, [], ◌∷◌, ◌++◌, length, map, take, drop, slice_index, slice_index_or, All, sum_by}
+use Rattle.std.specs.Prelude.{◌≡◌, ℕ, ◌+◌, ◌-◌, ◌*◌, ◌^◌, ◌<◌, ◌≤◌, ◌⊎◌, List, [], ◌∷◌, ◌++◌, length, map, take, drop, slice_index, slice_index_or, All, sum_by}
 use Rattle.run_pack.specs.declared.Run.{Run}
 use Rattle.run_pack.specs.declared.TheConstants.{MAX_PLACES}
 use Rattle.run_pack.specs.Runs.{run_of_word}
@@ -9,6 +9,7 @@ use Rattle.moves.specs.FirstSetLists.{cell_of}
 use Rattle.moves.specs.Rectangles.{Rectangle, IsWithin, place_in}
 use Rattle.row_store.specs.declared.pool.Span.{Span}
 use Rattle.row_store.specs.declared.TheConstants.{NO_PLACE}
+use Rattle.row_store.specs.declared.pool.TheConstants.{MAX_BLOCKS}
 
 -- the words of the block with that number
 abbrev pub block_numbered : List (List ℕ) → ℕ → List ℕ
@@ -37,19 +38,41 @@ row_in blocks span = map run_of_word (words_at blocks span)
 abbrev pub rows_in : List (List ℕ) → List Span → List (List Run)
 rows_in blocks spans = map (row_in blocks) spans
 
--- the rows lie in the blocks, none is longer than a row may be, each word is one of a row's, and only a pool without
--- rows has a block more than rows
+-- the rows lie in the blocks, none is longer than a row may be, and each word is one of a row's
 pub record AreSpans (blocks : List (List ℕ)) (spans : List Span) : Type 0 where
   pub there : All (λ span. span.block < length blocks) spans
   pub inside : All (λ span. span.start + span.len ≤ length (block_numbered blocks span.block)) spans
   pub short : All (λ span. span.len ≤ MAX_PLACES) spans
   pub few : length spans ≤ MAX_PASSABLE
-  pub used : length blocks ≤ suc (length spans - 1)
+  pub numbered : length blocks ≤ MAX_BLOCKS
   pub all : sum_by (λ span. span.len) spans ≡ sum_by length blocks
 
 -- the span of a row whose block comes so many blocks later
 abbrev pub moved : ℕ → Span → Span
 moved blocks span = record { start = span.start; len = span.len; block = blocks + span.block }
+
+-- a span of no words
+abbrev pub nowhere : Span
+nowhere = record { start = 0; len = 0; block = 0 }
+
+-- the span at a place
+abbrev pub span_at : List Span → ℕ → Span
+span_at spans place = slice_index_or spans place nowhere
+
+-- at no place before this one both lists have a row with words
+pub record AreApart (own others : List Span) (upto : ℕ) : Type 0 where
+  pub each : (place : ℕ) → place < upto → ((span_at own place).len ≡ 0) ⊎ ((span_at others place).len ≡ 0)
+
+-- the span of the row that has words, the other one's block being so many blocks later
+pub record IsFilled (blocks : ℕ) (own other now : Span) : Type 0 where
+  pub blank : own.len ≡ 0 → now ≡ moved blocks other
+  pub kept : (own.len ≡ 0 → ⊥) → now ≡ own
+
+-- the spans of one list before that place are filled by those of another, and the rest are as before
+pub record AreFilled (blocks : ℕ) (before others now : List Span) (upto : ℕ) : Type 0 where
+  pub whole : length now ≡ length before
+  pub each : (place : ℕ) → place < upto → IsFilled blocks (span_at before place) (span_at others place) (span_at now place)
+  pub rest : (place : ℕ) → upto ≤ place → span_at now place ≡ span_at before place
 
 -- all cells lie in the area, and each place of the area has the number of its cell, or none where it has no cell
 pub record ArePlaces (cells : List Cell) (area : Rectangle) (places : List ℕ) : Type 0 where

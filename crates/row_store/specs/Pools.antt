@@ -3,6 +3,7 @@ use Rattle.std.specs.Prelude.{◌≡◌, ℕ, ◌<◌, ◌≤◌, List, [], ◌�
 use Rattle.run_pack.specs.declared.Run.{Run}
 use Rattle.run_pack.specs.declared.TheConstants.{MAX_PLACES}
 use Rattle.run_pack.specs.Runs.{IsPacked}
+use Rattle.row_store.specs.Rows.{row_at}
 
 -- runs that can be kept as words
 pub record CanBeKept (runs : List Run) : Type 0 where
@@ -21,3 +22,19 @@ pub record PutsPacked (old new : List (List Run)) (place : ℕ) (sets : List ℕ
   pub row : List Run
   pub packed : IsPacked row sets
   pub there : new ≡ slice_set old place row
+
+-- the one row, or the other where the one has no runs
+abbrev pub merged : List Run → List Run → List Run
+merged [] other = other
+merged (run ∷ runs) other = run ∷ runs
+
+-- each row of the new list is that of the old one, or that of the other where the old one has no runs
+pub record AreMerged (old other new : List (List Run)) : Type 0 where
+  pub whole : length new ≡ length old
+  pub each : (place : ℕ) → place < length old → row_at new place ≡ merged (row_at old place) (row_at other place)
+
+-- so it is before a place, and the rest is as before
+pub record AreMergedTo (old other new : List (List Run)) (upto : ℕ) : Type 0 where
+  pub whole : length new ≡ length old
+  pub each : (place : ℕ) → place < upto → row_at new place ≡ merged (row_at old place) (row_at other place)
+  pub rest : (place : ℕ) → upto ≤ place → row_at new place ≡ row_at old place

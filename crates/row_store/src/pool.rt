@@ -1,16 +1,19 @@
 //! Rows of runs in blocks of words, each found again by its block, where it starts there and how many words it has.
 
-ghost use Rattle.std.specs.Prelude.{◌≡◌, ◌+◌, ◌-◌, ◌*◌, ◌^◌, ◌<◌, ◌≤◌, [], ◌∷◌, ◌++◌, map, take, length, replicate, slice_set, sum_by, All, IfOk, OnOk, OnErr, vec_capacity};
+ghost use Rattle.std.specs.Prelude.{◌≡◌, ◌+◌, ◌-◌, ◌*◌, ◌^◌, ◌<◌, ◌≤◌, ◌⊎◌, [], ◌∷◌, ◌++◌, map, take, length, replicate, slice_set, sum_by, All, IfOk, OnOk, OnErr, IsTrue};
 ghost use Rattle.run_pack.specs.Runs.{ArePackable, word_of, run_of_word};
 ghost use Rattle.row_store.specs.Rows.{row_at};
-ghost use Rattle.row_store.specs.Pools.{CanBeKept, PushesPacked, PutsPacked};
-ghost use Rattle.row_store.specs.Layout.{block_numbered, blocks_of, moved, CanBeSpan};
+ghost use Rattle.row_store.specs.Pools.{AreMerged, CanBeKept, PushesPacked, PutsPacked};
+ghost use Rattle.row_store.specs.Layout.{block_numbered, blocks_of, AreApart, AreFilled, CanBeSpan, IsFilled};
 
 use moves::MAX_PASSABLE;
 use run_pack::{MAX_PLACES, Run, append_words, word};
 use std::alloc::{AllocError, Global};
 use std::marker::Model;
 use std::mem;
+
+/// The most blocks that a pool may have.
+const MAX_BLOCKS: usize = 65_536;
 
 /// Where the words of a row lie.
 #[derive(Clone, Copy)]
@@ -22,7 +25,7 @@ struct Span {
 }
 
 /// A list of rows, whose runs lie as words in the order in which the rows were written. The words of pools that were
-/// appended stay where they are, as blocks of their own.
+/// merged into it stay where they are, as blocks of their own.
 ///
 /// A run takes four bytes and a row eight more.
 #[derive(Drop)]
@@ -158,33 +161,41 @@ impl RowPool {
         Ok(())
     }
 
-    /// Adds the rows of another pool, in their order. No word is copied, however long the rows are.
+    /// Gives each row without runs the runs that another pool of as many rows has there. No word is copied where no row
+    /// has runs in both.
     ///
     /// # Errors
     ///
-    /// `AllocError` where memory runs out. The pool is as before then, and the other one is dropped.
-    pub fn append(&mut self, other: RowPool) -> Result<(), AllocError>
-        requires { length self.old + length other ≤ MAX_PASSABLE }
-        ensures ok { OnOk result (self.new ≡ self.old ++ other) }
-        ensures refused { OnErr result (self.new ≡ self.old) }
+    /// `AllocError` where memory runs out. Some rows may have got their runs then.
+    pub fn merge(&mut self, other: RowPool) -> Result<(), AllocError>
+        requires { length self.old ≡ length other }
+        ensures { OnOk result (AreMerged self.old other self.new) }
     {
-        if self.spans.is_empty() {
-            *self = other;
-            return Ok(());
-        }
-        if other.spans.is_empty() {
-            return Ok(());
-        }
         let blocks = self.closed.len() + 1;
+        if blocks + other.closed.len() >= MAX_BLOCKS || !are_apart(&self.spans, &other.spans) {
+            return self.copy_missing(&other);
+        }
         let RowPool {
             closed,
             words,
             spans,
         } = other;
         self.words.shrink_to_fit();
-        self.spans.reserve_exact(spans.len())?;
         append_blocks(&mut self.closed, &mut self.words, closed, words)?;
-        append_spans(&mut self.spans, &spans, blocks as u16);
+        fill_spans(&mut self.spans, &spans, blocks as u16);
+        Ok(())
+    }
+
+    /// `merge` word by word.
+    fn copy_missing(&mut self, other: &RowPool) -> Result<(), AllocError>
+        requires { length self.old ≡ length other.now }
+        ensures { OnOk result (AreMerged self.old other.now self.new) }
+    {
+        for place in 0..self.len() {
+            if self.row(place).is_empty() {
+                self.put_words(place, other.row(place))?;
+            }
+        }
         Ok(())
     }
 
@@ -309,16 +320,48 @@ fn append_blocks(
     Ok(())
 }
 
-/// Appends the spans of rows whose blocks come behind so many others, where there is room for them.
-fn append_spans(spans: &mut Vec<Span>, others: &[Span], blocks: u16)
-    requires room { length spans.old.items + length others.now ≤ vec_capacity spans.old }
-    requires blocks { All (λ span. blocks + span.block < 2 ^ 16) others.now }
-    ensures { spans.new.items ≡ spans.old.items ++ map (moved blocks) others.now }
+/// Whether no place has a row with words in both lists.
+fn are_apart(own: &[Span], others: &[Span]) -> bool
+    requires { length own.now ≡ length others.now }
+    ensures { IsTrue result → AreApart own.now others.now (length own.now) }
 {
-    for span in others {
-        spans.push_reserved(Span {
-            block: blocks + span.block,
-            ..*span
-        });
+    for place in 0..own.len() {
+        if have_words(own[place], others[place]) {
+            return false;
+        }
+    }
+    true
+}
+
+/// Whether both spans have words.
+fn have_words(own: Span, other: Span) -> bool
+    ensures { (IsTrue result → ⊥) → (own.len ≡ 0) ⊎ (other.len ≡ 0) }
+{
+    own.len != 0 && other.len != 0
+}
+
+/// Puts the spans of other rows, whose blocks come behind so many, where a row has no words.
+fn fill_spans(own: &mut Vec<Span>, others: &[Span], blocks: u16)
+    requires size { length own.old.items ≡ length others.now }
+    requires blocks { All (λ span. blocks + span.block < 2 ^ 16) others.now }
+    ensures { AreFilled blocks own.old.items others.now own.new.items (length own.old.items) }
+{
+    for place in 0..own.len() {
+        own[place] = filled(own[place], others[place], blocks);
+    }
+}
+
+/// A span, or where it has no words the other one, whose block comes behind so many.
+fn filled(own: Span, other: Span, blocks: u16) -> Span
+    requires { blocks + other.block < 2 ^ 16 }
+    ensures { IsFilled blocks own other result }
+{
+    if own.len == 0 {
+        Span {
+            block: blocks + other.block,
+            ..other
+        }
+    } else {
+        own
     }
 }

@@ -151,15 +151,38 @@ fn adds_rows_of_runs(rt: HostRuntime) -> Result<(), Fail> {
     Ok(())
 }
 
+/// A pool of three rows, of which those at these places are of `...`, and the others blank.
+fn some_rows(rt: &impl Abort, alloc: Global, places: &[usize]) -> Result<RowPool, AllocError> {
+    let mut pool = RowPool::blank(alloc, 3)?;
+    for place in places {
+        assert!(rt; *place < 3);
+        put_sets(rt, &mut pool, *place, &LINE[*place])?;
+    }
+    Ok(pool)
+}
+
+/// Gives blank rows those of another pool.
+fn merge(rt: &impl Abort, pool: &mut RowPool, other: RowPool) -> Result<(), AllocError> {
+    assert!(rt; pool.len() == other.len());
+    pool.merge(other)
+}
+
 #[test]
-fn appends_pools(rt: HostRuntime) -> Result<(), Fail> {
+fn merges_pools(rt: HostRuntime) -> Result<(), Fail> {
     let alloc = rt.alloc();
-    for (first, second) in [(0, 0), (0, 2), (1, 1), (1, 2), (2, 3), (3, 3)] {
-        let mut pool = rows_of_line(&rt, alloc, 0, first)?;
-        for (from, to) in [(first, second), (second, 3)] {
-            let other = rows_of_line(&rt, alloc, from, to)?;
-            assert!(rt; pool.len() <= 3 && other.len() <= 3);
-            pool.append(other)?;
+    // Which rows each of three pools has. In the last cases several have the same.
+    let table: [[&[usize]; 3]; 6] = [
+        [&[0], &[1], &[2]],
+        [&[], &[2, 0, 1], &[]],
+        [&[2], &[0], &[1]],
+        [&[0, 1], &[1, 2], &[]],
+        [&[1], &[1], &[2, 0]],
+        [&[0, 1, 2], &[2, 1, 0], &[1]],
+    ];
+    for [own, second, third] in table {
+        let mut pool = some_rows(&rt, alloc, own)?;
+        for places in [second, third] {
+            merge(&rt, &mut pool, some_rows(&rt, alloc, places)?)?;
         }
         assert_eq!(rt; text_of(alloc, &pool)?.as_str(), " 0E/ 0W 2E/ 0W");
         assert_eq!(rt; pool.runs(), 4);
@@ -168,33 +191,25 @@ fn appends_pools(rt: HostRuntime) -> Result<(), Fail> {
         assert_eq!(rt; text_of(alloc, &pool)?.as_str(), " 0E/ 0W 2E/ 0W/ 0W 2E");
         assert_eq!(rt; pool.runs(), 6);
     }
-    let mut none = RowPool::new(alloc);
-    assert!(rt; none.len() == 0);
-    let other = RowPool::new(alloc);
-    assert!(rt; other.len() == 0);
-    none.append(other)?;
-    assert_eq!(rt; none.len(), 0);
     Ok(())
 }
 
-/// Rows may be put among those of a pool to which others were appended, and it may be appended itself.
+/// Rows may be put into a pool that was merged, it may be merged itself, and its own rows go before those of others.
 #[test]
-fn appends_appended_pools(rt: HostRuntime) -> Result<(), Fail> {
+fn merges_merged_pools(rt: HostRuntime) -> Result<(), Fail> {
     let alloc = rt.alloc();
-    let mut blank = RowPool::blank(alloc, 2)?;
-    let last = rows_of_line(&rt, alloc, 2, 3)?;
-    assert!(rt; blank.len() == 2 && last.len() == 1);
-    blank.append(last)?;
-    put_sets(&rt, &mut blank, 1, &LINE[1])?;
-    put_words(&rt, &mut blank, 0, WORDS[0])?;
-    assert_eq!(rt; text_of(alloc, &blank)?.as_str(), " 0E/ 0W 2E/ 0W");
-    let mut pool = rows_of_line(&rt, alloc, 1, 3)?;
-    assert!(rt; pool.len() == 2 && blank.len() == 3);
-    pool.append(blank)?;
-    assert_eq!(rt;
-        text_of(alloc, &pool)?.as_str(),
-        " 0W 2E/ 0W/ 0E/ 0W 2E/ 0W"
-    );
-    assert_eq!(rt; pool.runs(), 7);
+    let mut pool = some_rows(&rt, alloc, &[2])?;
+    merge(&rt, &mut pool, some_rows(&rt, alloc, &[0])?)?;
+    assert_eq!(rt; text_of(alloc, &pool)?.as_str(), " 0E// 0W");
+    put_words(&rt, &mut pool, 1, WORDS[1])?;
+    assert_eq!(rt; text_of(alloc, &pool)?.as_str(), " 0E/ 0W 2E/ 0W");
+    let mut own = RowPool::blank(alloc, 3)?;
+    put_words(&rt, &mut own, 2, WORDS[1])?;
+    merge(&rt, &mut own, pool)?;
+    assert_eq!(rt; text_of(alloc, &own)?.as_str(), " 0E/ 0W 2E/ 0W 2E");
+    assert_eq!(rt; own.runs(), 5);
+    let mut none = RowPool::new(alloc);
+    merge(&rt, &mut none, RowPool::new(alloc))?;
+    assert_eq!(rt; none.len(), 0);
     Ok(())
 }

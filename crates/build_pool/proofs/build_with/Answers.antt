@@ -1,36 +1,14 @@
-use Rattle.std.proofs.Common.{◌≡◌, ◌∷◌, ℕ, ◌<◌, List, length, get_or, Result, IfOk, ap, arith, rules}
-use Rattle.std.proofs.lemmas.Result.{IfOk-weaker}
+use Rattle.std.proofs.Common.{◌≡◌, ◌∷◌, suc, get_or, All, IfOk, arith, rules}
 use Rattle.std.specs.Vec.Iter.{into_iter_items}
-use Rattle.std.specs.declared.alloc.AllocError.{AllocError}
-use Rattle.run_pack.specs.declared.Run.{Run}
-use Rattle.moves.specs.Maps.{Map}
-use Rattle.moves.specs.ComponentLaws.{HasJust}
-use Rattle.build_pool.specs.Pieces.{CanBuild, ArePieceRows}
+use Rattle.build_pool.specs.Pieces.{CanBuild, AreSome}
 use Rattle.build_pool.proofs.Connecting.{AreGiven, ready, given_size, sources_in_order, comp_in_order, kind_small}
-use Rattle.build_pool.proofs.Joining.{AreRowsOfPiece, joined_none, joined_more, room_joined, joined_all}
+use Rattle.build_pool.proofs.Filling.{some_blank, some_merged, share_is, whole_between}
 use Rattle.build_pool.proofs.build_with.Goals as goal
-use Rattle.build_pool.proofs.build_with.Goals.{In_ok-order, After-into_iter-piece-iterator}
+use Rattle.build_pool.proofs.build_with.Goals.{In_ok-order}
 
 -- the cells, and the same in their order
 given : (g : _) (c : In_ok-order g) → AreGiven c.args.cells.now c.in_ok-order.order.items
 given g c = record { same = c.in_ok-order.ensures.same; can = c.requires.cells }
-
--- there is an answer for each piece, and it has the rows of that piece
-all_pieces : (g : _) (c : After-into_iter-piece-iterator g) → length (into_iter_items c.into_iter-piece-iterator.result) ≡ c.args.effort.workers
-all_pieces g c =
-    let gives : into_iter_items c.into_iter-piece-iterator.result ≡ c.in_ok-pieces.pieces.items = c.into_iter-piece-iterator.ensures.into_iter_gives.0 in
-    omega (arith, ap length gives, c.in_ok-pieces.ensures.len, c.in_ok-pieces.pieces.ok.0)
-
-each_piece : (g : _) (c : After-into_iter-piece-iterator g) (map : Map) (just : HasJust map c.in_ok-order.order.items) (i : ℕ) (d : Result (List (List Run)) AllocError)
-    → i < length (into_iter_items c.into_iter-piece-iterator.result)
-    → IfOk (get_or (into_iter_items c.into_iter-piece-iterator.result) i d) (AreRowsOfPiece map c.in_ok-order.order.items c.args.effort.workers i)
-each_piece g c map just i d within =
-    let below : i < c.args.effort.workers = omega (arith, within, all_pieces g c) in
-    let told = (c.in_ok-pieces.ensures.each i d below).1 in
-    let gives : into_iter_items c.into_iter-piece-iterator.result ≡ c.in_ok-pieces.pieces.items = c.into_iter-piece-iterator.ensures.into_iter_gives.0 in
-    let built : IfOk (get_or c.in_ok-pieces.pieces.items i d) (ArePieceRows c.in_ok-order.order.items c.args.effort.workers i) = search rules in
-    rw gives (IfOk-weaker (get_or c.in_ok-pieces.pieces.items i d) (ArePieceRows c.in_ok-order.order.items c.args.effort.workers i)
-    (AreRowsOfPiece map c.in_ok-order.order.items c.args.effort.workers i) (λ rows over. over map just) built)
 
 pub of-requires : goal.of-requires
 of-requires g c =
@@ -48,35 +26,30 @@ map_indices-requires-after_bounds g c κs longer i within =
     } in
     (can, search rules)
 
-pub loop-piece-init : goal.loop-piece-init
-loop-piece-init g c = rw c.new-pool.ensures (tt, tt, λ map just. joined_none _ _ _ _)
+pub loop-share-init : goal.loop-share-init
+loop-share-init g c =
+    let all : All (λ share. IfOk share (AreSome c.in_ok-order.order.items)) c.in_ok-shares.shares.items = λ i d within.
+    (let told = (c.in_ok-shares.ensures.each i d (omega (arith, within, c.in_ok-shares.ensures.len, c.in_ok-shares.shares.ok.0))).1 in
+    let built : IfOk (get_or c.in_ok-shares.shares.items i d) (AreSome c.in_ok-order.order.items) = search rules in
+    built) in
+    let gives : into_iter_items c.into_iter-share-iterator.result ≡ c.in_ok-shares.shares.items = c.into_iter-share-iterator.ensures.into_iter_gives.0 in
+    (tt, tt, rw gives all, some_blank _ _ _ c.in_ok-rows.ensures (search rules))
 
-pub append-requires : goal.append-requires
-append-requires g c =
-    let at = (goal.at.append-requires g c).After-into_iter-piece-iterator in
-    let is = given g (goal.at.append-requires g c).In_ok-order in
-    let from = sources_in_order _ _ is in
-    let steps : into_iter_items c.loop-piece.piece-iterator ≡ c.in-Some.piece ∷ into_iter_items c.next.new.self = c.in-Some.ensures.steps.0 in
-    let joined = rw steps at (c.loop-piece.invariant.2 from.board from.just) in
-    let room = room_joined _ _ _ _ (all_pieces g at) (each_piece g at from.board from.just) _ _ _ joined c.in_ok-piece.field-0 c.in_ok-piece.was in
-    omega (arith, room, given_size _ _ is, c.requires.cells.few)
+pub loop-share-preserved : goal.loop-share-preserved
+loop-share-preserved g c =
+    let steps : into_iter_items c.loop-share.share-iterator ≡ c.in-Some.share ∷ into_iter_items c.next.new.self = c.in-Some.ensures.steps.0 in
+    let all = rw steps at c.loop-share.invariant.2 in
+    let some = share_is _ _ _ (all 0 c.in-Some.share (omega arith)) c.in_ok-share.was in
+    (tt, tt, λ i d within. all (suc i) d (omega (arith, within)), some_merged _ _ _ _ c.loop-share.invariant.3 some c.in_ok-merge.ensures)
 
-pub loop-piece-preserved : goal.loop-piece-preserved
-loop-piece-preserved g c =
-    let at = (goal.at.loop-piece-preserved g c).After-into_iter-piece-iterator in
-    let steps : into_iter_items c.loop-piece.piece-iterator ≡ c.in-Some.piece ∷ into_iter_items c.next.new.self = c.in-Some.ensures.steps.0 in (
-      tt,
-      tt,
-      λ map just.
-          (let joined = rw steps at (c.loop-piece.invariant.2 map just) in
-          rw c.in_ok-append.ensures.ok (joined_more _ _ _ _ (all_pieces g at) (each_piece g at map just) _ _ _ joined c.in_ok-piece.field-0 c.in_ok-piece.was)),
-    )
+pub put_rest-requires-clause-sources : goal.put_rest-requires-clause-sources
+put_rest-requires-clause-sources g c =
+    let is = given g (goal.at.put_rest-requires-clause-sources g c).In_ok-order in
+    rw c.deref-2.ensures.value (sources_in_order _ _ is)
 
 pub of_pool-requires : goal.of_pool-requires
 of_pool-requires g c =
-    let at = (goal.at.of_pool-requires g c).After-into_iter-piece-iterator in
     let is = given g (goal.at.of_pool-requires g c).In_ok-order in
     let from = sources_in_order _ _ is in
-    let none : length (into_iter_items c.loop-piece.piece-iterator) ≡ 0 = omega (arith, c.in-None.ensures.steps.0, c.loop-piece.piece-iterator.rest.ok.0) in
-    let joined = joined_all _ _ _ _ _ _ (c.loop-piece.invariant.2 from.board from.just) (all_pieces g at) c.requires.worker none in
-    comp_in_order _ _ _ (ready _ _ is from.board from.just) _ _ (rw c.number.ensures (kind_small c.args.kind)) joined
+    let all = rw (c.deref-2.ensures.value, c.loop-share.invariant.3.size) at c.in_ok-put_rest.ensures.whole in
+    comp_in_order _ _ _ (ready _ _ is from.board from.just) _ _ (rw c.number.ensures (kind_small c.args.kind)) (whole_between _ _ _ from.just all)

@@ -1,7 +1,7 @@
 use Rattle.std.proofs.Common.{◌≡◌, map, ◌∙◌}
 use Rattle.std.proofs.lemmas.List.{get_or_default}
-use Rattle.row_store.specs.Layout.{block_numbered, blocks_of}
-use Rattle.row_store.proofs.Spans.{nowhere, row_has_span, row_read}
+use Rattle.row_store.specs.Layout.{block_numbered, blocks_of, nowhere}
+use Rattle.row_store.proofs.Spans.{row_has_span, row_read}
 use Rattle.row_store.proofs.pool.RowPool.row.Goals as goal
 
 pub returns-clause-row : goal.returns-clause-row
