@@ -4,12 +4,19 @@ and peak memory, on four maps of some 30,000 cells in both orders. Beside them i
 times at once: these share nothing but the machine, so what they lose to a single one no program could save.
 
     bench/workers.py [ROUNDS [KIND SIDE]..]
+    bench/workers.py even ROUNDS [KIND SIDE]..
 
 The three run in turn, ROUNDS times (3); of each figure the least counts. KIND and SIDE name other maps, as
 `drawn` of bench/maps.py does. Prints a table in Markdown; a peak below this script's own, some 15 MB, can't be seen. The
 program is the one that was built here if there is one, else the release; nothing has to be built. Where `bench` is, its
-maps are seen to be the same. Nothing else may be done on the machine, which has to have four processors."""
+maps are seen to be the same. Nothing else may be done on the machine, which has to have four processors.
+
+With `even` it is for a machine whose processors others share. A round is one worker, four, four programs, and one worker
+again, and it counts where the processors were even: where the two with one worker and the mean of the four programs lie
+within 5 in 100 in processor time, so that four processors gave what one gave. What the four workers took does not decide
+it. It goes on until ROUNDS such rounds are there, or 40 times as many rounds; the medians of them count."""
 import os
+import statistics
 import subprocess
 import sys
 import time
@@ -76,14 +83,42 @@ def measure(name, map_name, order, rounds):
     print("|", " | ".join(fields), "|", flush=True)
 
 
-rounds = int(sys.argv[1]) if len(sys.argv) > 1 else 3
-wanted = sys.argv[2:] or MAPS
+def even_rounds(alone, rounds):
+    """Even rounds, each with the ratios to one worker of what four took, by processor time and by the clock; and of how
+    many rounds they are."""
+    found, tries = [], 0
+    while len(found) < rounds and tries < 40 * rounds:
+        tries += 1
+        turn = [run(commands)[0] for commands in ([alone], [alone + ["--workers", "4"]], [alone] * 4, [alone])]
+        one, four, copies, again = turn
+        spent = [figures[0] for figures in (one, copies, again)]
+        if max(spent) <= 1.05 * min(spent):
+            found.append([2 * four[way] / (one[way] + again[way]) for way in (0, 1)])
+    return found, tries
+
+
+def measure_even(name, map_name, order, rounds):
+    """A row of the table of even rounds."""
+    found, tries = even_rounds([program, "check", map_name, "--order", order], rounds)
+    fields = [name, order, "%d of %d" % (len(found), tries)]
+    for ratios in zip(*found):
+        low, middle, high = min(ratios), statistics.median(ratios), max(ratios)
+        fields.append("%.2f (%.2f to %.2f)" % (middle, low, high))
+    print("|", " | ".join(fields), "|", flush=True)
+
+
+is_even = sys.argv[1:2] == ["even"]
+words = sys.argv[2:] if is_even else sys.argv[1:]
+rounds = int(words[0]) if words else 3
+wanted = words[1:] or MAPS
 heads = ["map", "passable cells", "order", "runs", "processor time, 1 / 4 workers", "ratio (four programs)",
          "by the clock", "ratio (a quarter of four programs)", "ns a pair", "peak memory", "4 bytes a run"]
+if is_even:
+    heads = ["map", "order", "even rounds", "processor time, 4 workers to 1", "by the clock"]
 print("|", " | ".join(heads), "|")
 print("|" + "---|" * len(heads))
 os.makedirs(os.path.join(top, "bench/build"), exist_ok=True)
 for kind, side in zip(wanted[::2], wanted[1::2]):
     map_name = map_of(kind, side)
     for order in ["rows", "dfs"]:
-        measure(kind, map_name, order, rounds)
+        (measure_even if is_even else measure)(kind, map_name, order, rounds)

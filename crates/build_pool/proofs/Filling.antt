@@ -18,7 +18,7 @@ use Rattle.row_store.proofs.RowLaws.{same_just}
 use Rattle.lane_rows.specs.Tiles.{Tile, IsSolved}
 use Rattle.lane_rows.specs.Packed.{words_in, IsPackedFrom, HavePackedRows}
 use Rattle.build_pool.specs.Places.{AreWithNear}
-use Rattle.build_pool.specs.Pieces.{AreRowsBetween, AreFirstOver, IsRowOver, AreWordsOver, ArePartly, AreSome, AreWhole, AreDone}
+use Rattle.build_pool.specs.Pieces.{AreRowsBetween, AreFirstOver, IsRowOver, AreWordsOver, ArePartly, AreSome, AreWhole, AreDone, HasBlank}
 
 -- blank rows
 pub part_blank : (cells : List Cell) (count : ℕ) (rows : List (List Run)) → rows ≡ replicate count [] → ArePartly cells rows
@@ -114,6 +114,16 @@ packed_over cells near tile words with solved packed lane l = record {
 
 pub done_all : (cells : List Cell) (upto count : ℕ) (rows : List (List Run)) → AreDone cells upto rows → length rows ≡ count → count ≤ upto → AreWhole cells count rows
 done_all cells upto count rows p size all = record { size = size; each = λ k within. p.done k (omega arith) }
+
+-- where no row is blank, each is that of its place
+pub none_blank : (cells : List Cell) (rows : List (List Run)) → ArePartly cells rows → (HasBlank rows → ⊥) → AreWhole cells (length rows) rows
+none_blank cells rows p none = record {
+  size = refl;
+  each = λ place within. elim (p.each place within) [
+    | inl blank ↦ absurd (none (record { place = place; there = within; blank = blank }))
+    | inr there ↦ there
+  ];
+}
 
 -- ---- the rows of several workers
 

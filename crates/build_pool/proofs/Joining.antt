@@ -1,8 +1,6 @@
--- Rows that follow one another, and where pieces begin.
-use Rattle.std.proofs.Common.{◌≡◌, ℕ, ◌+◌, ◌-◌, ◌<◌, ◌≤◌, List, [], ◌∷◌, ◌++◌, length, inl, inr, arith}
+-- Rows that follow one another.
+use Rattle.std.proofs.Common.{◌≡◌, ℕ, ◌+◌, ◌-◌, ◌<◌, List, [], ◌∷◌, ◌++◌, length, inl, inr, arith}
 use Rattle.std.proofs.lemmas.Bool.{cases_lt}
-use Rattle.std.proofs.lemmas.Nat.{mul-le}
-use Rattle.std.proofs.Math.Nat.{div-le_of_le-mul}
 use Rattle.std.proofs.Math.Seq.{get_or-append_right}
 use Rattle.std.proofs.lemmas.List.{get_or_append_left, length-append}
 use Rattle.run_pack.specs.declared.Run.{Run}
@@ -10,7 +8,7 @@ use Rattle.moves.specs.declared.Cell.{Cell}
 use Rattle.moves.specs.Maps.{Map}
 use Rattle.moves.specs.FirstSetLists.{cell_of}
 use Rattle.row_store.specs.Rows.{row_at, IsRowFrom}
-use Rattle.build_pool.specs.Pieces.{cut, AreRowsBetween}
+use Rattle.build_pool.specs.Pieces.{AreRowsBetween}
 
 -- no rows yet
 pub between_none : (map : Map) (cells : List Cell) (from : ℕ) → AreRowsBetween map cells from from []
@@ -40,6 +38,3 @@ between_pushed map cells from upto rows now row p push is =
       each = λ k within. (let first : k ≡ 0 = omega arith in let place : upto + 0 ≡ upto = omega arith in rw (first, place) is);
     } in
     rw push (between_joined map cells from upto (upto + 1) rows (row ∷ []) p one)
-
-pub cut_within : (places pieces piece : ℕ) → piece ≤ pieces → cut places pieces piece ≤ places
-cut_within places pieces piece few = div-le_of_le-mul pieces (mul-le piece places pieces places few (omega arith))

@@ -56,6 +56,12 @@ pub record AreSome (cells : List Cell) (rows : List (List Run)) : Type 0 where
   pub size : length rows ≡ length cells
   pub part : ArePartly cells rows
 
+-- some row is blank
+pub record HasBlank (rows : List (List Run)) : Type 0 where
+  pub place : ℕ
+  pub there : place < length rows
+  pub blank : row_at rows place ≡ []
+
 -- so many rows, each that of its place
 pub record AreWhole (cells : List Cell) (count : ℕ) (rows : List (List Run)) : Type 0 where
   pub size : length rows ≡ count

@@ -28,7 +28,7 @@ pub(crate) fn put_rest(alloc: Global, cells: &[Cell], rows: &mut RowPool) -> Res
     requires part { ArePartly cells.now rows.old }
     ensures whole { OnOk result (AreWhole cells.now (length rows.old) rows.new) }
 {
-    if !has_blank(rows, cells) {
+    if !has_blank(rows) {
         return Ok(());
     }
     let board = board_of(alloc, cells)?;

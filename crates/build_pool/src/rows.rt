@@ -1,8 +1,8 @@
 //! The rows of a component while they are built, in whatever order they are found.
 
-ghost use Rattle.std.specs.Prelude.{◌≡◌, ◌<◌, [], length, OnOk, IsTrue};
+ghost use Rattle.std.specs.Prelude.{◌≡◌, ◌<◌, ◌↔◌, [], length, OnOk, IsTrue};
 ghost use Rattle.row_store.specs.Rows.{row_at};
-ghost use Rattle.build_pool.specs.Pieces.{AreDone, ArePartly, AreWhole, AreWordsOver};
+ghost use Rattle.build_pool.specs.Pieces.{ArePartly, AreWordsOver, HasBlank};
 
 use moves::Cell;
 use row_store::RowPool;
@@ -42,11 +42,9 @@ pub(crate) fn is_blank(rows: &RowPool, place: usize) -> bool
 }
 
 /// Whether some row is blank.
-pub(crate) fn has_blank(rows: &RowPool, cells: &[Cell]) -> bool
-    requires part { ArePartly cells.now rows.now }
-    ensures whole { (IsTrue result → ⊥) → AreWhole cells.now (length rows.now) rows.now }
+pub(crate) fn has_blank(rows: &RowPool) -> bool
+    ensures { IsTrue result ↔ HasBlank rows.now }
 {
-    let _ = cells;
     for place in 0..rows.len() {
         if is_blank(rows, place) {
             return true;

@@ -1,6 +1,5 @@
 //! Whole runs, over files in memory and output in memory.
 mod asks;
-mod requests;
 mod serves;
 mod talks;
 

@@ -1,5 +1,5 @@
 -- Rows that lie in blocks of words.
-use Rattle.std.proofs.Common.{◌≡◌, ℕ, suc, ◌+◌, ◌-◌, ◌*◌, ◌^◌, ◌<◌, ◌≤◌, ◌⊎◌, List, [], ◌∷◌, ◌++◌, length, map, take, drop, get_or, set, replicate, All, sum_by, inl, inr, arith, refl, sym, ap, subst, ◌∙◌}
+use Rattle.std.proofs.Common.{◌≡◌, ℕ, zero, suc, ◌+◌, ◌-◌, ◌*◌, ◌^◌, ◌<◌, ◌≤◌, ◌⊎◌, List, [], ◌∷◌, ◌++◌, length, map, take, drop, get_or, set, replicate, All, sum_by, inl, inr, arith, refl, sym, ap, subst, ◌∙◌}
 use Rattle.std.proofs.Math.ListN.{get_or-append}
 use Rattle.std.proofs.Math.Seq.{drop-append_seam, get_or-append_seam}
 use Rattle.std.proofs.lemmas.Bool.{cases_eq, cases_lt}
@@ -368,6 +368,23 @@ blocks_joined closed more words last =
     append_assoc closed (words ∷ more) (last ∷ []) ∙ sym (append_assoc closed (words ∷ []) (blocks_of more last))
 
 -- ---- empty rows
+
+no_runs : (row : List Run) → length row ≡ 0 → row ≡ []
+no_runs [] none = refl
+no_runs (run ∷ runs) none = absurd (omega (arith, none))
+
+-- where the rows have no runs, each of them is blank
+all_blank : (rows : List (List Run)) (place : ℕ) → sum_by length rows ≡ 0 → row_at rows place ≡ []
+all_blank [] place none = refl
+all_blank (row ∷ rows) zero none = no_runs row (omega (arith, none, sum_by-cons length row rows))
+all_blank (row ∷ rows) (suc place) none = all_blank rows place (omega (arith, none, sum_by-cons length row rows))
+
+-- blank rows become those of the other pool
+pub none_merged : (rows others : List (List Run)) → length rows ≡ length others → sum_by length rows ≡ 0 → AreMerged rows others others
+none_merged rows others size none = record {
+  whole = sym size;
+  each = λ place within. (rw (all_blank rows place none) refl);
+}
 
 pub spans_blank : (count : ℕ) (span : Span) → span.start ≡ 0 → span.len ≡ 0 → span.block ≡ 0 → count ≤ MAX_PASSABLE → AreSpans (blocks_of [] []) (replicate count span)
 spans_blank count span start len block few = record {

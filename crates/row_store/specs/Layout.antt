@@ -59,6 +59,11 @@ nowhere = record { start = 0; len = 0; block = 0 }
 abbrev pub span_at : List Span → ℕ → Span
 span_at spans place = slice_index_or spans place nowhere
 
+-- both rows have words
+pub record HaveWords (own other : Span) : Type 0 where
+  pub first : 0 < own.len
+  pub second : 0 < other.len
+
 -- at no place before this one both lists have a row with words
 pub record AreApart (own others : List Span) (upto : ℕ) : Type 0 where
   pub each : (place : ℕ) → place < upto → ((span_at own place).len ≡ 0) ⊎ ((span_at others place).len ≡ 0)

@@ -1,10 +1,10 @@
 //! Rows of runs in blocks of words, each found again by its block, where it starts there and how many words it has.
 
-ghost use Rattle.std.specs.Prelude.{◌≡◌, ◌+◌, ◌-◌, ◌*◌, ◌^◌, ◌<◌, ◌≤◌, ◌⊎◌, [], ◌∷◌, ◌++◌, map, take, length, replicate, slice_set, sum_by, All, IfOk, OnOk, OnErr, IsTrue};
+ghost use Rattle.std.specs.Prelude.{◌≡◌, ◌+◌, ◌-◌, ◌*◌, ◌^◌, ◌<◌, ◌≤◌, ◌↔◌, [], ◌∷◌, ◌++◌, map, take, length, replicate, slice_set, sum_by, All, IfOk, OnOk, OnErr, IsTrue};
 ghost use Rattle.run_pack.specs.Runs.{ArePackable, word_of, run_of_word};
 ghost use Rattle.row_store.specs.Rows.{row_at};
 ghost use Rattle.row_store.specs.Pools.{AreMerged, CanBeKept, PushesPacked, PutsPacked};
-ghost use Rattle.row_store.specs.Layout.{block_numbered, blocks_of, AreApart, AreFilled, CanBeSpan, IsFilled};
+ghost use Rattle.row_store.specs.Layout.{block_numbered, blocks_of, AreApart, AreFilled, CanBeSpan, HaveWords, IsFilled};
 
 use moves::MAX_PASSABLE;
 use run_pack::{MAX_PLACES, Run, append_words, word};
@@ -171,6 +171,19 @@ impl RowPool {
         requires { length self.old ≡ length other }
         ensures { OnOk result (AreMerged self.old other self.new) }
     {
+        if self.runs() == 0 {
+            *self = other;
+            Ok(())
+        } else {
+            self.take_blocks(other)
+        }
+    }
+
+    /// `merge` with the blocks of the other pool behind those of this one.
+    fn take_blocks(&mut self, other: RowPool) -> Result<(), AllocError>
+        requires { length self.old ≡ length other }
+        ensures { OnOk result (AreMerged self.old other self.new) }
+    {
         let blocks = self.closed.len() + 1;
         if blocks + other.closed.len() >= MAX_BLOCKS || !are_apart(&self.spans, &other.spans) {
             return self.copy_missing(&other);
@@ -323,7 +336,7 @@ fn append_blocks(
 /// Whether no place has a row with words in both lists.
 fn are_apart(own: &[Span], others: &[Span]) -> bool
     requires { length own.now ≡ length others.now }
-    ensures { IsTrue result → AreApart own.now others.now (length own.now) }
+    ensures { IsTrue result ↔ AreApart own.now others.now (length own.now) }
 {
     for place in 0..own.len() {
         if have_words(own[place], others[place]) {
@@ -335,7 +348,7 @@ fn are_apart(own: &[Span], others: &[Span]) -> bool
 
 /// Whether both spans have words.
 fn have_words(own: Span, other: Span) -> bool
-    ensures { (IsTrue result → ⊥) → (own.len ≡ 0) ⊎ (other.len ≡ 0) }
+    ensures { IsTrue result ↔ HaveWords own other }
 {
     own.len != 0 && other.len != 0
 }

@@ -62,20 +62,21 @@ const REFUSED_REPORT: &str = "1 unreachable\n2 blocked start\n3 outside start\n4
     5 outside goal\n6 scaled\n7 match 0 0 0.000000\n\
     scenarios 7 match 1 differs 0 unreachable 1 refused 4 scaled 1\n";
 
+const NONE_REPORT: &str = "scenarios 0 match 0 differs 0 unreachable 0 refused 0 scaled 0\n";
+
 #[test]
 fn reports(rt: HostRuntime) -> Result<(), Fail> {
     let alloc = rt.alloc();
-    let free = version_of(&rt, alloc, Grid::of_rows(alloc, 3, 1, "...")?)?;
-    let found = report_on(&rt, alloc, &free, KINDS.as_bytes())?.ok_or("a report")?;
-    assert_eq!(rt; found.as_str(), KINDS_REPORT);
-    let cut = version_of(&rt, alloc, Grid::of_rows(alloc, 3, 1, ".@.")?)?;
-    let found = report_on(&rt, alloc, &cut, REFUSED.as_bytes())?.ok_or("a report")?;
-    assert_eq!(rt; found.as_str(), REFUSED_REPORT);
-    let none = report_on(&rt, alloc, &cut, b"version 1\n".as_slice())?.ok_or("a report")?;
-    assert_eq!(rt;
-        none.as_str(),
-        "scenarios 0 match 0 differs 0 unreachable 0 refused 0 scaled 0\n"
-    );
+    let table = [
+        ("...", KINDS, KINDS_REPORT),
+        (".@.", REFUSED, REFUSED_REPORT),
+        (".@.", "version 1\n", NONE_REPORT),
+    ];
+    for (rows, text, expected) in table {
+        let version = version_of(&rt, alloc, Grid::of_rows(alloc, 3, 1, rows)?)?;
+        let found = report_on(&rt, alloc, &version, text.as_bytes())?.ok_or("a report")?;
+        assert_eq!(rt; found.as_str(), expected);
+    }
     Ok(())
 }
 
@@ -135,22 +136,29 @@ fn walked<R: Abort>(
     }))
 }
 
-#[test]
-fn written_walks_match(rt: HostRuntime) -> Result<(), Fail> {
-    let alloc = rt.alloc();
-    let version = version_of(
-        &rt,
-        alloc,
-        Grid::of_rows(alloc, 4, 4, "..../.@@./..../@...")?,
-    )?;
+/// The scenarios of the walks to the cells of the first three rows, those that are reached.
+fn all_walked<R: Abort>(
+    rt: &R,
+    alloc: Global,
+    version: &Version,
+) -> Result<Vec<ScenLine>, AllocError> {
     let mut lines = Vec::new(alloc);
     for x in 0..4 {
         for y in 0..3 {
-            if let Some(line) = walked(&rt, alloc, &version, Cell { x, y })? {
+            if let Some(line) = walked(rt, alloc, version, Cell { x, y })? {
                 lines.push(line)?;
             }
         }
     }
+    Ok(lines)
+}
+
+#[test]
+fn written_walks_match(rt: HostRuntime) -> Result<(), Fail> {
+    let alloc = rt.alloc();
+    let grid = Grid::of_rows(alloc, 4, 4, "..../.@@./..../@...")?;
+    let version = version_of(&rt, alloc, grid)?;
+    let lines = all_walked(&rt, alloc, &version)?;
     let text = write_scen(alloc, lines.as_slice())?;
     let found = report_on(&rt, alloc, &version, text.as_slice())?.ok_or("a report")?;
     assert!(rt;
@@ -161,33 +169,52 @@ fn written_walks_match(rt: HostRuntime) -> Result<(), Fail> {
     Ok(())
 }
 
+/// What the queries on a map come to.
+fn queries_on<R: Threads + Sync + Abort>(
+    rt: &R,
+    alloc: Global,
+    grid: Grid,
+    seed: u32,
+) -> Result<QueryTotals, AllocError> {
+    let version = version_of(rt, alloc, grid)?;
+    measure_queries(alloc, &version, seed)
+}
+
 #[test]
-fn made_maps(rt: HostRuntime) -> Result<(), Fail> {
+fn queries_on_a_made_map(rt: HostRuntime) -> Result<(), Fail> {
     let alloc = rt.alloc();
     let Made::Map(grid) = made_map(alloc, 3, 1, 0)? else {
         return Err("a map".into());
     };
-    let version = version_of(&rt, alloc, grid)?;
     let totals = QueryTotals {
         queries: 16,
         unreachable: 0,
         straight: 22,
         diagonal: 0,
     };
-    assert_eq!(rt; measure_queries(alloc, &version, 0)?, totals);
-    let blocked = version_of(&rt, alloc, Grid::of_rows(alloc, 2, 1, "@@")?)?;
+    assert_eq!(rt; queries_on(&rt, alloc, grid, 0)?, totals);
+    Ok(())
+}
+
+#[test]
+fn queries_on_a_blocked_map(rt: HostRuntime) -> Result<(), Fail> {
+    let alloc = rt.alloc();
     let none = QueryTotals {
         queries: 0,
+        unreachable: 0,
         straight: 0,
-        ..totals
+        diagonal: 0,
     };
-    assert_eq!(rt; measure_queries(alloc, &blocked, 7)?, none);
-    match made_map(alloc, 4096, 10, 0)? {
+    let grid = Grid::of_rows(alloc, 2, 1, "@@")?;
+    assert_eq!(rt; queries_on(&rt, alloc, grid, 7)?, none);
+    Ok(())
+}
+
+#[test]
+fn made_maps_have_a_limit(rt: HostRuntime) -> Result<(), Fail> {
+    match made_map(rt.alloc(), 4096, 10, 0)? {
         Made::Map(_) => return Err("too many cells".into()),
-        Made::TooMany { x, y } => {
-            assert_eq!(rt; x, 4094);
-            assert_eq!(rt; y, 9);
-        }
+        Made::TooMany { x, y } => assert_eq!(rt; (x, y), (4094, 9)),
     }
     Ok(())
 }

@@ -1,5 +1,6 @@
-use Rattle.build_pool.specs.Pieces.{AreDone}
+use Rattle.std.specs.Prelude.{◌≡◌, ◌<◌, ℕ, []}
+use Rattle.row_store.specs.Rows.{row_at}
 use Rattle.build_pool.proofs.rows.has_blank.Given as goal
 
 abbrev pub invariant-loop-place : goal.invariant-loop-place
-invariant-loop-place l = AreDone l.cells l.place l.rows
+invariant-loop-place l = (place : ℕ) → place < l.place → row_at l.rows place ≡ [] → ⊥

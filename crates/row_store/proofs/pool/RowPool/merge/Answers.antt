@@ -1,31 +1,6 @@
-use Rattle.std.proofs.Common.{◌≡◌, ◌<◌, ◌+◌, length, rules}
-use Rattle.row_store.specs.declared.pool.TheConstants.{MAX_BLOCKS}
-use Rattle.row_store.specs.Layout.{AreApart, AreFilled}
-use Rattle.row_store.proofs.Spans.{spans_joined, rows_joined}
+use Rattle.std.proofs.Common.{◌∙◌, sym}
+use Rattle.row_store.proofs.Spans.{none_merged}
 use Rattle.row_store.proofs.pool.RowPool.merge.Goals as goal
 
-pub invariant_of-self-2 : goal.invariant_of-self-2
-invariant_of-self-2 c =
-    let size = rw (← c.self.view_is, ← c.other.view_is) at c.requires in
-    let counted : c.len-blocks.result + 1 ≡ length c.self.inside.closed.items + 1 = search rules in
-    let room : c.len-blocks.result + 1 + length c.other.inside.closed.items < MAX_BLOCKS = search rules in
-    let apart : AreApart c.self.inside.spans.items c.other.inside.spans.items (length c.self.inside.spans.items) =
-    rw (c.deref.ensures.value, c.deref-else-blocks-len-ge-MAX_BLOCKS.ensures.value) at (c.are_apart.ensures c.if-not-are_apart.false) in
-    let filled : AreFilled (c.len-blocks.result + 1) c.self.inside.spans.items c.other.inside.spans.items c.fill_spans.new.own.items (length c.self.inside.spans.items) =
-    rw c.deref-2.ensures.value at c.fill_spans.ensures in
-    rw c.in_ok-append_blocks.ensures.ok.1
-    (spans_joined (λ block. block.items) _ _ _ _ _ _ c.self.invariant c.other.invariant size _ counted room
-    _ _ _ c.in_ok-append_blocks.ensures.ok.0 c.shrink_to_fit.ensures.items apart filled)
-
-pub returns : goal.returns
-returns c =
-    let size = rw (← c.self.view_is, ← c.other.view_is) at c.requires in
-    let counted : c.len-blocks.result + 1 ≡ length c.self.inside.closed.items + 1 = search rules in
-    let room : c.len-blocks.result + 1 + length c.other.inside.closed.items < MAX_BLOCKS = search rules in
-    let apart : AreApart c.self.inside.spans.items c.other.inside.spans.items (length c.self.inside.spans.items) =
-    rw (c.deref.ensures.value, c.deref-else-blocks-len-ge-MAX_BLOCKS.ensures.value) at (c.are_apart.ensures c.if-not-are_apart.false) in
-    let filled : AreFilled (c.len-blocks.result + 1) c.self.inside.spans.items c.other.inside.spans.items c.fill_spans.new.own.items (length c.self.inside.spans.items) =
-    rw c.deref-2.ensures.value at c.fill_spans.ensures in
-    rw (← c.self.view_is, ← c.other.view_is, c.in_ok-append_blocks.ensures.ok.1)
-    (rows_joined (λ block. block.items) _ _ _ _ _ _ c.self.invariant c.other.invariant size _ counted room
-    _ _ _ c.in_ok-append_blocks.ensures.ok.0 c.shrink_to_fit.ensures.items apart filled)
+pub returns-then-runs-eq0 : goal.returns-then-runs-eq0
+returns-then-runs-eq0 c = none_merged _ _ c.requires (sym c.runs.ensures ∙ c.if-runs-eq0.true)

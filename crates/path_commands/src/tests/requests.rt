@@ -1,25 +1,10 @@
 //! What command lines ask for.
+use super::{STANDARD, words_of};
+use crate::{BuildOptions, Request, RequestError, Sides, read_request};
 use cell_order::OrderKind;
 use moves::Cell;
-use path_commands::{BuildOptions, Request, RequestError, Sides, read_request};
-use std::alloc::{AllocError, Global};
 use std::test::Fail;
 use wire::DoorsAsked;
-
-/// The words of a line, each ended by a bar.
-fn words_of(alloc: Global, line: &str) -> Result<Vec<String>, AllocError> {
-    let mut words = Vec::new(alloc);
-    for word in line.split_terminator('|') {
-        words.push(String::from_str(alloc, word)?)?;
-    }
-    Ok(words)
-}
-
-/// Without options: row by row, on one thread.
-const STANDARD: BuildOptions = BuildOptions {
-    order: OrderKind::Rows,
-    workers: 1,
-};
 
 fn options(order: OrderKind, workers: u32) -> BuildOptions {
     BuildOptions { order, workers }
