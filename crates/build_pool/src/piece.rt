@@ -214,7 +214,9 @@ fn put_tile(
         return Ok(());
     }
     let count = bench.tiles.choose(near, first, bench.wanted.as_mut_slice());
-    let taken = take_lanes(pending, &bench.tiles, count);
+    let Some(taken) = take_lanes(pending, &bench.tiles, count) else {
+        return Ok(());
+    };
     if !piece.is_own {
         pending.count_visit();
     }
@@ -238,15 +240,19 @@ fn look_again(pending: &Pending, piece: Piece, bench: &mut Workbench)
     }
 }
 
-/// Takes the rows of a tile's sources, and says in which lanes nobody else was faster.
-fn take_lanes(pending: &Pending, tiles: &Tiles, count: usize) -> [bool; LANES]
+/// Takes the rows of a tile's sources, and says in which lanes nobody else was faster; `None` where others were in all.
+fn take_lanes(pending: &Pending, tiles: &Tiles, count: usize) -> Option<[bool; LANES]>
     requires { count ≤ 16 }
 {
     let mut taken = [false; LANES];
+    let mut is_any = false;
     for lane in 0..count {
-        taken[lane] = pending.take(usize::from(tiles.source(lane)));
+        if pending.take(usize::from(tiles.source(lane))) {
+            taken[lane] = true;
+            is_any = true;
+        }
     }
-    taken
+    if is_any { Some(taken) } else { None }
 }
 
 /// Puts the packed rows of the lanes that were taken.

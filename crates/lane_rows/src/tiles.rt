@@ -46,7 +46,7 @@ impl Model for Tiles {
         record { count = t.count; sources = t.sources; keys = t.keys.items; sets = t.sets.items; words = t.words } };
 
     ghost invariant = { λ t.
-        HasRoom t.count t.keys.items t.sets.items t.waits.items t.met.items };
+        HasRoom t.count t.sources t.keys.items t.sets.items t.waits.items t.met.items };
 }
 
 impl Tiles {
@@ -82,24 +82,16 @@ impl Tiles {
             → slice_index self.new.sources lane < self.new.count }
         ensures taken { AreTaken wanted.old wanted.new (take result self.new.sources) }
     {
-        let met = self.met.as_mut_slice();
         search_for(
             near.table(),
             first,
             wanted,
-            met,
+            self.met.as_mut_slice(),
             &mut self.levels,
             &mut self.order,
         );
         let (sources, count) = take_nearest(first, &self.order, wanted);
         self.reach = reach_of(&self.order, sources[count - 1]);
-        search(
-            near.table(),
-            &sources,
-            met,
-            &mut self.levels,
-            &mut self.order,
-        );
         self.sources = sources;
         count
     }
@@ -120,6 +112,13 @@ impl Tiles {
         ensures sources { self.new.sources ≡ self.old.sources }
         ensures solved { IsTrue result → IsSolved near.now self.new }
     {
+        search(
+            near.table(),
+            &self.sources,
+            self.met.as_mut_slice(),
+            &mut self.levels,
+            &mut self.order,
+        );
         let plan = Plan::new(self.order.as_slice(), self.reach, sweeps);
         solve(
             near.table(),
