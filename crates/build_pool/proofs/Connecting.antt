@@ -1,5 +1,5 @@
 -- Connected cells are a component of a map that has just them, and each of them has a first move from each other one.
-use Rattle.std.proofs.Common.{◌≡◌, ◌≢◌, ℕ, ◌+◌, ◌<◌, ◌≤◌, List, [], ◌∷◌, length, get_or, All, sym, ◌∙◌, inl, inr, subst, arith}
+use Rattle.std.proofs.Common.{◌≡◌, ◌≢◌, ℕ, ◌<◌, ◌≤◌, List, [], ◌∷◌, length, get_or, All, sym, ◌∙◌, inl, inr, subst, arith}
 use Rattle.std.specs.Bool.{Decides}
 use Rattle.std.specs.List.{AllPairs, Contains}
 use Rattle.std.specs.List.Sorted.{IsPermutation}
@@ -37,7 +37,6 @@ use Rattle.row_store.specs.Comps.{IsComp}
 use Rattle.row_store.proofs.RowLaws.{HasJust-permuted}
 use Rattle.build_pool.specs.Places.{IsInSides, LieOnMap, AreComponent, AreSources, CanBeBuilt}
 use Rattle.build_pool.proofs.Boards.{some_map}
-use Rattle.build_pool.specs.Pieces.{AreRowsBetween}
 
 abbrev corner_cell : Cell
 corner_cell = record { x = 0; y = 0 }
@@ -170,9 +169,10 @@ module _ (map : Map) (cells order : List Cell) (is : IsReady map cells order) wh
         (way.0, goes_through_more cells order (λ c inside. Contains-permutation cells order c back inside) from way.0 to way.1));
   }
 
-  pub comp_in_order : (kind : ℕ) (rows : List (List Run)) → kind ≤ 1 → AreRowsBetween map order 0 (length order) rows
+  pub comp_in_order : (kind : ℕ) (rows : List (List Run)) → kind ≤ 1 → length rows ≡ length order
+      → ((place : ℕ) → place < length order → IsRowFrom map order (cell_of order place) (row_at rows place))
       → IsComp (record { kind = kind; cells = order; rows = rows })
-  comp_in_order kind rows small between =
+  comp_in_order kind rows small long each =
       let size = given_size cells order is.given in
       let some = can.some in
       let few = can.few in
@@ -186,12 +186,8 @@ module _ (map : Map) (cells order : List Cell) (is : IsReady map cells order) wh
         rows = record {
           map = map;
           just = HasJust-permuted map order cells back is.just;
-          whole = omega (arith, between.whole);
-          each = λ place within.
-              (let inside : place < length rows = omega (arith, between.whole) in
-              let same_place : 0 + place ≡ place = omega arith in
-              let row : IsRowFrom map order (cell_of order (0 + place)) (row_at rows place) = between.each place inside in
-              rw same_place at row);
+          whole = long;
+          each = each;
         };
       }
 

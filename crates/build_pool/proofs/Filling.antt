@@ -18,7 +18,7 @@ use Rattle.row_store.proofs.RowLaws.{same_just}
 use Rattle.lane_rows.specs.Tiles.{Tile, IsSolved}
 use Rattle.lane_rows.specs.Packed.{words_in, IsPackedFrom, HavePackedRows}
 use Rattle.build_pool.specs.Places.{AreWithNear}
-use Rattle.build_pool.specs.Pieces.{AreRowsBetween, AreFirstOver, IsRowOver, AreWordsOver, ArePartly, AreSome, AreWhole, AreDone, HasBlank}
+use Rattle.build_pool.specs.Pieces.{AreFirstOver, IsRowOver, AreWordsOver, ArePartly, AreSome, AreWhole, AreDone, HasBlank}
 
 -- blank rows
 pub part_blank : (cells : List Cell) (count : ℕ) (rows : List (List Run)) → rows ≡ replicate count [] → ArePartly cells rows
@@ -155,13 +155,3 @@ some_merged cells rows other new p q m = record {
 -- the rows of a worker that were built
 pub share_is : (cells : List Cell) (share : Result (List (List Run)) AllocError) (rows : List (List Run)) → IfOk share (AreSome cells) → share ≡ Ok rows → AreSome cells rows
 share_is cells share rows told is = subst (λ s. IfOk s (AreSome cells)) is told
-
--- so all rows are those from the first place on
-pub whole_between : (map : Map) (cells : List Cell) (rows : List (List Run)) → HasJust map cells → AreWhole cells (length cells) rows → AreRowsBetween map cells 0 (length cells) rows
-whole_between map cells rows just p = record {
-  whole = let size = p.size in omega arith;
-  each = λ k within.
-      (let place : 0 + k ≡ k = omega arith in
-      let row = (p.each k (let size = p.size in omega arith)).over map just in
-      rw place row);
-}

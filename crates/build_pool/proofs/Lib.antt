@@ -1,5 +1,4 @@
 pub mod Boards
 pub mod Connecting
 pub mod Sourcing
-pub mod Joining
 pub mod Filling

@@ -1,5 +1,5 @@
 -- The rows of a component in pieces, each of which is built on its own.
-use Rattle.std.specs.Prelude.{◌≡◌, ℕ, ◌+◌, ◌*◌, ◌/◌, ◌<◌, ◌≤◌, ◌⊎◌, List, [], length, map, slice_index}
+use Rattle.std.specs.Prelude.{◌≡◌, ℕ, ◌*◌, ◌/◌, ◌<◌, ◌≤◌, ◌⊎◌, List, [], length, map, slice_index}
 use Rattle.run_pack.specs.declared.Run.{Run}
 use Rattle.run_pack.specs.declared.TheConstants.{MAX_PLACES}
 use Rattle.run_pack.specs.Runs.{run_of_word}
@@ -17,11 +17,6 @@ use Rattle.build_pool.specs.Places.{AreWithNear}
 -- the place before which a piece of so many begins, among so many places: the piece's share of them, rounded down
 abbrev pub cut : ℕ → ℕ → ℕ → ℕ
 cut places pieces piece = piece * places / pieces
-
--- the rows of the cells from one place to before another
-pub record AreRowsBetween (map : Map) (cells : List Cell) (from upto : ℕ) (rows : List (List Run)) : Type 0 where
-  pub whole : from + length rows ≡ upto
-  pub each : (k : ℕ) → k < length rows → IsRowFrom map cells (cell_of cells (from + k)) (row_at rows k)
 
 -- what it takes to build the rows of a piece: the cells with their neighbours, and the piece is one of so many
 pub record CanBuild (cells : List Cell) (near : List (List ℕ)) (all number : ℕ) : Type 0 where

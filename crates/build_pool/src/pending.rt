@@ -8,12 +8,15 @@ ghost use Rattle.std.specs.Prelude.{◌≡◌, length};
 use std::alloc::{AllocError, Global};
 use std::sync::atomic::{AtomicBool, AtomicU64, Ordering};
 
+/// How many places a block has, whose changes are counted together.
+const BLOCK: usize = 64;
+
 /// For each place of a component, whether its row may be taken. All workers share it.
 #[derive(Drop)]
 pub(crate) struct Pending {
     marks: Vec<AtomicBool>,
-    /// How often a worker has taken rows of a piece that is not its own.
-    visits: AtomicU64,
+    /// How often a mark of each block has changed.
+    changes: Vec<AtomicU64>,
 }
 
 impl Pending {
@@ -23,16 +26,26 @@ impl Pending {
         for _ in 0..places {
             marks.push(AtomicBool::new(false))?;
         }
-        Ok(Pending {
-            marks,
-            visits: AtomicU64::new(0),
-        })
+        let blocks = places.div_ceil(BLOCK);
+        let mut changes = Vec::with_capacity(alloc, blocks)?;
+        for _ in 0..blocks {
+            changes.push(AtomicU64::new(0))?;
+        }
+        Ok(Pending { marks, changes })
+    }
+
+    /// How many blocks there are.
+    pub(crate) fn blocks(&self) -> usize {
+        self.changes.len()
     }
 
     /// The rows from one place to before another may be taken.
     pub(crate) fn offer(&self, from: usize, upto: usize) {
-        for mark in self.marks.iter().take(upto).skip(from) {
-            mark.store(true, Ordering::Relaxed);
+        for place in from..upto {
+            if let Some(mark) = self.marks.get(place) {
+                mark.store(true, Ordering::Relaxed);
+                self.count_change(place);
+            }
         }
     }
 
@@ -47,29 +60,43 @@ impl Pending {
     /// Takes the row at a place; `false` where somebody else was faster.
     pub(crate) fn take(&self, place: usize) -> bool {
         match self.marks.get(place) {
-            Some(mark) => mark.swap(false, Ordering::Relaxed),
+            Some(mark) => {
+                let is_there = mark.swap(false, Ordering::Relaxed);
+                self.count_change(place);
+                is_there
+            }
             None => false,
         }
     }
 
-    /// How often a worker has taken rows of a piece that is not its own.
-    pub(crate) fn visits(&self) -> u64 {
-        self.visits.load(Ordering::Relaxed)
+    /// Tells the others that the mark of a place has changed.
+    fn count_change(&self, place: usize) {
+        if let Some(count) = self.changes.get(place / BLOCK) {
+            count.fetch_add(1, Ordering::Relaxed);
+        }
     }
 
-    /// Tells the others that rows of another piece were taken.
-    pub(crate) fn count_visit(&self) {
-        self.visits.fetch_add(1, Ordering::Relaxed);
+    /// Notes which rows may be taken, in the blocks that have changed since a worker last looked at them.
+    pub(crate) fn look(&self, wanted: &mut [bool], seen: &mut [u64])
+        ensures wanted { length wanted.new ≡ length wanted.old }
+        ensures seen { length seen.new ≡ length seen.old }
+    {
+        for (block, count) in self.changes.iter().enumerate() {
+            let changes = count.load(Ordering::Relaxed);
+            if block < seen.len() && seen[block] != changes {
+                seen[block] = changes;
+                self.note(wanted, block);
+            }
+        }
     }
 
-    /// Notes which rows from one place to before another may be taken.
-    pub(crate) fn note(&self, wanted: &mut [bool], from: usize, upto: usize)
+    /// Notes which rows of a block may be taken.
+    fn note(&self, wanted: &mut [bool], block: usize)
         ensures { length wanted.new ≡ length wanted.old }
     {
-        for place in from..upto {
-            if place < wanted.len() {
-                wanted[place] = self.may_be_taken(place);
-            }
+        let from = block.saturating_mul(BLOCK);
+        for place in from..from.saturating_add(BLOCK).min(wanted.len()) {
+            wanted[place] = self.may_be_taken(place);
         }
     }
 }

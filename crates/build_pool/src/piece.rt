@@ -1,7 +1,8 @@
 //! The rows that one worker builds.
 //!
 //! Sixteen near sources at a time are solved in the lanes of a vector, and the row of each goes to its place. A worker
-//! takes the sources of its own piece, and then, from behind, those of other pieces that are left. What is found so is
+//! begins each tile at a source of its own piece, and then, from behind, of other pieces, and takes those left that are
+//! nearest to it, whosever they are: a tile whose sources lie far apart takes ten times as long. What is found so is
 //! exact wherever and by whomever it is found. Where a tile isn't solved its rows stay blank, and in the end what is
 //! blank is built by a plain search. It is the same row: rows depend on the cells alone.
 
@@ -52,7 +53,7 @@ pub(crate) fn build_share<G: Gate>(
 struct Piece {
     from: usize,
     upto: usize,
-    /// From which end a worker takes sources: its own piece from the front, another from behind.
+    /// From which end a worker begins tiles: its own piece from the front, another from behind.
     is_own: bool,
 }
 
@@ -91,16 +92,21 @@ fn cut_of(places: usize, workers: u32, piece: u32) -> usize
 #[derive(Drop)]
 struct Workbench {
     tiles: Tiles,
-    /// The places of the piece at hand that may be taken, as far as the worker knows.
+    /// The places that may be taken, as far as the worker knows.
     wanted: Vec<bool>,
-    /// How many visits there were when it last looked.
-    visits: u64,
+    /// How many changes of each block of places it has seen.
+    seen: Vec<u64>,
     sweeps: u32,
 }
 
 impl Workbench {
-    /// For a component of so many cells.
-    fn new(alloc: Global, places: usize, sweeps: u32) -> Result<Workbench, AllocError>
+    /// For a component of so many cells, in so many blocks.
+    fn new(
+        alloc: Global,
+        places: usize,
+        blocks: usize,
+        sweeps: u32,
+    ) -> Result<Workbench, AllocError>
         requires { places ≤ MAX_PASSABLE }
         ensures count { IfOk result (λ bench. bench.tiles.count ≡ places) }
         ensures marks { IfOk result (λ bench. length bench.wanted.items ≡ places) }
@@ -108,14 +114,14 @@ impl Workbench {
         Ok(Workbench {
             tiles: Tiles::new(alloc, places)?,
             wanted: vec![in alloc; false; places]?,
-            visits: 0,
+            seen: vec![in alloc; 0; blocks]?,
             sweeps,
         })
     }
 }
 
-/// Builds rows of the worker's own piece, and then of the pieces before it and from the last one on. Without sweeps it
-/// builds none.
+/// Builds rows from sources of the worker's own piece on, and then of the pieces before it and from the last one on.
+/// Without sweeps it builds none.
 fn put_pieces(
     alloc: Global,
     cells: &[Cell],
@@ -132,7 +138,7 @@ fn put_pieces(
     let Some(sweeps) = share.sweeps else {
         return Ok(());
     };
-    let mut bench = Workbench::new(alloc, near.len(), sweeps)?;
+    let mut bench = Workbench::new(alloc, near.len(), pending.blocks(), sweeps)?;
     for steps in 0..share.workers {
         let number = (share.piece + share.workers - steps) % share.workers;
         let piece = Piece {
@@ -144,7 +150,7 @@ fn put_pieces(
     Ok(())
 }
 
-/// Builds rows of a piece as long as there are some that may be taken.
+/// Builds rows as long as there are some of a piece that may be taken.
 fn put_piece(
     near: &Near,
     cells: &[Cell],
@@ -163,7 +169,6 @@ fn put_piece(
     ensures whole { OnOk result (length rows.new ≡ length rows.old) }
     ensures part { OnOk result (ArePartly cells.now rows.new) }
 {
-    pending.note(bench.wanted.as_mut_slice(), piece.from, piece.upto);
     for place in piece.from..piece.upto {
         let first = if piece.is_own {
             place
@@ -171,30 +176,17 @@ fn put_piece(
             piece.upto - 1 - (place - piece.from)
         };
         if pending.may_be_taken(first) {
-            put_tile(near, cells, pending, piece, first as u16, bench, rows)?;
+            put_tile(near, cells, pending, first as u16, bench, rows)?;
         }
     }
-    forget(bench.wanted.as_mut_slice(), piece);
     Ok(())
 }
 
-/// No place of the piece is wanted any more.
-fn forget(wanted: &mut [bool], piece: Piece)
-    ensures { length wanted.new ≡ length wanted.old }
-{
-    for place in piece.from..piece.upto {
-        if place < wanted.len() {
-            wanted[place] = false;
-        }
-    }
-}
-
-/// Builds the rows of a tile from the place on, where that may still be taken.
+/// Builds the rows of a tile around the place, where that may still be taken.
 fn put_tile(
     near: &Near,
     cells: &[Cell],
     pending: &Pending,
-    piece: Piece,
     first: u16,
     bench: &mut Workbench,
     rows: &mut RowPool,
@@ -209,7 +201,7 @@ fn put_tile(
     ensures whole { OnOk result (length rows.new ≡ length rows.old) }
     ensures part { OnOk result (ArePartly cells.now rows.new) }
 {
-    look_again(pending, piece, bench);
+    pending.look(bench.wanted.as_mut_slice(), bench.seen.as_mut_slice());
     if !bench.wanted[usize::from(first)] {
         return Ok(());
     }
@@ -217,27 +209,12 @@ fn put_tile(
     let Some(taken) = take_lanes(pending, &bench.tiles, count) else {
         return Ok(());
     };
-    if !piece.is_own {
-        pending.count_visit();
-    }
     if !bench.tiles.run(near, bench.sweeps) {
         return Ok(());
     }
     bench.tiles.pack()?;
     put_lanes(&bench.tiles, taken, cells, rows)?;
     Ok(())
-}
-
-/// Notes what may still be taken of the piece, where others may have taken some.
-fn look_again(pending: &Pending, piece: Piece, bench: &mut Workbench)
-    ensures tiles { bench.new.tiles ≡ bench.old.tiles }
-    ensures marks { length bench.new.wanted.items ≡ length bench.old.wanted.items }
-{
-    let visits = pending.visits();
-    if visits != bench.visits {
-        pending.note(bench.wanted.as_mut_slice(), piece.from, piece.upto);
-        bench.visits = visits;
-    }
 }
 
 /// Takes the rows of a tile's sources, and says in which lanes nobody else was faster; `None` where others were in all.

@@ -26,12 +26,10 @@ use Rattle.row_store.specs.Rows.{row_at, IsRowFrom}
 use Rattle.row_store.specs.Comps.{Comp, IsComp}
 use Rattle.row_store.proofs.RowLaws.{HasJust-permuted, components_keep_each_row}
 use Rattle.build_pool.specs.Places.{AreComponent, CanBeBuilt}
-use Rattle.build_pool.specs.Pieces.{AreRowsBetween}
 use Rattle.build_pool.proofs.Connecting.{IsReady, comp_in_order, kind_small}
-use Rattle.build_pool.proofs.Joining.{between_none, between_pushed}
 use Rattle.versions.specs.Databases.{IsKeptAs, component_at, no_comp}
 use Rattle.version_build.specs.Plans.{ArePrepared, AreComplete, CanAllBeBuilt, cells_missing}
-use Rattle.version_build.specs.Builders.{Parted, no_part, part_at, rows_left, part_from, comp_or, comp_of, AreBegun, IsPart, IsPartFrom, IsUnderWay, PushesRow}
+use Rattle.version_build.specs.Builders.{Parted, no_part, part_at, rows_left, part_from, comp_or, comp_of, AreBegun, AreFirstRows, IsPart, IsPartFrom, IsUnderWay, PushesRow}
 use Rattle.version_build.proofs.Missing.{missing_in, missing_cons}
 use Rattle.version_build.proofs.Onward.{next_less, next_parts, next_value}
 use Rattle.version_build.proofs.JustThese.{just_map, just_these_cells}
@@ -43,7 +41,7 @@ in_order order component can = orders_are_permutations order component can.some 
 -- ---- before the first row
 
 part_begun : (map : Map) (order : OrderKind) (component : List Cell) (comp : Option Comp) → IfSome comp (IsKeptAs order component) → IsPart map order component (part_from order component comp)
-part_begun map order component None is = (refl, omega arith, between_none map (ordered order component) 0)
+part_begun map order component None is = (refl, omega arith, λ place within. absurd (omega arith))
 part_begun map order component (Some comp) is = (refl, refl, is)
 
 left_begun : (order : OrderKind) (component : List Cell) (comp : Option Comp) → CanBeBuilt component → rows_left (part_from order component comp) ≡ missing_in component comp
@@ -146,13 +144,24 @@ open_from map order component cells rows None is can p some = record {
 }
 open_from map order component cells rows (Some comp) is can p some = absurd (let none = ap length p.0 in omega arith)
 
+-- one row more
+first_rows_pushed : (map : Map) (cells : List Cell) (rows : List (List Run)) (row : List Run) → AreFirstRows map cells rows → IsRowFrom map cells (cell_of cells (length rows)) row
+    → AreFirstRows map cells (rows ++ row ∷ [])
+first_rows_pushed map cells rows row first is place within =
+    elim (cases_lt place (length rows)) [
+      | inl early ↦ (let read : row_at (rows ++ row ∷ []) place ≡ row_at rows place = get_or_append_left rows (row ∷ []) [] place early in rw read (first place early))
+      | inr late ↦
+          let last : place ≡ length rows = omega (arith, length_push rows row) in
+          (let read : row_at (rows ++ row ∷ []) (length rows) ≡ row = get_or_push rows row [] (length rows) refl in rw (last, read) is)
+    ]
+
 part_pushed : (map : Map) (order : OrderKind) (component cells : List Cell) (rows : List (List Run)) (kept : Option Comp) (row : List Run)
     → IsPartFrom map order component cells rows kept → length rows < length cells → IsRowFrom map cells (cell_of cells (length rows)) row → IsPartFrom map order component cells (rows ++ row ∷ []) kept
 part_pushed map order component cells rows None row p less is =
     let long = length_push rows row in (
       p.0,
       omega (arith, long),
-      subst (λ n. AreRowsBetween map cells 0 n (rows ++ row ∷ [])) (sym long) (between_pushed map cells 0 (length rows) rows (rows ++ row ∷ []) row p.2 refl is),
+      first_rows_pushed map cells rows row p.2 is,
     )
 part_pushed map order component cells rows (Some comp) row p less is = absurd (let none = ap length p.0 in omega arith)
 
@@ -244,13 +253,10 @@ part_done parts none label less = (let one = sum_by_more_le rows_left parts labe
 
 -- rows of a component over the whole map are rows over its cells alone
 rows_alone : (map part : Map) (component cells : List Cell) (rows : List (List Run)) → IsComponent map component → IsPermutation cells component → HasJust part cells
-    → length rows ≡ length cells → AreRowsBetween map cells 0 (length rows) rows → AreRowsBetween part cells 0 (length cells) rows
-rows_alone map part component cells rows is order just long p = record {
-  whole = omega arith;
-  each = λ k within.
-      (components_keep_each_row map component cells part is order just (cell_of cells (0 + k)) (row_at rows k)
-      (Contains-get_or cells (0 + k) (record { x = 0; y = 0 }) (omega arith))).1 (p.each k within);
-}
+    → length rows ≡ length cells → AreFirstRows map cells rows → (place : ℕ) → place < length cells → IsRowFrom part cells (cell_of cells place) (row_at rows place)
+rows_alone map part component cells rows is order just long first place within =
+    (components_keep_each_row map component cells part is order just (cell_of cells place) (row_at rows place)
+    (Contains-get_or cells place (record { x = 0; y = 0 }) within)).1 (first place (omega arith))
 
 complete_from : (map : Map) (order : OrderKind) (component cells : List Cell) (rows : List (List Run)) (kept : Option Comp) → IsComponent map component → CanBeBuilt component
     → IsPartFrom map order component cells rows kept → length cells - length rows ≡ 0 → IsKeptAs order component (comp_or order cells rows kept)
@@ -264,7 +270,7 @@ complete_from map order component cells rows None is can p none =
     record {
       kind = refl;
       cells = p.0;
-      whole = comp_in_order part component cells ready (kind_of order) rows (kind_small order) (rows_alone map part component cells rows is order_of just_cells long p.2);
+      whole = comp_in_order part component cells ready (kind_of order) rows (kind_small order) long (rows_alone map part component cells rows is order_of just_cells long p.2);
     }
 complete_from map order component cells rows (Some comp) is can p none = p.2
 

@@ -7,9 +7,8 @@ use Rattle.moves.specs.Components.{IsComponentList}
 use Rattle.moves.specs.FirstSetLists.{cell_of}
 use Rattle.cell_order.specs.declared.OrderKind.{OrderKind}
 use Rattle.cell_order.specs.Orders.{kind_of, ordered}
-use Rattle.row_store.specs.Rows.{IsRowFrom}
+use Rattle.row_store.specs.Rows.{row_at, IsRowFrom}
 use Rattle.row_store.specs.Comps.{Comp}
-use Rattle.build_pool.specs.Pieces.{AreRowsBetween}
 use Rattle.versions.specs.Databases.{IsKeptAs, component_at}
 use Rattle.version_build.specs.Plans.{Planned, CanAllBeBuilt, cells_missing}
 
@@ -55,10 +54,14 @@ pub record AreBegun (order : OrderKind) (components : List (List Cell)) (comps :
       → part_at parts label ≡ part_from order (component_at components label) (slice_index_or comps label None)
   pub left : sum_by rows_left parts ≡ cells_missing components comps
 
+-- the rows of the first of the cells
+abbrev pub AreFirstRows : Map → List Cell → List (List Run) → Type 0
+AreFirstRows map cells rows = (place : ℕ) → place < length rows → IsRowFrom map cells (cell_of cells place) (row_at rows place)
+
 -- the component is kept, or it has its cells in their order and the rows of the first of them
 abbrev pub IsPartFrom : Map → OrderKind → List Cell → List Cell → List (List Run) → Option Comp → Type 0
 IsPartFrom map order component cells rows None = (cells ≡ ordered order component) × (length rows ≤ length cells)
-    × AreRowsBetween map cells 0 (length rows) rows
+    × AreFirstRows map cells rows
 IsPartFrom map order component cells rows (Some comp) = (cells ≡ []) × (rows ≡ []) × IsKeptAs order component comp
 
 abbrev pub IsPart : Map → OrderKind → List Cell → Parted → Type 0

@@ -2,7 +2,7 @@ use Rattle.std.proofs.Common.{◌≡◌, ◌∷◌, suc, get_or, All, IfOk, arit
 use Rattle.std.specs.Vec.Iter.{into_iter_items}
 use Rattle.build_pool.specs.Pieces.{CanBuild, AreSome}
 use Rattle.build_pool.proofs.Connecting.{AreGiven, ready, given_size, sources_in_order, comp_in_order, kind_small}
-use Rattle.build_pool.proofs.Filling.{some_blank, some_merged, share_is, whole_between}
+use Rattle.build_pool.proofs.Filling.{some_blank, some_merged, share_is}
 use Rattle.build_pool.proofs.build_with.Goals as goal
 use Rattle.build_pool.proofs.build_with.Goals.{In_ok-order}
 
@@ -52,4 +52,4 @@ of_pool-requires g c =
     let is = given g (goal.at.of_pool-requires g c).In_ok-order in
     let from = sources_in_order _ _ is in
     let all = rw (c.deref-2.ensures.value, c.loop-share.invariant.3.size) at c.in_ok-put_rest.ensures.whole in
-    comp_in_order _ _ _ (ready _ _ is from.board from.just) _ _ (rw c.number.ensures (kind_small c.args.kind)) (whole_between _ _ _ from.just all)
+    comp_in_order _ _ _ (ready _ _ is from.board from.just) _ _ (rw c.number.ensures (kind_small c.args.kind)) all.size (λ place within. (all.each place within).over from.board from.just)
