@@ -65,6 +65,12 @@ impl Level {
     }
 }
 
+/// Sources are sought among one in so many of the places.
+const SHARE: usize = 16;
+
+/// Sources are sought among so many places at least.
+const FEWEST: usize = 256;
+
 /// How many levels are kept: the one at hand and the three that its places lead to.
 const LEVELS: usize = 4;
 
@@ -171,7 +177,7 @@ pub(crate) fn search(
 }
 
 /// Writes into `order` the places that a search from one of them visits until it has met as many wanted ones as a tile
-/// has sources, or all.
+/// has sources, or has gone far enough: a tile whose sources lie far apart takes more time than several with fewer.
 pub(crate) fn search_for(
     near: &[[u16; 8]],
     first: u16,
@@ -185,12 +191,13 @@ pub(crate) fn search_for(
     requires first { first < length met.old }
 {
     begin(&[first], met, levels, order);
+    let enough = FEWEST.max(near.len() / SHARE);
     let mut found: usize = 0;
     for _ in 0..u32::MAX {
         let seen = order.len();
         levels.visit(near, met, order);
         found = found.wrapping_add(wanted_from(order, seen, wanted));
-        if found >= LANES || !levels.turn() {
+        if found >= LANES || order.len() >= enough || !levels.turn() {
             return;
         }
     }

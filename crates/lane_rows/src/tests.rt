@@ -326,3 +326,34 @@ fn small_maps_have_sets_that_are_known(rt: HostRuntime) -> Result<(), AllocError
     }
     Ok(())
 }
+
+/// How many of the first, the 200th and the last of so many places in a row a tile takes, and whether the last is left.
+fn taken_in_a_row(
+    rt: &impl Abort,
+    alloc: Global,
+    count: usize,
+) -> Result<(usize, bool), AllocError> {
+    let rows = vec![in alloc; b'.'; count]?;
+    let cells = drawn(alloc, count, rows.as_slice())?;
+    assert!(rt; may_be_numbered(cells.as_slice()));
+    let near = Near::of(alloc, cells.as_slice())?;
+    let mut wanted = vec![in alloc; false; near.len()]?;
+    assert!(rt; wanted.len() > 200);
+    let last = wanted.len() - 1;
+    for place in [0, 200, last] {
+        wanted[place] = true;
+    }
+    let mut tiles = Tiles::new(alloc, near.len())?;
+    let taken = match next_wanted(wanted.as_slice()) {
+        Some(first) => tiles.choose(&near, first, wanted.as_mut_slice()),
+        None => 0,
+    };
+    Ok((taken, wanted.last() == Some(&true)))
+}
+
+#[test]
+fn far_places_are_left_for_another_tile(rt: HostRuntime) -> Result<(), AllocError> {
+    assert_eq!(rt; taken_in_a_row(&rt, rt.alloc(), 240)?, (3, false));
+    assert_eq!(rt; taken_in_a_row(&rt, rt.alloc(), 600)?, (2, true));
+    Ok(())
+}

@@ -69,8 +69,8 @@ impl Tiles {
         })
     }
 
-    /// Takes the wanted places that are nearest to one of them as sources, at most sixteen, and says how many there are.
-    /// Where there are fewer, the other lanes have the first source too.
+    /// Takes the wanted places that are nearest to one of them as sources, at most sixteen and none that is far away, and
+    /// says how many there are. Where there are fewer than sixteen, the other lanes have the first source too.
     pub fn choose(&mut self, near: &Near, first: u16, wanted: &mut [bool]) -> usize
         requires near { length near.now ≡ self.old.count }
         requires places { length wanted.old ≡ self.old.count }
