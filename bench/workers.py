@@ -48,6 +48,7 @@ def run(commands):
 
 def map_of(kind, side):
     """The name of a file with the map of a kind."""
+    os.makedirs(os.path.join(top, "bench/build"), exist_ok=True)
     name = os.path.join(top, "bench/build/workers.%s.map" % kind)
     rows = maps.drawn(kind, int(side))
     if os.access(bench, os.X_OK):
@@ -107,18 +108,22 @@ def measure_even(name, map_name, order, rounds):
     print("|", " | ".join(fields), "|", flush=True)
 
 
-is_even = sys.argv[1:2] == ["even"]
-words = sys.argv[2:] if is_even else sys.argv[1:]
-rounds = int(words[0]) if words else 3
-wanted = words[1:] or MAPS
-heads = ["map", "passable cells", "order", "runs", "processor time, 1 / 4 workers", "ratio (four programs)",
-         "by the clock", "ratio (a quarter of four programs)", "ns a pair", "peak memory", "4 bytes a run"]
-if is_even:
-    heads = ["map", "order", "even rounds", "processor time, 4 workers to 1", "by the clock"]
-print("|", " | ".join(heads), "|")
-print("|" + "---|" * len(heads))
-os.makedirs(os.path.join(top, "bench/build"), exist_ok=True)
-for kind, side in zip(wanted[::2], wanted[1::2]):
-    map_name = map_of(kind, side)
-    for order in ["rows", "dfs"]:
-        (measure_even if is_even else measure)(kind, map_name, order, rounds)
+def main():
+    is_even = sys.argv[1:2] == ["even"]
+    words = sys.argv[2:] if is_even else sys.argv[1:]
+    rounds = int(words[0]) if words else 3
+    wanted = words[1:] or MAPS
+    heads = ["map", "passable cells", "order", "runs", "processor time, 1 / 4 workers", "ratio (four programs)",
+             "by the clock", "ratio (a quarter of four programs)", "ns a pair", "peak memory", "4 bytes a run"]
+    if is_even:
+        heads = ["map", "order", "even rounds", "processor time, 4 workers to 1", "by the clock"]
+    print("|", " | ".join(heads), "|")
+    print("|" + "---|" * len(heads))
+    for kind, side in zip(wanted[::2], wanted[1::2]):
+        map_name = map_of(kind, side)
+        for order in ["rows", "dfs"]:
+            (measure_even if is_even else measure)(kind, map_name, order, rounds)
+
+
+if __name__ == "__main__":
+    main()

@@ -1,7 +1,7 @@
 //! Builds the rows of a component: from each of its cells a search, the first sets to all its cells, and their row.
 //!
-//! The sources are cut into pieces, one for each worker, that run side by side; who is done with its own takes over from
-//! others. Rows depend on the cells alone, so the result is the same for any number of workers.
+//! The sources are cut into pieces, one for each worker, that pass a gate; what has passed is built by all workers side
+//! by side, whosever it is. Rows depend on the cells alone, so the result is the same for any number of workers.
 //! (Botea 2011; Strasser, Harabor and Botea 2014)
 #![tactic(auto)]
 

@@ -7,9 +7,14 @@ ghost use Rattle.std.specs.Prelude.{◌≡◌, length};
 
 use std::alloc::{AllocError, Global};
 use std::sync::atomic::{AtomicBool, AtomicU64, Ordering};
+use std::sync::{Mutex, MutexGuard};
+use std::thread;
 
 /// How many places a block has, whose changes are counted together.
 const BLOCK: usize = 64;
+
+/// How often a worker makes way for others at most before it chooses beside them.
+const PATIENCE: u32 = 1_000;
 
 /// For each place of a component, whether its row may be taken. All workers share it.
 #[derive(Drop)]
@@ -17,6 +22,8 @@ pub(crate) struct Pending {
     marks: Vec<AtomicBool>,
     /// How often a mark of each block has changed.
     changes: Vec<AtomicU64>,
+    /// Whoever chooses has it.
+    turn: Mutex<()>,
 }
 
 impl Pending {
@@ -31,7 +38,23 @@ impl Pending {
         for _ in 0..blocks {
             changes.push(AtomicU64::new(0))?;
         }
-        Ok(Pending { marks, changes })
+        Ok(Pending {
+            marks,
+            changes,
+            turn: Mutex::new(()),
+        })
+    }
+
+    /// Waits until nobody else chooses: each takes what is best of what the one before has left. Who has made way often
+    /// enough goes on without, and may want the same rows as another, which costs time and nothing else.
+    pub(crate) fn turn(&self) -> Option<MutexGuard<'_, ()>> {
+        for _ in 0..PATIENCE {
+            if let Some(turn) = self.turn.try_lock() {
+                return Some(turn);
+            }
+            thread::yield_now();
+        }
+        None
     }
 
     /// How many blocks there are.

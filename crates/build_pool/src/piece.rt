@@ -1,12 +1,12 @@
 //! The rows that one worker builds.
 //!
-//! Sixteen near sources at a time are solved in the lanes of a vector, and the row of each goes to its place. A worker
-//! begins each tile at a source of its own piece, and then, from behind, of other pieces, and takes those left that are
-//! nearest to it, whosever they are: a tile whose sources lie far apart takes ten times as long. What is found so is
-//! exact wherever and by whomever it is found. Where a tile isn't solved its rows stay blank, and in the end what is
-//! blank is built by a plain search. It is the same row: rows depend on the cells alone.
+//! Sixteen near sources at a time are solved in the lanes of a vector, and the row of each goes to its place. The tiles
+//! are those that one worker alone takes: each begins at the first source that is left, whosever piece it is of, and
+//! takes those that are nearest to it; workers choose in turn, and solve side by side. What is found so is exact
+//! wherever and by whomever it is found. Where a tile isn't solved its rows stay blank, and in the end what is blank is
+//! built by a plain search. It is the same row: rows depend on the cells alone.
 
-ghost use Rattle.std.specs.Prelude.{◌≡◌, ◌+◌, ◌*◌, ◌/◌, ◌<◌, ◌≤◌, length, IfOk, OnOk};
+ghost use Rattle.std.specs.Prelude.{◌≡◌, ℕ, ◌+◌, ◌*◌, ◌/◌, ◌<◌, ◌≤◌, length, slice_index, IfOk, IfSome, OnOk};
 ghost use Rattle.build_pool.specs.Places.{AreWithNear};
 ghost use Rattle.build_pool.specs.Pieces.{cut, CanBuild, ArePackedOver, ArePartly, AreSome};
 
@@ -27,8 +27,8 @@ pub(crate) struct Share {
     pub sweeps: Option<u32>,
 }
 
-/// The rows that one worker builds, after its piece has passed the gate; those of others are blank. All that a row needs
-/// to be built is taken once.
+/// The rows that one worker builds, after its piece has passed the gate; those of others are blank. All that a row
+/// needs to be built is taken once.
 pub(crate) fn build_share<G: Gate>(
     alloc: Global,
     cells: &[Cell],
@@ -41,39 +41,13 @@ pub(crate) fn build_share<G: Gate>(
     ensures { IfOk result (AreSome cells.now) }
 {
     gate.enter(share.piece);
-    let own = Piece::of(cells.len(), share.workers, share.piece);
-    pending.offer(own.from, own.upto);
+    pending.offer(
+        cut_of(cells.len(), share.workers, share.piece),
+        cut_of(cells.len(), share.workers, share.piece + 1),
+    );
     let mut rows = RowPool::blank(alloc, cells.len())?;
-    put_pieces(alloc, cells, near, pending, share, &mut rows)?;
+    put_tiles(alloc, cells, near, pending, share, &mut rows)?;
     Ok(rows)
-}
-
-/// The places from one to before another, from one end to the other.
-#[derive(Clone, Copy)]
-struct Piece {
-    from: usize,
-    upto: usize,
-    /// From which end a worker begins tiles: its own piece from the front, another from behind.
-    is_own: bool,
-}
-
-impl Piece {
-    /// One piece of so many, as its own worker sees it.
-    fn of(places: usize, workers: u32, number: u32) -> Piece
-        requires places { places ≤ MAX_PASSABLE }
-        requires worker { 0 < workers }
-        requires workers { workers ≤ MAX_WORKERS }
-        requires number { number < workers }
-        ensures from { result.from ≡ cut places workers number }
-        ensures upto { result.upto ≡ cut places workers (number + 1) }
-        ensures limit { result.upto ≤ places }
-    {
-        Piece {
-            from: cut_of(places, workers, number),
-            upto: cut_of(places, workers, number + 1),
-            is_own: true,
-        }
-    }
 }
 
 /// Where a piece begins.
@@ -83,7 +57,6 @@ fn cut_of(places: usize, workers: u32, piece: u32) -> usize
     requires workers { workers ≤ MAX_WORKERS }
     requires piece { piece ≤ workers }
     ensures cut { result ≡ cut places workers piece }
-    ensures limit { result ≤ places }
 {
     piece as usize * places / workers as usize
 }
@@ -120,9 +93,8 @@ impl Workbench {
     }
 }
 
-/// Builds rows from sources of the worker's own piece on, and then of the pieces before it and from the last one on.
-/// Without sweeps it builds none.
-fn put_pieces(
+/// Builds rows as long as there are some that may be taken. Without sweeps it builds none.
+fn put_tiles(
     alloc: Global,
     cells: &[Cell],
     near: &Near,
@@ -139,44 +111,9 @@ fn put_pieces(
         return Ok(());
     };
     let mut bench = Workbench::new(alloc, near.len(), pending.blocks(), sweeps)?;
-    for steps in 0..share.workers {
-        let number = (share.piece + share.workers - steps) % share.workers;
-        let piece = Piece {
-            is_own: steps == 0,
-            ..Piece::of(near.len(), share.workers, number)
-        };
-        put_piece(near, cells, pending, piece, &mut bench, rows)?;
-    }
-    Ok(())
-}
-
-/// Builds rows as long as there are some of a piece that may be taken.
-fn put_piece(
-    near: &Near,
-    cells: &[Cell],
-    pending: &Pending,
-    piece: Piece,
-    bench: &mut Workbench,
-    rows: &mut RowPool,
-) -> Result<(), AllocError>
-    requires sources { AreWithNear cells.now near.now }
-    requires piece { piece.upto ≤ length near.now }
-    requires count { bench.old.tiles.count ≡ length near.now }
-    requires marks { length bench.old.wanted.items ≡ length near.now }
-    requires part { ArePartly cells.now rows.old }
-    ensures count { OnOk result (bench.new.tiles.count ≡ length near.now) }
-    ensures marks { OnOk result (length bench.new.wanted.items ≡ length near.now) }
-    ensures whole { OnOk result (length rows.new ≡ length rows.old) }
-    ensures part { OnOk result (ArePartly cells.now rows.new) }
-{
-    for place in piece.from..piece.upto {
-        let first = if piece.is_own {
-            place
-        } else {
-            piece.upto - 1 - (place - piece.from)
-        };
+    for first in 0..near.len() {
         if pending.may_be_taken(first) {
-            put_tile(near, cells, pending, first as u16, bench, rows)?;
+            put_tile(near, cells, pending, first as u16, &mut bench, rows)?;
         }
     }
     Ok(())
@@ -201,12 +138,7 @@ fn put_tile(
     ensures whole { OnOk result (length rows.new ≡ length rows.old) }
     ensures part { OnOk result (ArePartly cells.now rows.new) }
 {
-    pending.look(bench.wanted.as_mut_slice(), bench.seen.as_mut_slice());
-    if !bench.wanted[usize::from(first)] {
-        return Ok(());
-    }
-    let count = bench.tiles.choose(near, first, bench.wanted.as_mut_slice());
-    let Some(taken) = take_lanes(pending, &bench.tiles, count) else {
+    let Some(taken) = choose_tile(near, pending, first, bench) else {
         return Ok(());
     };
     if !bench.tiles.run(near, bench.sweeps) {
@@ -215,6 +147,31 @@ fn put_tile(
     bench.tiles.pack()?;
     put_lanes(&bench.tiles, taken, cells, rows)?;
     Ok(())
+}
+
+/// Chooses the sources of a tile around the place when it is the worker's turn, and takes their rows. It says in which
+/// lanes it has them; `None` where it has none.
+fn choose_tile(
+    near: &Near,
+    pending: &Pending,
+    first: u16,
+    bench: &mut Workbench,
+) -> Option<[bool; LANES]>
+    requires first { first < length near.now }
+    requires count { bench.old.tiles.count ≡ length near.now }
+    requires marks { length bench.old.wanted.items ≡ length near.now }
+    ensures count { bench.new.tiles.count ≡ length near.now }
+    ensures marks { length bench.new.wanted.items ≡ length near.now }
+    ensures sources { IfSome result (λ taken. (lane : ℕ) → lane < 16
+        → slice_index bench.new.tiles.sources lane < length near.now) }
+{
+    let _turn = pending.turn();
+    pending.look(bench.wanted.as_mut_slice(), bench.seen.as_mut_slice());
+    if !bench.wanted[usize::from(first)] {
+        return None;
+    }
+    let count = bench.tiles.choose(near, first, bench.wanted.as_mut_slice());
+    take_lanes(pending, &bench.tiles, count)
 }
 
 /// Takes the rows of a tile's sources, and says in which lanes nobody else was faster; `None` where others were in all.

@@ -3,6 +3,7 @@
 ghost use Rattle.std.specs.Prelude.{◌≡◌, ◌<◌, ◌≤◌, length, IfOk};
 ghost use Rattle.build_pool.specs.Places.{CanBeBuilt};
 
+use crate::pending::Pending;
 use crate::{Effort, FreeGate, Gate, build_rows, build_with};
 use cell_order::OrderKind;
 use components::label;
@@ -276,7 +277,7 @@ fn tiles_of_made_maps(rt: HostRuntime) -> Result<(), Fail> {
     Ok(())
 }
 
-/// Workers that are done take over from others; the rows are the same.
+/// Workers share all pieces, some of them shorter than a tile; the rows are the same.
 #[test]
 fn workers_share_their_pieces(rt: HostRuntime) -> Result<(), Fail> {
     let alloc = rt.alloc();
@@ -290,6 +291,18 @@ fn workers_share_their_pieces(rt: HostRuntime) -> Result<(), Fail> {
             assert_eq!(rt; comp.runs(), alone.runs());
         }
     }
+    Ok(())
+}
+
+/// Who has the turn keeps another from it, though not for ever.
+#[test]
+fn workers_choose_in_turn(rt: HostRuntime) -> Result<(), Fail> {
+    let pending = Pending::new(rt.alloc(), 3)?;
+    let turn = pending.turn();
+    assert!(rt; turn.is_some());
+    assert!(rt; pending.turn().is_none());
+    drop(turn);
+    assert!(rt; pending.turn().is_some());
     Ok(())
 }
 

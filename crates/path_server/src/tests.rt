@@ -12,6 +12,7 @@ use map_read::MAX_MAP_BYTES;
 use path_commands::Status;
 use scen_read::MAX_SCEN_BYTES;
 use std::alloc::{AllocError, Global};
+use std::process::Abort;
 use std::sync::Wait;
 use std::sync::atomic::{AtomicU64, Ordering};
 use std::test::Fail;
@@ -94,6 +95,30 @@ fn run_over<R: Threads + Wait + Sync>(
     Ok((status, out))
 }
 
+/// How a run over files ends: its exit status and, after ` | `, what it has put, with a semicolon for each line feed.
+fn ending<R: Threads + Wait + Sync>(
+    rt: &R,
+    alloc: Global,
+    line: &str,
+    mut files: MemFiles,
+) -> Result<String, AllocError> {
+    let (status, out) = run_over(rt, alloc, line, &mut files, &[])?;
+    told(alloc, status, out.bytes())
+}
+
+/// An exit status and, after ` | `, what was put, with a semicolon for each line feed.
+pub fn told(alloc: Global, status: Status, put: &[u8]) -> Result<String, AllocError> {
+    let mut text = format!(in alloc; "{} | ", status.code())?;
+    for byte in put {
+        text.push(if *byte == b'\n' {
+            ';'
+        } else {
+            char::from(*byte)
+        })?;
+    }
+    Ok(text)
+}
+
 /// Lines that end with a line feed each, from a text with a semicolon after each.
 pub fn lines_of(alloc: Global, text: &str) -> Result<Vec<u8>, AllocError> {
     let mut lines = Vec::with_capacity(alloc, text.len())?;
@@ -159,14 +184,25 @@ height 1,width 3 | ... | check M --workers 65 | 1 | usage: path check scen made 
 fn answers_have_their_texts(rt: HostRuntime) -> Result<(), Fail> {
     let alloc = rt.alloc();
     for case in RUNS.lines() {
-        let fields: Vec<&str> = case.split(" | ").collect(alloc)?;
+        let fields: Vec<&str> = case.splitn(4, " | ").collect(alloc)?;
+        assert_eq!(rt; fields.len(), 4, "{case}");
+        if let [sides, rows, line, end] = fields.as_slice() {
+            let files = one_file(alloc, map_text(alloc, sides, rows)?, &[])?;
+            assert_eq!(rt; ending(&rt, alloc, line, files)?.as_str(), *end, "{case}");
+        }
+    }
+    Ok(())
+}
+
+/// Judges cases with two files: the sides and rows of `M`, the text of `S`, the words, the exit status, and the text.
+fn judge<R: Threads + Wait + Sync + Abort>(rt: &R, alloc: Global, cases: &str) -> Result<(), Fail> {
+    for case in cases.lines() {
+        let fields: Vec<&str> = case.splitn(5, " | ").collect(alloc)?;
         assert_eq!(rt; fields.len(), 5, "{case}");
-        if let [sides, rows, line, code, text] = fields.as_slice() {
-            let mut files = one_file(alloc, map_text(alloc, sides, rows)?, &[])?;
-            let (status, out) = run_over(&rt, alloc, line, &mut files, &[])?;
-            let lines = lines_of(alloc, text)?;
-            assert_eq!(rt; code.parse().ok(), Some(status.code()), "{case}");
-            assert_eq!(rt; out.bytes(), lines.as_slice(), "{case}");
+        if let [sides, rows, second, line, end] = fields.as_slice() {
+            let map = map_text(alloc, sides, rows)?;
+            let files = two_files(alloc, map, lines_of(alloc, second)?, &[])?;
+            assert_eq!(rt; ending(rt, alloc, line, files)?.as_str(), *end, "{case}");
         }
     }
     Ok(())
@@ -202,20 +238,7 @@ height 1,width 3 | ... | version 1; | scen M | 1 | usage: path check scen made r
 
 #[test]
 fn scenarios_have_their_reports(rt: HostRuntime) -> Result<(), Fail> {
-    let alloc = rt.alloc();
-    for case in SCENARIOS.lines() {
-        let fields: Vec<&str> = case.split(" | ").collect(alloc)?;
-        assert_eq!(rt; fields.len(), 6, "{case}");
-        if let [sides, rows, second, line, code, text] = fields.as_slice() {
-            let map = map_text(alloc, sides, rows)?;
-            let mut files = two_files(alloc, map, lines_of(alloc, second)?, &[])?;
-            let (status, out) = run_over(&rt, alloc, line, &mut files, &[])?;
-            let lines = lines_of(alloc, text)?;
-            assert_eq!(rt; code.parse().ok(), Some(status.code()), "{case}");
-            assert_eq!(rt; out.bytes(), lines.as_slice(), "{case}");
-        }
-    }
-    Ok(())
+    judge(&rt, rt.alloc(), SCENARIOS)
 }
 
 /// A gate that counts the pieces that are built.
@@ -365,20 +388,7 @@ height 1,width 3 | ... | look 0 | replay M | 1 | usage: path check scen made rep
 
 #[test]
 fn replays_have_their_lines(rt: HostRuntime) -> Result<(), Fail> {
-    let alloc = rt.alloc();
-    for case in REPLAYS.lines() {
-        let fields: Vec<&str> = case.split(" | ").collect(alloc)?;
-        assert_eq!(rt; fields.len(), 6, "{case}");
-        if let [sides, rows, second, line, code, text] = fields.as_slice() {
-            let map = map_text(alloc, sides, rows)?;
-            let mut files = two_files(alloc, map, lines_of(alloc, second)?, &[])?;
-            let (status, out) = run_over(&rt, alloc, line, &mut files, &[])?;
-            let lines = lines_of(alloc, text)?;
-            assert_eq!(rt; code.parse().ok(), Some(status.code()), "{case}");
-            assert_eq!(rt; out.bytes(), lines.as_slice(), "{case}");
-        }
-    }
-    Ok(())
+    judge(&rt, rt.alloc(), REPLAYS)
 }
 
 /// The text of a map of 32,768 passable cells, the most that a map may have: each second column of
@@ -423,15 +433,9 @@ made 3 1 | 1 | usage: path check scen made replay talk serve ask;
 fn made_maps_have_their_totals(rt: HostRuntime) -> Result<(), Fail> {
     let alloc = rt.alloc();
     for case in MADE.lines() {
-        let fields: Vec<&str> = case.split(" | ").collect(alloc)?;
-        assert_eq!(rt; fields.len(), 3, "{case}");
-        if let [line, code, text] = fields.as_slice() {
-            let mut files = one_file(alloc, Vec::new(alloc), &[])?;
-            let (status, out) = run_over(&rt, alloc, line, &mut files, &[])?;
-            let lines = lines_of(alloc, text)?;
-            assert_eq!(rt; code.parse().ok(), Some(status.code()), "{case}");
-            assert_eq!(rt; out.bytes(), lines.as_slice(), "{case}");
-        }
+        let (line, end) = case.split_once(" | ").unwrap_or((case, ""));
+        let files = one_file(alloc, Vec::new(alloc), &[])?;
+        assert_eq!(rt; ending(&rt, alloc, line, files)?.as_str(), end, "{case}");
     }
     Ok(())
 }
