@@ -1,5 +1,5 @@
 #!/usr/bin/env bash
-# Hostile files, and scenarios as the field writes them, on the built program: what each map and each list of scenarios
+# Hostile files, and scenarios as the field writes them, on the program: what each map and each list of scenarios
 # is answered with, that a file of scenarios made from printed paths matches line by line, and that no number of workers
 # changes a byte. Prints a line for each that is not so. Status: 0 all are so; 1 one is not.
 set -u

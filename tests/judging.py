@@ -1,5 +1,13 @@
-"""What the tests in Python that compare what they find with what is wanted share."""
+"""What the tests in Python share: which program they run, and the comparison of what they find with what is wanted."""
+import os
 import sys
+
+
+def program_here():
+    """The program that was built here, or the release where none was."""
+    top = os.path.dirname(os.path.dirname(os.path.abspath(__file__)))
+    built = os.path.join(top, "crates/path_server/out/path_server")
+    return built if os.path.isfile(built) else os.path.join(top, "release/path_server")
 
 
 class Judge:

@@ -13,7 +13,8 @@ A version is as new as what its client had seen; each path is legal and optimal 
 map after so many accepted edits, and `unreachable`, refusals, totals and counts are right there, by a plain model
 (load.cpp, compiled with g++); each edit's number is accepted once. What the server prints at the end agrees with that.
 While nobody is connected, its memory is within LEEWAY of what it was after the first tenth of the time. Prints a line,
-and what is wrong; the status is 1 then. Judging takes longer than the load. The program has to be built: `./build`.
+and what is wrong; the status is 1 then. Judging takes longer than the load. The program is the one that was built here,
+or the release.
 """
 
 import argparse
@@ -26,6 +27,8 @@ import sys
 import tempfile
 import threading
 import time
+
+from judging import program_here
 
 LEEWAY = 24  # MB that the server may take at the end beyond what it took after the first tenth of the time
 REST = 1  # seconds in which each door that nobody came to looks at the board
@@ -437,12 +440,11 @@ def judge_replies(shared, folder):
 
 
 def main():
-    here = os.path.dirname(os.path.abspath(__file__))
     parser = argparse.ArgumentParser(description=__doc__.split("\n", maxsplit=1)[0])
     parser.add_argument("--seconds", type=float, default=60)
     for name, default in (("clients", 16), ("hostile", 16), ("doors", 40), ("side", 64), ("room", 65536), ("port", 0), ("seed", 1)):
         parser.add_argument("--" + name, type=int, default=default)
-    parser.add_argument("--program", default=os.path.join(here, "../crates/path_server/out/path_server"))
+    parser.add_argument("--program", default=program_here())
     options = parser.parse_args()
     if not options.port:
         with socket.socket() as free:

@@ -6,6 +6,6 @@ set -u
 . "$(dirname "$(readlink -f "${BASH_SOURCE[0]}")")/built.bash" || exit 1
 export PYTHONDONTWRITEBYTECODE=1
 status=0
-python3 "$here/paths.py" --maps 200 || status=1
-python3 "$here/replay.py" --lists 3000 || status=1
+python3 "$here/paths.py" --program "$program" --maps 200 || status=1
+python3 "$here/replay.py" --program "$program" --lists 3000 || status=1
 exit "$status"

@@ -6,7 +6,7 @@
 Maps have at most K by K cells (9 where no other side is given). The model is that of replay.py: it shares nothing with
 the program. Of each map all four lines of `check` are compared, and of some queries, ends outside and blocked among them,
 the status and the whole text of `path`: cost, length and each move. The first that differ are printed, and the status is
-1 then. The program has to be built: `./build`.
+1 then. The program is the one that was built here, or the release.
 """
 
 import argparse
@@ -17,6 +17,7 @@ import subprocess
 import sys
 import tempfile
 
+from judging import program_here
 from replay import Version, map_text
 
 
@@ -60,12 +61,11 @@ def answer_of(program, words):
 
 
 def main():
-    here = os.path.dirname(os.path.abspath(__file__))
     parser = argparse.ArgumentParser(description=__doc__.split("\n")[0])
     parser.add_argument("--maps", type=int, default=300)
     parser.add_argument("--seed", type=int, default=1)
     parser.add_argument("--side", type=int, default=9)
-    parser.add_argument("--program", default=os.path.join(here, "../crates/path_server/out/path_server"))
+    parser.add_argument("--program", default=program_here())
     options = parser.parse_args()
     rng, answers, differing = random.Random(options.seed), 0, 0
     with tempfile.TemporaryDirectory() as folder:

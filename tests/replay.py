@@ -7,7 +7,7 @@ Each list has at most 40 events, of a few passes, on a map of at most K by K cel
 model shares nothing with the program: a map is a set of cells, each version is made anew, costs are exact pairs, and
 each path is spelled move by move from the row of each cell. Every line and the status are compared; the first lists
 that differ are printed, and the status is 1 then. At last a list of more edits than a board takes is played on a map of
-three cells. The program has to be built: `./build`.
+three cells. The program is the one that was built here, or the release.
 """
 
 import argparse
@@ -18,6 +18,8 @@ import random
 import subprocess
 import sys
 import tempfile
+
+from judging import program_here
 
 # ---- moves, numbered from 0: even ones are straight, odd ones diagonal
 
@@ -361,12 +363,11 @@ def is_full_list_right(program, folder):
 
 
 def main():
-    here = os.path.dirname(os.path.abspath(__file__))
     parser = argparse.ArgumentParser(description=__doc__.split("\n")[0])
     parser.add_argument("--lists", type=int, default=3000)
     parser.add_argument("--seed", type=int, default=1)
     parser.add_argument("--side", type=int, default=5)
-    parser.add_argument("--program", default=os.path.join(here, "../crates/path_server/out/path_server"))
+    parser.add_argument("--program", default=program_here())
     options = parser.parse_args()
     rng, differing, seen = random.Random(options.seed), 0, {}
     with tempfile.TemporaryDirectory() as folder:

@@ -1,6 +1,6 @@
 #!/usr/bin/env bash
 # What a person is told on standard error, beside the line on standard output and the status: each case of stderr.txt is
-# run with the built program, over the maps of this folder and an empty input, and compared byte by byte.
+# run with the program, over the maps of this folder and an empty input, and compared byte by byte.
 #
 # A case of stderr.txt is a line '$ WORDS', then 'status N', then the lines of standard output behind '> ' and those of
 # standard error behind '! '. Lines that begin with '#' are comments. Words are cut at spaces; '' is the empty word, and

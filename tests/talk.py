@@ -1,0 +1,98 @@
+"""Sessions of the program over real pipes: each reply is read before the next frame is written, the input ends
+inside a frame or with a length that no frame has, and random bytes come in. Prints only where something is not as it
+should be.
+
+talk.py PROGRAM MAP, where MAP is `.@.`; talk.sh runs it.
+"""
+import os, random, select, struct, subprocess, sys, time
+
+from judging import Judge
+
+program, row = sys.argv[1:]
+judge = Judge("talk.sh")
+
+def start(*words):
+    return subprocess.Popen([program, "talk", *words], stdin=subprocess.PIPE, stdout=subprocess.PIPE,
+                            stderr=subprocess.PIPE, bufsize=0)
+
+def read_exactly(talk, count):
+    """So many bytes, or those that come within five seconds or before the end."""
+    found = b""
+    end = time.monotonic() + 5
+    while len(found) < count and select.select([talk.stdout], [], [], max(0, end - time.monotonic()))[0]:
+        piece = os.read(talk.stdout.fileno(), count - len(found))
+        if not piece:
+            break
+        found += piece
+    return found
+
+def whole(data, *words):
+    """What a session over these bytes sends, what is told of it, and its status."""
+    done = subprocess.run([program, "talk", *words], input=data, capture_output=True, timeout=10)
+    return done.stdout, done.stderr, done.returncode
+
+# one frame at a time: a request, and its reply on `.@.`
+TURNS = [
+    ("0009 01 0000 0000 0002 0000", "00000005 82 00000000"),
+    ("0006 02 0001 0000 01", "00000005 84 00000001"),
+    ("0009 01 0000 0000 0002 0000", "00000005 82 00000000"),
+    ("0001 03", "0000000D 86 00000001 00000003 00000000"),
+    ("0009 01 0000 0000 0002 0000", "0000000F 81 00000001 00000002 00000000 02 02"),
+    ("0001 04", "00000019 89 00000001 00000001 00000003 00000001 0000000000000004"),
+    ("0001 05", "00000001 8A"),
+]
+turns = [(bytes.fromhex(asked), bytes.fromhex(told)) for asked, told in TURNS]
+for words in ([row], [row, "--room", "1"], [row, "--room=0", "--workers", "3", "--order", "dfs"]):
+    talk = start(*words)
+    for number, (asked, told) in enumerate(turns, 1):
+        # two writes a frame, the second later: a frame may come in pieces
+        talk.stdin.write(asked[:1])
+        if number % 2:
+            time.sleep(0.01)
+        talk.stdin.write(asked[1:])
+        judge(f"reply {number} of {words[1:]}", read_exactly(talk, len(told)).hex(), told.hex())
+    judge(f"the end of {words[1:]}", (talk.wait(5), talk.stdout.read(), talk.stderr.read()), (0, b"", b""))
+    judge(f"all at once, {words[1:]}", whole(b"".join(asked for asked, _ in turns), *words),
+          (b"".join(told for _, told in turns), b"", 0))
+
+# ends of the input
+query = turns[0][0]
+for count in range(len(query) + 1):
+    sent = turns[0][1] if count == len(query) else b""
+    broken = 0 < count < len(query)
+    size = 2 if count == 1 else len(query)
+    said = f"path_server talk: the input ended inside a frame, {count} of {size} bytes\n" if broken else ""
+    judge(f"{count} bytes of a query", whole(query[:count], row), (sent, said.encode(), 9 if broken else 0))
+judge("a frame of 65 bytes", whole(bytes.fromhex("0041"), row),
+      (b"", b"path_server talk: a frame of 65 bytes is longer than 64\n", 9))
+judge("behind a reply", whole(query + bytes.fromhex("FFFF"), row),
+      (turns[0][1], b"path_server talk: a frame of 65535 bytes is longer than 64\n", 9))
+
+# an output that nobody reads, and an input that cannot be read
+talk = start(row)
+talk.stdout.close()
+talk.stdin.write(query)
+judge("no reader", (talk.wait(5), talk.stderr.read()), (6, b"path_server: the output failed\n"))
+folder = os.open("/", os.O_RDONLY)
+done = subprocess.run([program, "talk", row], stdin=folder, capture_output=True, timeout=10)
+judge("a folder as input", (done.stdout, done.stderr, done.returncode),
+      (b"", b"path_server talk: the input failed\n", 5))
+
+# a second of random bytes, of which most lengths are short: whole replies come, and one of the ends
+random.seed(1)
+end = time.monotonic() + 1
+while time.monotonic() < end:
+    data = b""
+    for _ in range(random.randrange(200)):
+        frame = bytes(random.choice((0, 1, 2, 3, 4, 6, random.randrange(256))) for _ in range(random.choice((0, 1, 6, 9, 64))))
+        data += struct.pack(">H", len(frame)) + frame
+    data += bytes(random.randrange(256) for _ in range(random.randrange(4)))
+    sent, said, status = whole(data, row)
+    judge("the end after random bytes", status in (0, 9) and (said == b"") == (status == 0), True)
+    at = 0
+    while len(sent) - at >= 4 and len(sent) - at >= 4 + struct.unpack_from(">I", sent, at)[0]:
+        kind = sent[at + 4]
+        judge("the kind of a reply", 0x81 <= kind <= 0x8C, True)
+        at += 4 + struct.unpack_from(">I", sent, at)[0]
+    judge("whole replies", at, len(sent))
+sys.exit(judge.failed)
