@@ -18,8 +18,6 @@ mod pending;
 mod piece;
 mod plain;
 mod rows;
-#[cfg(test)]
-mod tests;
 
 use cell_order::{OrderKind, order_of};
 use first_sets::FirstSets;

@@ -7,8 +7,6 @@ ghost use Rattle.moves.specs.Rectangles.{IsOnMap};
 ghost use Rattle.moves.specs.StraightPaths.{IsConnected};
 ghost use Rattle.cell_order.specs.Orders.{OrdersArePermutations, VisitsHaveNoBound, cells_beside, kind_of, ordered};
 
-#[cfg(test)]
-mod tests;
 mod unseen;
 
 use moves::{Cell, MAX_PASSABLE, MAX_SIDE};

@@ -14,8 +14,6 @@ mod edits;
 mod flood;
 mod groups;
 mod regrowth;
-#[cfg(test)]
-mod tests;
 
 use edits::Edit;
 use flood::Flood;

@@ -12,6 +12,3 @@ pub use verdict::{EditRefusal, check};
 
 /// The most edits that a log accepts.
 pub const MAX_EDITS: u32 = 1_048_576;
-
-#[cfg(test)]
-mod tests;

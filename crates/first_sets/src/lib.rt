@@ -9,8 +9,6 @@ ghost use Rattle.moves.specs.Maps.{IsPassable};
 
 mod neighbour_sets;
 mod sparse_sets;
-#[cfg(test)]
-mod tests;
 
 use crate::sparse_sets::SparseSets;
 use grid_search::Search;

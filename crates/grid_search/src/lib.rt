@@ -11,8 +11,6 @@ ghost use Rattle.grid_search.specs.Searches.{cost_at, keys_of, nothing_searched,
 mod open_list;
 mod queue;
 mod settling;
-#[cfg(test)]
-mod tests;
 
 use crate::open_list::OpenList;
 use moves::{Cell, Grid, MAX_PASSABLE, MAX_SIDE, place};

@@ -23,6 +23,3 @@ mod tiles;
 
 pub use near::Near;
 pub use tiles::{LANES, Tiles};
-
-#[cfg(test)]
-mod tests;

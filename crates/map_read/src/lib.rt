@@ -64,6 +64,3 @@ pub fn refusals_name_the_first_fault()
 pub fn canonical_text_reads_back()
     ensures { CanonicalTextReadsBack }
 {}
-
-#[cfg(test)]
-mod tests;

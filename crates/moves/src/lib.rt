@@ -159,6 +159,3 @@ pub fn place(width: u32, cell: Cell) -> usize
 {
     usize::from(cell.y) * width as usize + usize::from(cell.x)
 }
-
-#[cfg(test)]
-mod tests;

@@ -11,6 +11,3 @@ pub mod state;
 
 pub use pass::Pass;
 pub use shared::{Moved, Note, ShareRefused, SharedBoard};
-
-#[cfg(test)]
-mod tests;

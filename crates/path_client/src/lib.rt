@@ -6,8 +6,6 @@ mod fault;
 mod heard;
 mod hearing;
 mod taking;
-#[cfg(test)]
-mod tests;
 
 pub use asking::ask;
 pub use fault::ClientFault;

@@ -1,6 +1,7 @@
 -- How `ask` ends: what it heard of a server, and what it put on the output.
 use Rattle.std.specs.Prelude.{◌≡◌, ◌⊎◌, ℕ, List, None, Some, Option, Result}
 use Rattle.std.specs.Io.KnownBytes.{Appends}
+use Rattle.wire.specs.Causes.{Rose}
 use Rattle.wire.specs.Contents.{PutsPrefix}
 use Rattle.clap.specs.Walk.{Text}
 use Rattle.query_proto.specs.declared.requests.Request.{Request}
@@ -86,6 +87,8 @@ pub record SendsShort (D C : Type 0) (words : List Text) (house : RunHouse D C)
   pub unanswered : IsUnanswered D C words house status.WriteFault
   pub silent : new ≡ old
 
--- a write failed: of the output, or of the link
-abbrev pub FallsShort : (D C : Type 0) → List Text → RunHouse D C → Option (List ℕ) → Option (List ℕ) → Type 0
-FallsShort D C words house old new = BreaksOffHeard D C words house old new ⊎ SendsShort D C words house old new
+-- A WRITE FAILED: of the output, whose count rose, and the line breaks off; or of the link, which took less than the
+-- request, and then nothing was put
+abbrev pub FallsShort : (D C : Type 0) → List Text → RunHouse D C → ℕ → ℕ → Option (List ℕ) → Option (List ℕ) → Type 0
+FallsShort D C words house before after old new =
+    (Rose before after × BreaksOffHeard D C words house old new) ⊎ SendsShort D C words house old new

@@ -29,9 +29,7 @@ pub fn ask<O: Sink, H: House>(alloc: Global, words: &[String], out: &mut O, hous
         result (O.bytes out.old) (O.bytes out.new) }
     ensures cut { result ≡ Status.WriteFault → FallsShort H.Door H.Conn (texts_of words.now)
         (house_over H.Conn.talk H.lent H.called H.read_faults H.write_faults house.old house.new)
-        (O.bytes out.old) (O.bytes out.new) }
-    ensures fault { result ≡ Status.WriteFault → Rose (O.faults out.old) (O.faults out.new)
-        ⊎ Rose (H.write_faults house.old) (H.write_faults house.new) }
+        (O.faults out.old) (O.faults out.new) (O.bytes out.old) (O.bytes out.new) }
     ensures doors { H.asked house.new ≡ H.asked house.old }
     ensures door_faults { H.door_faults house.new ≡ H.door_faults house.old }
 {

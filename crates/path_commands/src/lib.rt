@@ -25,8 +25,6 @@ mod status;
 mod system;
 pub mod talk;
 mod task;
-#[cfg(test)]
-mod tests;
 mod words;
 
 pub use check::answer_check;

@@ -14,6 +14,3 @@ pub use error::{PublishError, SubmitError};
 
 /// The most entries that a board has: an edit and a publication each as often as edits are accepted, and one halt.
 pub const MAX_ENTRIES: u32 = 2 * MAX_EDITS + 1;
-
-#[cfg(test)]
-mod tests;

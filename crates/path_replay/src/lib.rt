@@ -20,6 +20,3 @@ pub const PASSES: u32 = 64;
 
 /// The greatest length of an events file, in bytes.
 pub const MAX_EVENTS_BYTES: usize = 16_777_216;
-
-#[cfg(test)]
-mod tests;

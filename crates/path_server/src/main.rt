@@ -2,13 +2,9 @@
 //! the printed answer.
 #![tactic(auto)]
 
-mod run;
-#[cfg(test)]
-mod tests;
-
 use build_pool::FreeGate;
 use path_commands::{Status, advice, argument_advice, command_words, exit_code, refuse};
-use run::run;
+use path_run::run;
 use std::process::ExitCode;
 use std::{env, io};
 use wire::{HostBell, HostFiles, StdLink, StdSink, TcpHouse};

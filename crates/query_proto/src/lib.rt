@@ -10,8 +10,6 @@ pub mod malformed;
 mod reading;
 pub mod replies;
 pub mod requests;
-#[cfg(test)]
-mod tests;
 mod writing;
 
 pub use malformed::Malformed;

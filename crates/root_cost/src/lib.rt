@@ -14,8 +14,6 @@ ghost use Rattle.root_cost.specs.Laws.{OrderIsLawful, KeysOrderCosts};
 ghost use Rattle.root_cost.specs.Lawful.Comparing.{cost_cmp_total, cost_cmp_ties};
 
 mod lengths;
-#[cfg(test)]
-mod tests;
 
 pub use lengths::Length;
 use lengths::{NANO, TOLERANCE};

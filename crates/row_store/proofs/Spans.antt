@@ -1,5 +1,5 @@
 -- Rows that lie in blocks of words.
-use Rattle.std.proofs.Common.{◌≡◌, ℕ, zero, suc, ◌+◌, ◌-◌, ◌*◌, ◌^◌, ◌<◌, ◌≤◌, ◌⊎◌, List, [], ◌∷◌, ◌++◌, length, map, take, drop, get_or, set, replicate, All, sum_by, inl, inr, arith, refl, sym, ap, subst, ◌∙◌}
+use Rattle.std.proofs.Common.{◌≡◌, ℕ, Result, Ok, Err, OnErr, zero, suc, ◌+◌, ◌-◌, ◌*◌, ◌^◌, ◌<◌, ◌≤◌, ◌⊎◌, List, [], ◌∷◌, ◌++◌, length, map, take, drop, get_or, set, replicate, All, sum_by, inl, inr, arith, refl, sym, ap, subst, ◌∙◌}
 use Rattle.std.proofs.Math.ListN.{get_or-append}
 use Rattle.std.proofs.Math.Seq.{drop-append_seam, get_or-append_seam}
 use Rattle.std.proofs.lemmas.Bool.{cases_eq, cases_lt}
@@ -16,7 +16,7 @@ use Rattle.moves.specs.declared.TheConstants.{MAX_PASSABLE}
 use Rattle.row_store.specs.declared.pool.Span.{Span}
 use Rattle.row_store.specs.declared.pool.TheConstants.{MAX_BLOCKS}
 use Rattle.row_store.specs.Rows.{row_at}
-use Rattle.row_store.specs.Pools.{AreMerged, CanBeKept, PushesPacked, PutsPacked, merged}
+use Rattle.row_store.specs.Pools.{AreMerged, AreMergedInPart, CanBeKept, PushesPacked, PutsPacked, merged}
 use Rattle.row_store.specs.Layout.{block_numbered, blocks_of, row_in, rows_in, AreSpans, CanBeSpan, moved, nowhere, span_at, AreApart, AreFilled, IsFilled}
 
 -- functions that agree on each element of a list
@@ -574,3 +574,19 @@ module _ {X : Type 0} (items : X → List ℕ) (closed : List X) (words : List �
 
   pub words_counted : sum_by length (blocks_of (map items closed) words) ≡ length words + sum_by (λ block. length (items block)) closed
   words_counted = omega (arith, sum_of_blocks (map items closed) words, sum_by_items closed)
+
+-- rows that are as before are merged up to none
+pub unmerged : (old other new : List (List Run)) → new ≡ old → AreMergedInPart old other new
+unmerged old other new same = (
+  0,
+  record {
+    whole = ap length same;
+    each = λ place less. absurd (omega (arith, less));
+    rest = λ place upto. ap (λ rows. row_at rows place) same;
+  },
+)
+
+-- what holds whatever came holds after an error
+pub on_err : {A E : Type 0} (P : Type 0) (result : Result A E) → P → OnErr result P
+on_err P (Ok value) holds = _
+on_err P (Err error) holds = holds

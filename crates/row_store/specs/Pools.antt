@@ -38,3 +38,7 @@ pub record AreMergedTo (old other new : List (List Run)) (upto : ℕ) : Type 0 w
   pub whole : length new ≡ length old
   pub each : (place : ℕ) → place < upto → row_at new place ≡ merged (row_at old place) (row_at other place)
   pub rest : (place : ℕ) → upto ≤ place → row_at new place ≡ row_at old place
+
+-- the rows before some place are merged, and the others are as before
+abbrev pub AreMergedInPart : List (List Run) → List (List Run) → List (List Run) → Type 0
+AreMergedInPart old other new = (upto : ℕ) × AreMergedTo old other new upto

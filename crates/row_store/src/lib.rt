@@ -13,8 +13,6 @@ ghost use Rattle.row_store.specs.Layout.{ArePlaces};
 
 pub mod laws;
 pub mod pool;
-#[cfg(test)]
-mod tests;
 
 use moves::{Bounds, Cell, MAX_PASSABLE, Move};
 pub use pool::RowPool;

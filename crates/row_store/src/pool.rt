@@ -3,7 +3,7 @@
 ghost use Rattle.std.specs.Prelude.{◌≡◌, ◌+◌, ◌-◌, ◌*◌, ◌^◌, ◌<◌, ◌≤◌, ◌↔◌, [], ◌∷◌, ◌++◌, map, take, length, replicate, slice_set, sum_by, All, IfOk, OnOk, OnErr, IsTrue};
 ghost use Rattle.run_pack.specs.Runs.{ArePackable, word_of, run_of_word};
 ghost use Rattle.row_store.specs.Rows.{row_at};
-ghost use Rattle.row_store.specs.Pools.{AreMerged, CanBeKept, PushesPacked, PutsPacked};
+ghost use Rattle.row_store.specs.Pools.{AreMerged, AreMergedInPart, CanBeKept, PushesPacked, PutsPacked};
 ghost use Rattle.row_store.specs.Layout.{block_numbered, blocks_of, AreApart, AreFilled, CanBeSpan, HaveWords, IsFilled};
 
 use moves::MAX_PASSABLE;
@@ -166,10 +166,11 @@ impl RowPool {
     ///
     /// # Errors
     ///
-    /// `AllocError` where memory runs out. Some rows may have got their runs then.
+    /// `AllocError` where memory runs out. The first of the rows may have got their runs then; the others are as before.
     pub fn merge(&mut self, other: RowPool) -> Result<(), AllocError>
         requires { length self.old ≡ length other }
-        ensures { OnOk result (AreMerged self.old other self.new) }
+        ensures merged { OnOk result (AreMerged self.old other self.new) }
+        ensures refused { OnErr result (AreMergedInPart self.old other self.new) }
     {
         if self.runs() == 0 {
             *self = other;
@@ -182,7 +183,8 @@ impl RowPool {
     /// `merge` with the blocks of the other pool behind those of this one.
     fn take_blocks(&mut self, other: RowPool) -> Result<(), AllocError>
         requires { length self.old ≡ length other }
-        ensures { OnOk result (AreMerged self.old other self.new) }
+        ensures merged { OnOk result (AreMerged self.old other self.new) }
+        ensures refused { OnErr result (AreMergedInPart self.old other self.new) }
     {
         let blocks = self.closed.len() + 1;
         if blocks + other.closed.len() >= MAX_BLOCKS || !are_apart(&self.spans, &other.spans) {
@@ -202,7 +204,8 @@ impl RowPool {
     /// `merge` word by word.
     fn copy_missing(&mut self, other: &RowPool) -> Result<(), AllocError>
         requires { length self.old ≡ length other.now }
-        ensures { OnOk result (AreMerged self.old other.now self.new) }
+        ensures merged { OnOk result (AreMerged self.old other.now self.new) }
+        ensures refused { OnErr result (AreMergedInPart self.old other.now self.new) }
     {
         for place in 0..self.len() {
             if self.row(place).is_empty() {

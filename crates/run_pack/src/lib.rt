@@ -294,6 +294,3 @@ pub fn run_of(word: u32) -> Run
         mv: (word % 8) as u8,
     }
 }
-
-#[cfg(test)]
-mod tests;

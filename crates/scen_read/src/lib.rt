@@ -74,6 +74,3 @@ pub fn refusals_name_the_first_fault()
 pub fn written_scenarios_read_back()
     ensures { WrittenScenariosReadBack }
 {}
-
-#[cfg(test)]
-mod tests;

@@ -13,6 +13,3 @@ pub use made::{Made, made_map};
 pub use queries::{QueryTotals, measure_queries};
 pub use reports::report;
 pub use results::{LineResult, run_lines};
-
-#[cfg(test)]
-mod tests;

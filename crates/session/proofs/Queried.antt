@@ -1,11 +1,11 @@
 -- What queries get, and replies without moves.
-use Rattle.std.proofs.Common.{◌≡◌, ℕ, Bool, IsTrue, IsFalse, List, [], Option, Some, None, MatchOption, inl, inr, refl, sym, subst, ap, ◌∙◌}
+use Rattle.std.proofs.Common.{◌≡◌, ◌⊎◌, ◌<◌, ℕ, Bool, IsTrue, IsFalse, List, [], Option, Some, None, MatchOption, inl, inr, refl, sym, subst, ap, ◌∙◌, arith}
 use Rattle.root_cost.specs.declared.Cost.{Cost}
 use Rattle.moves.specs.declared.Cell.{Cell}
 use Rattle.moves.specs.declared.Move.{Move}
 use Rattle.moves.specs.Paths.{cost_of, IsLeastCost}
 use Rattle.moves.proofs.LawsOfPaths.{same_cost_of_best}
-use Rattle.versions.specs.Answers.{path, refused, IsWalk}
+use Rattle.versions.specs.Answers.{Answer, path, refused, unreachable, IsWalk}
 use Rattle.versions.specs.Databases.{Versioned, IsVersion}
 use Rattle.versions.specs.Queries.{AreEnds, IsRefusal}
 use Rattle.versions.proofs.BestWalks.{walks_are_best}
@@ -17,10 +17,10 @@ use Rattle.query_proto.specs.declared.requests.Request.{Request}
 use Rattle.query_proto.specs.declared.requests.Request.TheVariants as request
 use Rattle.versions.specs.declared.query.QueryRefusal.{QueryRefusal}
 use Rattle.path_core.specs.declared.entry.Entry.{Entry}
-use Rattle.path_core.specs.Histories.{IsVersionAt}
+use Rattle.path_core.specs.Histories.{published_prefix, IsVersionAt}
 use Rattle.session.specs.Answering.{Answers, AnswersBy, Freshens, ends_of}
-use Rattle.session.specs.Served.{ServesRequest, TellsAnswer, why_of}
-use Rattle.session.specs.Standing.{IsSound, Place, Raises, Standing, standing}
+use Rattle.session.specs.Served.{LacksVersion, OwnQueriesAreAnswered, ServesRequest, TellsAnswer, TellsPath, why_of}
+use Rattle.session.specs.Standing.{HoldsItsOwn, IsSound, Place, Raises, Standing, standing}
 
 abbrev pub no_moves : List Move
 no_moves = []
@@ -81,9 +81,9 @@ refused_answered version start goal why answered is told none = record {
 
 -- a query for which the published version is not held
 pub lacking_answered : (place : Place) (before after : List Entry) (old new : Versioned) (fresh : Bool) (told told_then : Option ℕ) (start goal : Cell) (answered : Answered)
-    → Raises told told_then → Freshens place before old fresh after new → IsFalse fresh → answered.reply ≡ reply.NoMemory → answered.path ≡ None
+    → Raises told told_then → Freshens place before old fresh after new → IsFalse fresh → HoldsItsOwn place (standing after new told_then) → answered.reply ≡ reply.NoMemory → answered.path ≡ None
     → Answers place (request.Query start goal) (standing before old told) new answered (standing after new told_then)
-lacking_answered place before after old new fresh told told_then start goal answered rise p stale is none = record {
+lacking_answered place before after old new fresh told told_then start goal answered rise p stale own is none = record {
   moves = [];
   serves = record {
     served = record {
@@ -91,6 +91,7 @@ lacking_answered place before after old new fresh told told_then start goal answ
       answers = inr (record { reply_is = is; moves_are = refl; newer = (p.newer stale).1; kept = (p.newer stale).0 });
     };
     holds = p.holds;
+    own = own;
     looks = rise;
   };
   path = none ∙ sym (ap (ends_of (request.Query start goal)) is);
@@ -118,8 +119,25 @@ query_answered place before after old new fresh told told_then start goal answer
       });
     };
     holds = p.holds;
+    own = λ _. p.published is_fresh;
     looks = rise;
   };
   path = by.path;
   walk = by.walk;
 }
+
+no_answer_is_that : (version : ℕ) (answer : Answer) (told : Reply) (moves : List Move) → TellsAnswer version answer told moves → told ≡ reply.NoMemory → ⊥
+no_answer_is_that version (refused why) told moves tells is = let clash : reply.Refused version (why_of why) ≡ reply.NoMemory = sym tells.0 ∙ is in absurd (cc)
+no_answer_is_that version unreachable told moves tells is = let clash : reply.Unreachable version ≡ reply.NoMemory = sym tells.0 ∙ is in absurd (cc)
+no_answer_is_that version (path found) told moves tells is = let clash : reply.Path version (cost_of found) ≡ reply.NoMemory = sym tells.0 ∙ is in absurd (cc)
+
+own_query_is_answered : (place : Place) (start goal : Cell) (old new : Standing) (told : Reply) (moves : List Move) → place.shared ≡ None
+    → new.held ≡ published_prefix new.seen → told ≡ reply.NoMemory → TellsPath place start goal new told moves ⊎ LacksVersion old new told moves → ⊥
+own_query_is_answered place start goal old new told moves alone own is (inr lacks) =
+    let less : old.held < published_prefix new.seen = lacks.newer in
+    omega (arith, less, own, lacks.kept)
+own_query_is_answered place start goal old new told moves alone own is (inl tells) = no_answer_is_that _ tells.answer told moves tells.tells is
+
+-- no query wants memory on a board of one's own: the version that is held is the published one, before and after
+pub own_queries_are_answered : OwnQueriesAreAnswered
+own_queries_are_answered place start goal old new told moves alone serves is = own_query_is_answered place start goal old new told moves alone (serves.own alone) is serves.served.answers

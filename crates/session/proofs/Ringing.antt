@@ -138,6 +138,7 @@ request_behind place old mid told new first s = record {
   served = (build_behind place old.seen mid.seen told new first.others s.served.0, refl);
   holds = held_then old.seen mid.seen new.seen old.held mid.held new.held (meanwhile_begin place old.seen mid.seen first.others)
       (build_grows place mid.seen told new s.served.0).begins first.holds s.holds;
+  own = s.own;
   looks = no_fewer_raises old.looks mid.looks new.looks first.looks s.looks;
 }
 

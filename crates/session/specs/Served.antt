@@ -1,5 +1,5 @@
 -- The served step: how a pass that is asked for something answers it, and how it stands then.
-use Rattle.std.specs.Prelude.{◌≡◌, ◌⊎◌, ℕ, ◌<◌, ◌≤◌, false, true, List, [], ◌∷◌, ◌++◌, length}
+use Rattle.std.specs.Prelude.{◌≡◌, ◌⊎◌, ℕ, ◌<◌, ◌≤◌, false, true, List, [], ◌∷◌, ◌++◌, None, length}
 use Rattle.moves.specs.declared.Cell.{Cell}
 use Rattle.moves.specs.declared.Move.{Move}
 use Rattle.moves.specs.Maps.{passable_count}
@@ -21,7 +21,7 @@ use Rattle.query_proto.specs.declared.replies.Reply.{Reply}
 use Rattle.query_proto.specs.declared.replies.Reply.TheVariants as reply
 use Rattle.query_proto.specs.declared.requests.Request.{Request}
 use Rattle.query_proto.specs.declared.requests.Request.TheVariants as request
-use Rattle.session.specs.Standing.{HoldsSince, Meanwhile, Place, Raises, Standing}
+use Rattle.session.specs.Standing.{HoldsItsOwn, HoldsSince, Meanwhile, Place, Raises, Standing}
 use Rattle.session.specs.Desks.{HaltsFirst, IsEntered, IsRoomUsed, MayBeEntered}
 
 -- why a query was refused, as a reply tells it
@@ -148,10 +148,17 @@ abbrev pub LooksFor : Request → Standing → Standing → Type 0
 LooksFor request.Bye old new = Unit {0}
 LooksFor _ old new = Raises old.looks new.looks
 
--- THE SERVED STEP: a request is answered so, the version that is held then is the one from before or was published since, and
--- the looks rise
+-- THE SERVED STEP: a request is answered so, the version that is held then is the one from before or was published since, on
+-- a board of one's own it is the published one, and the looks rise
 pub record ServesRequest (place : Place) (asked : Request) (old : Standing) (told : Reply) (moves : List Move)
     (new : Standing) : Type 0 where
   pub served : Serves place asked old told moves new
   pub holds : HoldsSince old new
+  pub own : HoldsItsOwn place new
   pub looks : LooksFor asked old new
+
+-- no query wants memory on a board of one's own
+abbrev pub OwnQueriesAreAnswered : Type 0
+OwnQueriesAreAnswered =
+    (place : Place) (start goal : Cell) (old new : Standing) (told : Reply) (moves : List Move) → place.shared ≡ None
+    → ServesRequest place (request.Query start goal) old told moves new → told ≡ reply.NoMemory → ⊥

@@ -73,6 +73,10 @@ IsHeldSince before old after new = (new ≡ old) ⊎ WasPublished before after n
 abbrev pub HoldsSince : Standing → Standing → Type 0
 HoldsSince old new = IsHeldSince old.seen old.held new.seen new.held
 
+-- on a board of one's own the version that is held is the published one
+abbrev pub HoldsItsOwn : Place → Standing → Type 0
+HoldsItsOwn place now = place.shared ≡ None → now.held ≡ published_prefix now.seen
+
 -- the version that is held is that of accepted edits
 pub record IsSound (place : Place) (seen : List Entry) (version : Versioned) : Type 0 where
   pub is : IsVersionAt place.start place.order seen version.prefix version

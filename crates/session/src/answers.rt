@@ -5,7 +5,7 @@ ghost use Rattle.build_pool.specs.declared.TheConstants.{MAX_WORKERS};
 ghost use Rattle.query_proto.specs.declared.requests.Request.TheVariants.{Query};
 ghost use Rattle.session.specs.Answering.{Answers, AnswersBy, Freshens};
 ghost use Rattle.session.specs.Served.{ServesChange, ServesStatus, ServesStop, why_of};
-ghost use Rattle.session.specs.Standing.{IsHeldSince, Raises, stands};
+ghost use Rattle.session.specs.Standing.{HoldsItsOwn, IsHeldSince, Raises, stands};
 
 use crate::building::answer_build;
 use crate::desk::Desk;
@@ -66,15 +66,35 @@ pub fn answer<K: Desk, R: Threads + Wait + Sync, G: Gate>(
 {
     match request {
         Request::Query { start, goal } => answer_query(rt, desk, start, goal),
-        Request::Change(edit) => Answered::of(answer_change(rt, desk, edit)),
+        Request::Change(edit) => {
+            let reply = answer_change(rt, desk, edit);
+            told_at(desk, reply)
+        }
         Request::Build => {
             let means = Means::new(rt, alloc, workers, gate);
-            Answered::of(answer_build(&means, desk))
+            let reply = answer_build(&means, desk);
+            told_at(desk, reply)
         }
-        Request::Status => Answered::of(answer_status(rt, desk)),
-        Request::Bye => Answered::of(Reply::Done),
-        Request::Stop => Answered::of(answer_stop(rt, desk)),
+        Request::Status => {
+            let reply = answer_status(rt, desk);
+            told_at(desk, reply)
+        }
+        Request::Bye => told_at(desk, Reply::Done),
+        Request::Stop => {
+            let reply = answer_stop(rt, desk);
+            told_at(desk, reply)
+        }
     }
+}
+
+/// A reply that is no path. What a board of one's own holds is known from here.
+fn told_at<K: Desk>(desk: &K, reply: Reply) -> Answered
+    ensures reply { result.reply ≡ reply }
+    ensures path { result.path ≡ None }
+    ensures own { HoldsItsOwn (K.place desk.now) (stands K.seen K.version K.looks desk.now) }
+{
+    desk.held();
+    Answered::of(reply)
 }
 
 /// Answers a query from the published version.
@@ -85,7 +105,7 @@ fn answer_query<K: Desk, R: Wait>(rt: &R, desk: &mut K, start: Cell, goal: Cell)
         (K.version desk.new) result (stands K.seen K.version K.looks desk.new) }
 {
     if !holds_published(rt, desk) {
-        return Answered::of(Reply::NoMemory);
+        return told_at(desk, Reply::NoMemory);
     }
     answer_from(desk.held(), start, goal)
 }

@@ -90,6 +90,8 @@ pub fn build_loop<K: Desk, E: Ear, R: Threads + Wait + Sync, G: Gate>(
         match ear.wait(rt) {
             Ring::Rung => {
                 let reply = answer_build(&means, desk);
+                // What a board of one's own holds is known from here.
+                desk.held();
                 totals = totals.with(reply);
             }
             Ring::Shut => return totals,

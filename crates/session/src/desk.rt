@@ -1,12 +1,12 @@
 //! Where a session stands at a board.
 
-ghost use Rattle.std.specs.Prelude.{◌≡◌, ◌≢◌, ◌⊎◌, ◌≤◌, ℕ, IfErr, IfOk, IsTrue, List, OnErr, OnOk, Option};
+ghost use Rattle.std.specs.Prelude.{◌≡◌, ◌≢◌, ◌⊎◌, ◌≤◌, ℕ, None, IfErr, IfOk, IsTrue, List, OnErr, OnOk, Option};
 ghost use Rattle.std.specs.Arc.{arc_value};
 ghost use Rattle.versions.specs.Databases.{Versioned};
 ghost use Rattle.path_core.specs.declared.entry.Entry.{Entry};
 ghost use Rattle.path_core.specs.Boards.{MayBePublished};
 ghost use Rattle.path_core.specs.Histories.{accepted_count, published_prefix};
-ghost use Rattle.session.specs.Standing.{IsSound, Meanwhile, Place, Raises};
+ghost use Rattle.session.specs.Standing.{HoldsItsOwn, IsSound, Meanwhile, Place, Raises, standing};
 ghost use Rattle.session.specs.Desks.{IsEntered, IsHalted, IsJobAt, IsNotEntered, IsNotHalted, IsNotPublished, IsPublished, Looks};
 
 use edit_log::Edit;
@@ -37,14 +37,15 @@ pub trait Desk {
         ensures look { Looks (place self.old) (seen self.old) (seen self.new) (version self.old)
             (version self.new) result };
 
-    /// Whether the held version is the published one, as far as is known at no cost.
+    /// Whether the held version is the published one, as far as is known at no cost. On a board of one's own it is.
     fn recent<R: Wait>(&mut self, rt: &R) -> bool
         ensures place { place self.new ≡ place self.old }
         ensures looks { Raises (looks self.old) (looks self.new) }
         ensures others { Meanwhile (place self.old) (seen self.old) (seen self.new) }
         ensures version { version self.new ≡ version self.old }
         ensures recent { IsTrue result →
-            (version self.new).prefix ≡ published_prefix (seen self.new) };
+            (version self.new).prefix ≡ published_prefix (seen self.new) }
+        ensures own { (place self.old).shared ≡ None → IsTrue result };
 
     /// Enters an edit, and gives how many edits are accepted then.
     ///
@@ -111,5 +112,7 @@ pub trait Desk {
     /// The version that is held.
     fn held(&self) -> &Version
         ensures version { result.now ≡ version self.now }
-        ensures sound { IsSound (place self.now) (seen self.now) (version self.now) };
+        ensures sound { IsSound (place self.now) (seen self.now) (version self.now) }
+        ensures own { HoldsItsOwn (place self.now)
+            (standing (seen self.now) (version self.now) (looks self.now)) };
 }

@@ -19,8 +19,6 @@ mod means;
 pub mod seated;
 mod sending;
 pub mod sessions;
-#[cfg(test)]
-mod tests;
 
 pub use answers::{Answered, PathAt, answer};
 pub use boards::{MAX_DOORS, ServeRefused, Served, serve_board};

@@ -13,6 +13,3 @@ pub use lines::Lines;
 pub use numbers::{number_at_most, number_capped};
 pub use text::Text;
 pub use words::{cut_word, is_blank, two_words, without_gaps, without_gaps_at_end};
-
-#[cfg(test)]
-mod tests;

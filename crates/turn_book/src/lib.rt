@@ -20,6 +20,3 @@ pub use closing::Sits;
 pub use note::Note;
 pub use serial::Serial;
 pub use turn::Turn;
-
-#[cfg(test)]
-mod tests;

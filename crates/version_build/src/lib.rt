@@ -10,8 +10,6 @@ mod edited;
 mod parts;
 mod planning;
 mod plans;
-#[cfg(test)]
-mod tests;
 
 pub use builder::Builder;
 pub use building::build;

@@ -7,7 +7,7 @@ use Rattle.moves.specs.Paths.{Reaches, IsBest}
 use Rattle.cell_order.specs.declared.OrderKind.{OrderKind}
 use Rattle.versions.specs.Spelled.{Spells}
 use Rattle.row_store.specs.Rows.{row_at}
-use Rattle.row_store.specs.Comps.{Comp}
+use Rattle.row_store.specs.Comps.{Comp, IsPlaceOf}
 use Rattle.versions.specs.declared.version.Next.{Next}
 use Rattle.versions.specs.declared.version.Next.TheVariants.{Arrived, Unreachable, Go}
 use Rattle.versions.specs.Databases.{Versioned, comp_at, IsDatabase, IsVersion}
@@ -75,12 +75,15 @@ pub record HasOneAnswer (version : Versioned) (start goal : Cell) : Type 0 where
 abbrev pub QueriesHaveOneAnswer : Type 0
 QueriesHaveOneAnswer = (version : Versioned) → IsVersion version → (start goal : Cell) → HasOneAnswer version start goal
 
--- no more probes than a look-up in some row of the component takes
-abbrev pub HasFewProbesIn : Comp → ℕ → Type 0
-HasFewProbesIn comp probes = (from : ℕ) × (2 ^ probes ≤ 2 * length (row_at comp.rows from) + 1)
-
--- no more probes than a look-up in some row takes: s probes of a row of n runs, where 2^s ≤ 2n + 1
-pub record HasFewProbes (comps : List Comp) (probes : ℕ) : Type 0 where
-  pub label : ℕ
+-- so few probes of the row of a cell: s of a row of n runs, where 2^s ≤ 2n + 1
+pub record HasFewProbes (comp : Comp) (at : Cell) (probes : ℕ) : Type 0 where
   pub place : ℕ
-  pub few : 2 ^ probes ≤ 2 * length (row_at (comp_at comps label).rows place) + 1
+  pub is : IsPlaceOf comp.cells at place
+  pub few : 2 ^ probes ≤ 2 * length (row_at comp.rows place) + 1
+
+-- what it takes to tell where a path goes on: no probe where it has arrived or no path exists, and else few probes of the
+-- row of the cell where it stands, in the component that has both cells
+abbrev pub TakesFewProbes : List Comp → Cell → Cell → Next → ℕ → Type 0
+TakesFewProbes comps at goal Arrived probes = probes ≡ 0
+TakesFewProbes comps at goal Unreachable probes = probes ≡ 0
+TakesFewProbes comps at goal (Go move) probes = (comp : Comp) × IsHome comps at goal comp × HasFewProbes comp at probes

@@ -6,8 +6,6 @@
 
 pub mod laws;
 pub mod query;
-#[cfg(test)]
-mod tests;
 pub mod version;
 
 pub use query::{End, QueryRefusal, judge};

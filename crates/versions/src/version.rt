@@ -1,14 +1,14 @@
 //! A version: a map after some edits, and the database of its paths.
 
 ghost use Rattle.std.specs.Prelude.{◌≡◌, ◌≢◌, Contains, ℕ, ◌+◌, ◌-◌, ◌*◌, ◌^◌, ◌<◌, ◌≤◌, map, length, sum_by};
-ghost use Rattle.std.specs.Prelude.{slice_index_or, IfOk, IfErr, OnOk, IfSome, IfNone};
+ghost use Rattle.std.specs.Prelude.{slice_index_or, IfOk, IfErr, OnErr, OnOk, IfSome, IfNone};
 ghost use Rattle.std.specs.Arc.{arc_value};
 ghost use Rattle.moves.specs.Maps.{IsPassable, IsSearchable, passable_count};
 ghost use Rattle.moves.specs.Paths.{Reaches};
 ghost use Rattle.moves.specs.Components.{IsComponentList};
 ghost use Rattle.versions.specs.Databases.{IsDatabase, IsVersion, runs_of, version_of};
 ghost use Rattle.versions.specs.Spelled.{IsKept};
-ghost use Rattle.versions.specs.Answers.{HasFewProbes, HasFewProbesIn, IsHome, IsNext};
+ghost use Rattle.versions.specs.Answers.{HasFewProbes, IsHome, IsNext, TakesFewProbes};
 ghost use Rattle.versions.specs.Queries.{AreEnds, IsRefusal};
 
 use crate::query::{QueryRefusal, judge};
@@ -166,11 +166,12 @@ impl Version {
 
     /// The next move of the walk from a cell to a goal.
     ///
-    /// A look-up takes at most s probes of a row of n runs, where 2^s ≤ 2n + 1.
+    /// It takes at most s probes of the row of the cell, where that has n runs and 2^s ≤ 2n + 1, and none where the two
+    /// cells are one or no path exists.
     ///
     /// # Errors
     ///
-    /// The first cause to refuse the two cells, the one where the path stands before the goal.
+    /// The first cause to refuse the two cells, the one where the path stands before the goal. Nothing is counted then.
     pub fn next<L: Ledger>(
         &self,
         at: Cell,
@@ -180,7 +181,9 @@ impl Version {
         ensures ends { OnOk result (AreEnds self.now.map at goal) }
         ensures next { IfOk result (IsNext self.now at goal) }
         ensures refused { IfErr result (IsRefusal self.now.map at goal) }
-        ensures probes { HasFewProbes self.now.comps (steps.new - steps.old) }
+        ensures probes { IfOk result (λ next.
+            TakesFewProbes self.now.comps at goal next (steps.new - steps.old)) }
+        ensures unasked { OnErr result (steps.new ≡ steps.old) }
         ensures counted { steps.old ≤ steps.new }
     {
         judge(&self.grid, at, goal)?;
@@ -228,7 +231,7 @@ fn move_in<L: Ledger>(comp: &CompData, start: Cell, goal: Cell, steps: &mut Step
     requires goal { Contains comp.now.cells goal }
     requires apart { start ≢ goal }
     ensures kept { IsKept comp.now.cells comp.now.rows start goal result }
-    ensures few { HasFewProbesIn comp.now (steps.new - steps.old) }
+    ensures few { HasFewProbes comp.now start (steps.new - steps.old) }
     ensures counted { steps.old ≤ steps.new }
 {
     let from = comp.place_of(start);

@@ -8,9 +8,6 @@ ghost use Rattle.moves.specs.Paths.{IsLeastCost};
 ghost use Rattle.versions.specs.Queries.{AreEnds, IsRefusal};
 ghost use Rattle.walker.specs.Walks.{Advances, CostsAhead, HasFewAhead, IsBegun};
 
-#[cfg(test)]
-mod tests;
-
 use moves::{Cell, MAX_PASSABLE, Move};
 use root_cost::Cost;
 use row_store::CompData;

@@ -61,6 +61,3 @@ pub use tcp_house::TcpHouse;
 pub use tcp_link::{IDLE_TIME, TcpLink};
 pub use turn_ear::TurnEar;
 pub use writer_sink::WriterSink;
-
-#[cfg(test)]
-mod tests;

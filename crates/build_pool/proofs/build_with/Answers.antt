@@ -40,7 +40,7 @@ loop-share-preserved g c =
     let steps : into_iter_items c.loop-share.share-iterator ≡ c.in-Some.share ∷ into_iter_items c.next.new.self = c.in-Some.ensures.steps.0 in
     let all = rw steps at c.loop-share.invariant.2 in
     let some = share_is _ _ _ (all 0 c.in-Some.share (omega arith)) c.in_ok-share.was in
-    (tt, tt, λ i d within. all (suc i) d (omega (arith, within)), some_merged _ _ _ _ c.loop-share.invariant.3 some c.in_ok-merge.ensures)
+    (tt, tt, λ i d within. all (suc i) d (omega (arith, within)), some_merged _ _ _ _ c.loop-share.invariant.3 some c.in_ok-merge.ensures.merged)
 
 pub put_rest-requires-clause-sources : goal.put_rest-requires-clause-sources
 put_rest-requires-clause-sources g c =

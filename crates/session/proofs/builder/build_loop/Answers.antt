@@ -2,7 +2,7 @@ use Rattle.std.proofs.Common.{◌||◌, false, [], ap, refl, subst, sym, ◌∙�
 use Rattle.query_proto.specs.declared.requests.Request.TheVariants as request
 use Rattle.session.specs.Builders.{HasBuilt}
 use Rattle.session.specs.Served.{ServesBuild, ServesRequest}
-use Rattle.session.specs.Standing.{standing}
+use Rattle.session.specs.Standing.{HoldsItsOwn, standing}
 use Rattle.session.proofs.Ringing.{built_more, built_none}
 use Rattle.session.proofs.builder.build_loop.Goals as goal
 
@@ -25,6 +25,7 @@ loop-preserved g c =
     let serves : ServesRequest place request.Build mid told [] new = record {
       served = (subst (λ p. ServesBuild p mid.seen told new) inv.1 c.answer_build-reply.ensures.served, refl);
       holds = c.answer_build-reply.ensures.holds;
+      own = subst (λ p. HoldsItsOwn p new) (c.answer_build-reply.ensures.place ∙ inv.1) c.held.ensures.own;
       looks = c.answer_build-reply.ensures.looks;
     } in (
       built_more place old c.loop.totals (g.E.Ear.rung c.args.ear.now) mid (g.E.Ear.rung c.loop.ear) told new c.with-totals.result

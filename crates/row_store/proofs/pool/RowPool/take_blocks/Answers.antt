@@ -1,7 +1,7 @@
-use Rattle.std.proofs.Common.{◌≡◌, ◌<◌, ◌+◌, length, rules}
+use Rattle.std.proofs.Common.{◌≡◌, ◌<◌, ◌+◌, length, refl, rules}
 use Rattle.row_store.specs.declared.pool.TheConstants.{MAX_BLOCKS}
 use Rattle.row_store.specs.Layout.{AreApart, AreFilled}
-use Rattle.row_store.proofs.Spans.{spans_joined, rows_joined}
+use Rattle.row_store.proofs.Spans.{on_err, spans_joined, rows_joined, unmerged}
 use Rattle.row_store.proofs.pool.RowPool.take_blocks.Goals as goal
 
 pub invariant_of-self-2 : goal.invariant_of-self-2
@@ -17,8 +17,8 @@ invariant_of-self-2 c =
     (spans_joined (λ block. block.items) _ _ _ _ _ _ c.self.invariant c.other.invariant size _ counted room
     _ _ _ c.in_ok-append_blocks.ensures.ok.0 c.shrink_to_fit.ensures.items apart filled)
 
-pub returns : goal.returns
-returns c =
+pub returns-clause-merged : goal.returns-clause-merged
+returns-clause-merged c =
     let size = rw (← c.self.view_is, ← c.other.view_is) at c.requires in
     let counted : c.len-blocks.result + 1 ≡ length c.self.inside.closed.items + 1 = search rules in
     let room : c.len-blocks.result + 1 + length c.other.inside.closed.items < MAX_BLOCKS = search rules in
@@ -29,3 +29,9 @@ returns c =
     rw (← c.self.view_is, ← c.other.view_is, c.in_ok-append_blocks.ensures.ok.1)
     (rows_joined (λ block. block.items) _ _ _ _ _ _ c.self.invariant c.other.invariant size _ counted room
     _ _ _ c.in_ok-append_blocks.ensures.ok.0 c.shrink_to_fit.ensures.items apart filled)
+
+pub returns-in_err-append_blocks-clause-refused : goal.returns-in_err-append_blocks-clause-refused
+returns-in_err-append_blocks-clause-refused c =
+    let kept = c.append_blocks.ensures.refused in
+    let same : (c.append_blocks.new.closed.items ≡ c.self.inside.closed.items) × (c.append_blocks.new.words.items ≡ c.self.inside.words.items) = search rules in
+    on_err _ c.from_residual.result (rw (← c.self.view_is, same.0, same.1) (unmerged _ _ _ refl))

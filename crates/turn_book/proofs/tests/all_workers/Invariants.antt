@@ -1,9 +1,0 @@
-use Rattle.std.proofs.Common.{length, ◌≤◌}
-use Rattle.turn_book.specs.Books.{id_of, AreFirstSeats}
-use Rattle.turn_book.proofs.tests.all_workers.Given as goal
-
-abbrev pub invariant-loop-seat : goal.invariant-loop-seat
-invariant-loop-seat l = AreFirstSeats (id_of l.fn.book) (λ seat. seat) l.seats.items × (length l.seats.items ≤ 66)
-
-abbrev pub decreases-loop-seat : goal.decreases-loop-seat
-decreases-loop-seat l = length l.seats.items

@@ -1,4 +1,0 @@
-use Rattle.version_build.proofs.tests.next_at.Given as goal
-
-abbrev pub ghosts-next_of : goal.ghosts-next_of
-ghosts-next_of a = record { name = a.blank.name; parts = a.blank.parts }
