@@ -11,11 +11,13 @@ twin that does the same look-ups (rows of runs, each path walked twice), one tha
 of cells and walks once, and the ratios of ours to both. Of queries a second a high ratio is good, of processor time a low
 one. The program has to be built (./build)."""
 import os
-import socket
 import subprocess
 import sys
 
 top = os.path.dirname(os.path.dirname(os.path.abspath(__file__)))
+sys.path.insert(0, os.path.join(top, "clients/python"))
+from path_server import Client, free_port
+
 program = os.path.join(top, "crates/path_server/out/path_server")
 twin = os.path.join(top, "bench/build/serve")
 map_name = os.path.join(top, "bench/build/serve.map")
@@ -25,9 +27,7 @@ started = []
 
 def start(*words):
     """A server, at a free port that stands for PORT in its words."""
-    with socket.socket() as free:
-        free.bind(("127.0.0.1", 0))
-        port = str(free.getsockname()[1])
+    port = str(free_port())
     process = subprocess.Popen([port if word == "PORT" else word for word in words], stdout=subprocess.PIPE)
     started.append(process)
     if process.stdout.readline() != b"serving %s\n" % port.encode():
@@ -58,11 +58,12 @@ def idle(words):
     before = memory_of(process)
     process.kill()
     port, process = start(*words)
-    links = [socket.create_connection(("127.0.0.1", int(port))) for _ in range(64)]
-    for link in links:
-        link.sendall(bytes.fromhex("0009 01 0000 0000 0001 0001"))
-        link.recv(1000)
+    clients = [Client.connect(int(port)) for _ in range(64)]
+    for client in clients:
+        client.query((0, 0), (1, 1))
     after = memory_of(process)
+    for client in clients:
+        client.close()
     process.kill()
     return after - before
 

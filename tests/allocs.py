@@ -3,16 +3,19 @@ what is right then, and runs it).
 
 allocs.py PROGRAM LIBRARY MAP OPEN_MAP, where LIBRARY is made of allocs.c, MAP is `.@.` and OPEN_MAP `...`.
 """
-import os, socket, subprocess, sys
+import os, subprocess, sys, time
+
+import judging  # the way to the client
+from path_server import (Accepted, AskStatus, BadReply, Build, Bye, Change, ConnectionLost, Done, Move, NotConnected,
+                         NothingNew, OutOfMemory, Path, Published, Query, Status, Stop, TcpLink, Terrain, Unreachable, free_port)
+from path_server.frames import decoded, encoded, split_replies
 
 program, library, row, open_map = sys.argv[1:]
 failed = 0
-NO_MEMORY = b"\x8c"
-NAMES = {1: "query", 2: "change", 3: "build", 4: "status", 5: "bye", 6: "stop"}
-QUERY, STOP = bytes.fromhex("0009 01 0000 0000 0002 0000"), bytes.fromhex("0001 06")
-TALK = [QUERY, bytes.fromhex("0006 02 0001 0000 01"), QUERY, bytes.fromhex("0001 03"), QUERY, bytes.fromhex("0001 04"),
-        bytes.fromhex("0001 05")]
-PATH = bytes.fromhex("81 00000000 00000002 00000000 02 02")
+QUERY, CHANGE = Query((0, 0), (2, 0)), Change((1, 0), Terrain.LAND)
+TALK = [QUERY, CHANGE, QUERY, Build(), QUERY, AskStatus(), Bye()]
+NAMES = {Query: "query", Change: "change", Build: "build", AskStatus: "status", Bye: "bye", Stop: "stop"}
+EAST_TWICE = (Move.E, Move.E)
 
 class Run:
     """A run of the program in which a request for memory is refused, if it comes so far, and those after it where that
@@ -37,62 +40,51 @@ class Run:
         with open(self.told, "rb") as told:
             return text, self.process.returncode, told.read().decode()
 
-def replies_of(data):
-    """Replies without their lengths, and the bytes behind the last one."""
-    replies = []
-    while len(data) >= 4 and len(data) - 4 >= int.from_bytes(data[:4], "big"):
-        end = 4 + int.from_bytes(data[:4], "big")
-        replies, data = replies + [data[4:end]], data[end:]
-    return replies, data
-
 def wanted(kind, accepted, published):
     """The reply to a request of TALK, on a board of `.@.` with so many edits and versions."""
-    numbers = {
-        1: ["81 00000001 00000002 00000000 02 02"] if published else ["82 00000000"],
-        2: ["84 00000001"],
-        3: ["86 00000001 00000003 00000000"] if accepted else ["87 00000000"],
-        4: [f"89 0000000{published} 0000000{accepted}",
-            "00000003 00000001 0000000000000004" if published else "00000002 00000002 0000000000000002"],
-        5: ["8a"],
-    }
-    return bytes.fromhex("".join(numbers[kind]))
+    return {
+        Query: Path(1, 2, 0, EAST_TWICE) if published else Unreachable(0),
+        Change: Accepted(1),
+        Build: Published(1, 3, 0) if accepted else NothingNew(0),
+        AskStatus: Status(1, accepted, 3, 1, 4) if published else Status(0, accepted, 2, 2, 2),
+        Bye: Done(),
+    }[kind]
 
 def talk(number, lasting, room):
     """What was refused, what came of it, and what is wrong."""
-    text, status, told = Run(number, lasting, "talk", row, *room).end(b"".join(TALK))
+    text, status, told = Run(number, lasting, "talk", row, *room).end(b"".join(map(encoded, TALK)))
     if status == 7:
         # the line of this status is put where not even the words can be read
         return told, ["status 7"], text not in (b"", b"out of memory\n") and f"status 7 behind {text.hex()}"
-    replies, rest = replies_of(text)
+    try:
+        frames, rest = split_replies(text)
+        replies = [decoded(frame) for frame in frames]
+    except BadReply as fault:
+        return told, [], repr(fault)
     if status != 0 or rest or len(replies) != len(TALK):
         return told, [], f"status {status} and {text.hex()}"
     accepted = published = 0
     felt = []
     for asked, reply in zip(TALK, replies):
-        kind = asked[2]
-        if reply == NO_MEMORY:
+        kind = type(asked)
+        if reply == OutOfMemory():
             felt.append(NAMES[kind])
         elif reply != wanted(kind, accepted, published):
-            return told, felt, f"a {NAMES[kind]} is answered {reply.hex()}, after want of memory at {felt}"
-        elif kind == 2:
+            return told, felt, f"a {NAMES[kind]} is answered {reply}, after want of memory at {felt}"
+        elif kind == Change:
             accepted = 1
-        elif kind == 3:
+        elif kind == Build:
             published = accepted
     return told, felt, False
 
-def ask(link, data):
+def ask(link, request):
     """The reply to a request, or nothing where the connection ends."""
-    found = b""
+    deadline = time.monotonic() + 10
     try:
-        link.sendall(data)
-        while not replies_of(found)[0]:
-            piece = link.recv(100)
-            if not piece:
-                break
-            found += piece
-    except OSError:
-        pass
-    return found[4:]
+        link.send(encoded(request), deadline)
+        return decoded(link.receive(deadline))
+    except ConnectionLost:
+        return None
 
 def serve(number, lasting, room):
     """The same, over a connection: the path, and the stop until it is done."""
@@ -101,16 +93,17 @@ def serve(number, lasting, room):
     replies = []
     if first == b"serving %d\n" % port:
         try:
-            with socket.create_connection(("127.0.0.1", port), timeout=10) as link:
-                replies = [ask(link, QUERY), ask(link, STOP)]
-                if replies[1] == NO_MEMORY:
-                    replies.append(ask(link, STOP))
-        except ConnectionError:
+            link = TcpLink(port)
+            replies = [ask(link, QUERY), ask(link, Stop())]
+            if replies[1] == OutOfMemory():
+                replies.append(ask(link, Stop()))
+            link.close()
+        except NotConnected:
             pass
     text, status, told = run.end()
     text = first + text
-    felt = ["stop"] if replies[1:2] == [NO_MEMORY] else []
-    right = [PATH, *[NO_MEMORY for _ in felt], b"\x8a"]
+    felt = ["stop"] if replies[1:2] == [OutOfMemory()] else []
+    right = [Path(0, 2, 0, EAST_TWICE), *[OutOfMemory() for _ in felt], Done()]
     whole = b"serving %d\naccepted 0\npublished 0\nversion 0\n" % port
     if status == 7:
         felt.append("status 7")
@@ -118,7 +111,7 @@ def serve(number, lasting, room):
         text, whole = text.removeprefix(b"serving %d\n" % port), b"out of memory\n"
         right = right[: len(replies)]
     wrong = status not in (0, 7) or text != whole or replies != right
-    return told, felt, wrong and f"status {status}, {text!r} and {[reply.hex() for reply in replies]}"
+    return told, felt, wrong and f"status {status}, {text!r} and {replies}"
 
 def try_all(run, lasting, room, allowed):
     """Refuses one request after the other. All that may come of it does, and nothing else."""
@@ -142,9 +135,7 @@ def try_all(run, lasting, room, allowed):
         failed = 1
         print(f"allocs.sh: {name}: felt {sorted(seen)}, and not {sorted(allowed)}", file=sys.stderr)
 
-with socket.socket() as free:
-    free.bind(("127.0.0.1", 0))
-    port = free.getsockname()[1]
+port = free_port()
 for lasting in (False, True):
     try_all(talk, lasting, [], {"status 7", "build"})
     try_all(talk, lasting, ["--room", "0"], {"status 7", "change", "build"})

@@ -1,13 +1,16 @@
-"""What the tests in Python share: which program they run, and the comparison of what they find with what is wanted."""
+"""What the tests in Python share: which program they run, the way to its client (clients/python), and the comparison of
+what they find with what is wanted."""
 import os
 import sys
+
+TOP = os.path.dirname(os.path.dirname(os.path.abspath(__file__)))
+sys.path.insert(0, os.path.join(TOP, "clients/python"))
 
 
 def program_here():
     """The program that was built here, or the release where none was."""
-    top = os.path.dirname(os.path.dirname(os.path.abspath(__file__)))
-    built = os.path.join(top, "crates/path_server/out/path_server")
-    return built if os.path.isfile(built) else os.path.join(top, "release/path_server")
+    built = os.path.join(TOP, "crates/path_server/out/path_server")
+    return built if os.path.isfile(built) else os.path.join(TOP, "release/path_server")
 
 
 class Judge:

@@ -21,7 +21,6 @@ import argparse
 import os
 import random
 import socket
-import struct
 import subprocess
 import sys
 import tempfile
@@ -29,43 +28,49 @@ import threading
 import time
 
 from judging import program_here
+from path_server import (
+    Accepted,
+    AskStatus,
+    Build,
+    Bye,
+    Change,
+    ConnectionLost,
+    Done,
+    EditFault,
+    EditRefused,
+    Malformed,
+    NotConnected,
+    NothingNew,
+    Overtaken,
+    Path,
+    PathServerError,
+    Published,
+    Query,
+    Refused,
+    Server,
+    Status,
+    Stop,
+    TcpLink,
+    Terrain,
+    Unreachable,
+    free_port,
+)
+from path_server.frames import MAX_REQUEST, decoded, decoded_request, encoded, frame_of, framed, split_requests
 
 LEEWAY = 24  # MB that the server may take at the end beyond what it took after the first tenth of the time
 REST = 1  # seconds in which each door that nobody came to looks at the board
 PATIENCE = 60  # seconds that a reply may take
-QUERY, CHANGE, BUILD, STATUS, BYE, STOP = range(1, 7)
-REQUEST_SIZES = {QUERY: 9, CHANGE: 6, BUILD: 1, STATUS: 1, BYE: 1, STOP: 1}
-
-
-def frame(kind, *numbers):
-    """A request: its length, its kind, and what it is about."""
-    rest = struct.pack(">%dH" % len(numbers), *numbers)
-    return struct.pack(">HB", 1 + len(rest), kind) + rest
-
-
-def change(x, y, free):
-    return struct.pack(">HBHHB", 6, CHANGE, x, y, free)
 
 
 def cut(data):
     """The whole frames at the front of some bytes, without their lengths, and whether a length behind them is refused
     before all bytes are read."""
-    frames, at = [], 0
-    while len(data) - at >= 2:
-        length = struct.unpack_from(">H", data, at)[0]
-        if length > 64 or len(data) - at - 2 < length:
-            return frames, length > 64 and len(data) - at > 2
-        frames.append(data[at + 2 : at + 2 + length])
-        at += 2 + length
-    return frames, False
+    frames, rest = split_requests(data)
+    return frames, len(rest) > 2 and int.from_bytes(rest[:2], "big") > MAX_REQUEST
 
 
 class Wrong(Exception):
     """A reply that no server may send."""
-
-
-class Gone(Exception):
-    """The connection ended before a whole reply."""
 
 
 class Shared:
@@ -111,74 +116,50 @@ class Client:
     # ---- connections
 
     def connect(self):
-        self.link = socket.create_connection(("127.0.0.1", self.shared.options.port), timeout=PATIENCE)
-        self.link.setsockopt(socket.IPPROTO_TCP, socket.TCP_NODELAY, 1)
+        self.link = TcpLink(self.shared.options.port, timeout=PATIENCE)
 
     def close(self, reset=False):
         if reset:
-            self.link.setsockopt(socket.SOL_SOCKET, socket.SO_LINGER, struct.pack("ii", 1, 0))
+            self.link.reset()
         self.link.close()
 
-    def read(self, count):
-        data = b""
-        while len(data) < count:
-            try:
-                piece = self.link.recv(count - len(data))
-            except socket.timeout:
-                raise Wrong("no reply for %d seconds" % PATIENCE) from None
-            except OSError:
-                piece = b""
-            if not piece:
-                raise Gone()
-            data += piece
-        return data
-
-    def reply(self):
-        length = struct.unpack(">I", self.read(4))[0]
-        if not 1 <= length <= 32780:
-            raise Wrong("a reply of %d bytes" % length)
-        return self.read(length)
+    def send(self, data):
+        self.link.send(data, time.monotonic() + PATIENCE)
 
     def ends(self):
         """The server has closed the connection, or closes it now."""
-        try:
-            rest = self.read(1)
-        except Gone:
-            return
-        raise Wrong("bytes behind the last reply: %s" % rest.hex())
+        self.link.end(time.monotonic() + PATIENCE)
 
     # ---- what is asked
 
     def place(self):
         """Mostly inside the map."""
         side = self.shared.options.side
-        return [self.rng.randrange(side) if self.rng.random() < 0.995 else self.rng.randrange(65536) for _ in range(2)]
+        column, row = [self.rng.randrange(side if self.rng.random() < 0.995 else 65536) for _ in range(2)]
+        return column, row
 
     def request(self):
         dice = self.rng.random()
         if dice < 0.85:
             # few starts, so that the judge's searches are few
             start = self.rng.choice(self.shared.options.starts) if self.rng.random() < 0.995 else self.place()
-            return frame(QUERY, *start, *self.place())
+            return Query(start, self.place())
         if dice < 0.95:
-            return change(*self.place(), self.rng.random() < 0.75)
-        return frame(BUILD) if dice < 0.96 else frame(STATUS)
+            return Change(self.place(), Terrain.LAND if self.rng.random() < 0.75 else Terrain.BLOCKED)
+        return Build() if dice < 0.96 else AskStatus()
 
     # ---- how replies are judged
 
-    def judge(self, asked, told):
-        """Judges a reply to a frame. What needs the maps is kept for the end."""
-        kind = asked[0] if asked else 0
-        if REQUEST_SIZES.get(kind) != len(asked) or (kind == CHANGE and asked[5] > 1):
-            wanted = struct.pack(">BBH", 0x8B, kind, len(asked))
+    def judge(self, frame, told):
+        """Judges the reply to a frame. What needs the maps is kept for the end."""
+        asked = decoded_request(frame)
+        if asked is None:
+            wanted = Malformed(frame[0] if frame else 0, len(frame))
             if told != wanted:
-                raise Wrong("%s was answered %s, not %s" % (asked.hex(), told.hex(), wanted.hex()))
+                raise Wrong("%s was answered %s, not %s" % (frame.hex(), told, wanted))
             return
-        judges = {QUERY: self.query, CHANGE: self.change, BUILD: self.build, STATUS: self.status}
-        try:
-            judges.get(kind, self.done)(asked, told)
-        except struct.error:
-            raise Wrong("%s was answered %s" % (asked.hex(), told.hex())) from None
+        judges = {Query: self.query, Change: self.change, Build: self.build, AskStatus: self.status}
+        judges.get(type(asked), self.done)(asked, told)
 
     def sees(self, version=0, accepted=0):
         """An answer tells a version, and how many edits are accepted: neither is below what was seen."""
@@ -190,82 +171,79 @@ class Client:
     def keep(self, *words):
         self.shared.log.append(" ".join(str(word) for word in words))
 
+    def is_one_of(self, asked, told, *kinds):
+        if not isinstance(told, kinds):
+            raise Wrong("%s was answered %s" % (asked, told))
+
     def query(self, asked, told):
-        kind, version = struct.unpack(">BI", told[:5])
-        if version < self.version:
-            raise Wrong("version %d was seen, and then one reply had %d" % (self.version, version))
-        self.sees(version)
-        self.shared.versions.add(version)
-        question = ("query", version, *struct.unpack(">4H", asked[1:]))
-        if kind == 0x81:
-            straight, diagonal = struct.unpack(">II", told[5:13])
-            self.keep(*question, "path", straight, diagonal, "." + "".join(str(move) for move in told[13:]))
-        elif kind == 0x82 and len(told) == 5:
+        self.is_one_of(asked, told, Path, Unreachable, Refused)
+        if told.version < self.version:
+            raise Wrong("version %d was seen, and then one reply had %d" % (self.version, told.version))
+        self.sees(told.version)
+        self.shared.versions.add(told.version)
+        question = ("query", told.version, *asked.start, *asked.goal)
+        if isinstance(told, Path):
+            moves = "." + "".join(str(int(move)) for move in told.moves)
+            self.keep(*question, "path", told.straight, told.diagonal, moves)
+        elif isinstance(told, Unreachable):
             self.keep(*question, "unreachable")
-        elif kind == 0x83 and len(told) == 7 and told[5] in (1, 2) and told[6] in (0, 1):
-            self.keep(*question, "refused", told[5] - 1, told[6])
         else:
-            raise Wrong("a query was answered %s" % told.hex())
+            self.keep(*question, "refused", told.reason.value - 1, told.end.value)
 
     def change(self, asked, told):
-        x, y, free = struct.unpack(">HHB", asked[1:])
-        side = self.shared.options.side
-        if x >= side or y >= side:
-            if told != b"\x85\x01":
-                raise Wrong("an edit outside was answered %s" % told.hex())
+        if max(asked.cell) >= self.shared.options.side:
+            if told != EditRefused(EditFault.OUTSIDE):
+                raise Wrong("an edit outside was answered %s" % told)
             return
-        kind, number = struct.unpack(">BI", told)
-        if kind != 0x84 or number <= self.accepted:
-            raise Wrong("%d edits were seen, and then one was answered %s" % (self.accepted, told.hex()))
-        self.shared.accept(number, (x, y, free))
-        self.sees(accepted=number)
+        self.is_one_of(asked, told, Accepted)
+        if told.number <= self.accepted:
+            raise Wrong("%d edits were seen, and then one was answered %s" % (self.accepted, told))
+        self.shared.accept(told.number, (*asked.cell, asked.terrain.value))
+        self.sees(accepted=told.number)
 
     def build(self, asked, told):
-        kind, version = struct.unpack(">BI", told[:5])
-        if kind not in (0x86, 0x87, 0x88) or len(told) != (13 if kind == 0x86 else 5):
-            raise Wrong("a build was answered %s" % told.hex())
-        if version < self.accepted:
-            raise Wrong("%d edits were seen, and then a build was answered %s" % (self.accepted, told.hex()))
-        self.shared.versions.add(version)
-        if kind == 0x86:
-            self.shared.publish(version)
-            self.keep("published", self.version, version, *struct.unpack(">II", told[5:]))
-        self.sees(version, version)
+        self.is_one_of(asked, told, Published, NothingNew, Overtaken)
+        if told.version < self.accepted:
+            raise Wrong("%d edits were seen, and then a build was answered %s" % (self.accepted, told))
+        self.shared.versions.add(told.version)
+        if isinstance(told, Published):
+            self.shared.publish(told.version)
+            self.keep("published", self.version, told.version, told.built, told.kept)
+        self.sees(told.version, told.version)
 
     def status(self, asked, told):
-        kind, version, accepted, cells, components, runs = struct.unpack(">BIIIIQ", told)
-        if kind != 0x89 or version < self.version or accepted < max(self.accepted, version):
-            raise Wrong("version %d, %d edits were seen, and then: %s" % (self.version, self.accepted, told.hex()))
-        self.sees(version, accepted)
-        self.shared.versions.add(version)
-        self.keep("status", version, cells, components, runs)
+        self.is_one_of(asked, told, Status)
+        if told.version < self.version or told.accepted < max(self.accepted, told.version):
+            raise Wrong("version %d, %d edits were seen, and then: %s" % (self.version, self.accepted, told))
+        self.sees(told.version, told.accepted)
+        self.shared.versions.add(told.version)
+        self.keep("status", told.version, told.cells, told.components, told.runs)
 
     def done(self, asked, told):
-        if told != b"\x8a":
-            raise Wrong("%s was answered %s" % (asked.hex(), told.hex()))
+        self.is_one_of(asked, told, Done)
 
     # ---- sessions
 
     def hear(self, frames):
         """Reads and judges the replies to these frames."""
         for asked in frames:
-            self.judge(asked, self.reply())
+            self.judge(asked, decoded(self.link.receive(time.monotonic() + PATIENCE)))
             self.shared.count("replies")
 
     def session(self):
         """Some requests, one or several at a time, and one of the ends."""
         for _ in range(self.rng.randint(1, 40)):
             asked = [self.request() for _ in range(self.rng.choice((1, 1, 1, 2, 8)))]
-            self.link.sendall(b"".join(asked))
-            self.hear(each[2:] for each in asked)
+            self.send(b"".join(map(encoded, asked)))
+            self.hear(map(frame_of, asked))
             time.sleep(self.rng.random() * 0.01)
         end = self.rng.random()
         if end < 0.4:
-            self.link.sendall(frame(BYE))
-            self.hear([frame(BYE)[2:]])
+            self.send(encoded(Bye()))
+            self.hear([frame_of(Bye())])
             self.ends()
         elif end < 0.8:
-            self.link.shutdown(socket.SHUT_WR)
+            self.link.end_input()
             self.ends()
         self.close(reset=0.9 < end)
 
@@ -276,7 +254,7 @@ class Client:
                 self.connect()
                 self.session()
                 self.shared.count("sessions")
-            except (Gone, OSError) as error:
+            except (ConnectionLost, NotConnected) as error:
                 if not self.shared.stopping.is_set():
                     self.shared.tell("a session broke off: %r" % error)
 
@@ -286,20 +264,21 @@ class Hostile(Client):
 
     def data(self):
         """Requests that change nothing, so that no edit is accepted whose number nobody reads."""
-        asked = [frame(QUERY, *self.rng.choice(self.shared.options.starts), *self.place()) for _ in range(8)]
-        return b"".join((asked + [frame(STATUS), frame(BUILD), b"\0\0", b"\0\1\xc8", b"\0\2\3\0"])[self.rng.randrange(8) :])
+        asked = [Query(self.rng.choice(self.shared.options.starts), self.place()) for _ in range(8)]
+        sent = [*map(encoded, [*asked, AskStatus(), Build()]), framed(b""), framed(b"\xc8"), framed(b"\3\0")]
+        return b"".join(sent[self.rng.randrange(8) :])
 
     def pour(self, data, ends=True):
         """Sends all at once, and hears the replies to the whole frames and then the end. What the server does not read
         resets the connection, so that replies may be lost."""
         frames, refused = cut(data)
         try:
-            self.link.sendall(data)
+            self.send(data)
             if ends:
-                self.link.shutdown(socket.SHUT_WR)
+                self.link.end_input()
             self.hear(frames)
             self.ends()
-        except (Gone, OSError):
+        except (ConnectionLost, OSError):
             if not refused:
                 raise
 
@@ -309,36 +288,37 @@ class Hostile(Client):
 
     def random_bytes(self):
         data = bytes(self.rng.choice((0, 0, 1, 2, 9, self.rng.randrange(256))) for _ in range(self.rng.randrange(200)))
-        if all(each[:1] not in (b"\2", b"\5", b"\6") or REQUEST_SIZES[each[0]] != len(each) for each in cut(data)[0]):
+        if not any(isinstance(decoded_request(each), (Change, Bye, Stop)) for each in cut(data)[0]):
             self.pour(data)
 
     def long_length(self):
-        data = self.data() + struct.pack(">H", self.rng.choice((65, 256, 65535, self.rng.randrange(65, 65536))))
+        length = self.rng.choice((65, 256, 65535, self.rng.randrange(65, 65536)))
+        data = self.data() + length.to_bytes(2, "big")
         self.pour(data + b"\1" * self.rng.choice((0, 1, 70, 70000)), ends=False)
 
     def byte_by_byte(self):
         for _ in range(self.rng.randint(1, 4)):
             asked = self.request()
-            for byte in asked:
-                self.link.sendall(bytes([byte]))
+            for byte in encoded(asked):
+                self.send(bytes([byte]))
                 time.sleep(self.rng.random() * 0.005)
-            self.hear([asked[2:]])
+            self.hear([frame_of(asked)])
 
     def reset(self):
         data = self.data()
         data = data[: self.rng.randrange(len(data) + 1)]
-        self.link.sendall(data)
-        if cut(data)[0]:
-            self.read(self.rng.randrange(3))
+        self.send(data)
+        frames = cut(data)[0]
+        self.hear(frames[: self.rng.randrange(3)])
 
     def unread(self):
         """Asks for more than the server can send to one who does not read."""
-        self.link.settimeout(1)
-        try:
-            for _ in range(1000):
-                self.link.sendall(self.data() * 100)
-        except socket.timeout:
-            self.shared.count("unread until nothing went")
+        with socket.create_connection(("127.0.0.1", self.shared.options.port), timeout=1) as blind:
+            try:
+                for _ in range(1000):
+                    blind.sendall(self.data() * 100)
+            except socket.timeout:
+                self.shared.count("unread until nothing went")
 
     def run(self):
         kinds = [self.half_frame, self.random_bytes, self.long_length, self.byte_by_byte, self.reset]
@@ -355,7 +335,7 @@ def guarded(client):
     """Runs a client to its end, and keeps what went wrong."""
     try:
         client.run()
-    except (Wrong, Gone, OSError) as error:
+    except (Wrong, PathServerError, OSError) as error:
         client.shared.tell("%s: %r" % (type(client).__name__, error))
     finally:
         if client.link:
@@ -401,27 +381,24 @@ def load(shared, process):
     last = Client(shared, 0)
     last.connect()
     shared.stopping.set()
-    last.link.sendall(frame(STATUS) + frame(STOP))
-    last.hear([frame(STATUS)[2:], frame(STOP)[2:]])
+    asked = [AskStatus(), Stop()]
+    last.send(b"".join(map(encoded, asked)))
+    last.hear(map(frame_of, asked))
     last.ends()
     end(shared, threads)
     return memory
 
 
-def judge_end(shared, text, status):
+def judge_end(shared, totals):
     """What the server printed against what was accepted and published."""
     accepted = len(shared.edits)
     if sorted(shared.edits) != list(range(1, accepted + 1)):
         shared.tell("the numbers of accepted edits have gaps")
-    lines = [line.split(" ") for line in text.split("\n")]
-    told = dict(line for line in lines if len(line) == 2)
-    if status != 0 or [line[0] for line in lines] != ["accepted", "published", "version", ""]:
-        shared.tell("the server ended with status %d and %r" % (status, text))
     # the builder hears the last edit before it hears of the end
-    elif int(told["accepted"]) != accepted or int(told["version"]) != accepted:
-        shared.tell("%d edits were accepted, and the server told: %s" % (accepted, told))
-    elif not len((shared.published | shared.versions) - {0}) <= int(told["published"]) <= accepted:
-        shared.tell("%d versions were seen, and the server told: %s" % (len(shared.versions), told))
+    if totals.accepted != accepted or totals.version != accepted:
+        shared.tell("%d edits were accepted, and the server told: %s" % (accepted, totals))
+    elif not len((shared.published | shared.versions) - {0}) <= totals.published <= accepted:
+        shared.tell("%d versions were seen, and the server told: %s" % (len(shared.versions), totals))
 
 
 def judge_replies(shared, folder):
@@ -446,10 +423,7 @@ def main():
         parser.add_argument("--" + name, type=int, default=default)
     parser.add_argument("--program", default=program_here())
     options = parser.parse_args()
-    if not options.port:
-        with socket.socket() as free:
-            free.bind(("127.0.0.1", 0))
-            options.port = free.getsockname()[1]
+    options.port = options.port or free_port()
     rng, side = random.Random(options.seed), options.side
     cells = {(x, y) for y in range(side) for x in range(side) if rng.random() < 0.75}
     options.starts = [(rng.randrange(side), rng.randrange(side)) for _ in range(40)]
@@ -459,19 +433,17 @@ def main():
         with open(name, "w") as file:
             file.write("type octile\nheight %d\nwidth %d\nmap\n" % (side, side))
             file.writelines("".join(".@"[(x, y) not in cells] for x in range(side)) + "\n" for y in range(side))
-        words = [options.program, "serve", name, str(options.port), str(options.doors), "--room", str(options.room)]
-        process = subprocess.Popen(words, stdout=subprocess.PIPE, stderr=subprocess.PIPE, bufsize=0)
+        server = None
         try:
-            first = process.stdout.readline()
-            if first != b"serving %d\n" % options.port:
-                raise Wrong("the server's first line is %r" % first)
-            before, after = load(shared, process)
-            text, told = [said.decode(errors="replace") for said in process.communicate(timeout=PATIENCE)]
-        except (Wrong, Gone, OSError, subprocess.TimeoutExpired) as error:
+            room = ["--room", str(options.room)]
+            server = Server(name, *room, port=options.port, doors=options.doors, program=options.program)
+            before, after = load(shared, server.process)
+            judge_end(shared, server.ended(PATIENCE))
+        except (Wrong, PathServerError, OSError) as error:
             sys.exit("\n".join("load.py: %s" % text for text in shared.wrong[:10] + ["the server does not end: %r" % error]))
         finally:
-            process.kill()
-        judge_end(shared, text, process.returncode)
+            if server:
+                server.kill()
         if after > before + LEEWAY:
             shared.tell("its memory grew from %.0f to %.0f MB" % (before, after))
         work = judge_replies(shared, folder)

@@ -4,27 +4,36 @@ should be.
 
 talk.py PROGRAM MAP, where MAP is `.@.`; talk.sh runs it.
 """
-import os, random, select, struct, subprocess, sys, time
+import os, random, subprocess, sys, time
 
 from judging import Judge
+from path_server import ChildLink, PathServerError
+from path_server.frames import decoded, framed, split_replies
 
 program, row = sys.argv[1:]
 judge = Judge("talk.sh")
 
 def start(*words):
-    return subprocess.Popen([program, "talk", *words], stdin=subprocess.PIPE, stdout=subprocess.PIPE,
-                            stderr=subprocess.PIPE, bufsize=0)
+    return ChildLink([program, "talk", *words])
 
-def read_exactly(talk, count):
-    """So many bytes, or those that come within five seconds or before the end."""
-    found = b""
-    end = time.monotonic() + 5
-    while len(found) < count and select.select([talk.stdout], [], [], max(0, end - time.monotonic()))[0]:
-        piece = os.read(talk.stdout.fileno(), count - len(found))
-        if not piece:
-            break
-        found += piece
-    return found
+def soon():
+    return time.monotonic() + 5
+
+def frame_from(talk):
+    """The next reply's frame, or what came instead, in five seconds."""
+    try:
+        return talk.receive(soon()).hex()
+    except PathServerError as fault:
+        return repr(fault)
+
+def end_of(talk):
+    """How a session ended: its status, whether bytes came in behind the last reply, and what was told."""
+    try:
+        talk.end(soon())
+        rest = ""
+    except PathServerError as fault:
+        rest = repr(fault)
+    return talk.process.wait(5), rest, talk.told()
 
 def whole(data, *words):
     """What a session over these bytes sends, what is told of it, and its status."""
@@ -46,12 +55,13 @@ for words in ([row], [row, "--room", "1"], [row, "--room=0", "--workers", "3", "
     talk = start(*words)
     for number, (asked, told) in enumerate(turns, 1):
         # two writes a frame, the second later: a frame may come in pieces
-        talk.stdin.write(asked[:1])
+        talk.send(asked[:1], soon())
         if number % 2:
             time.sleep(0.01)
-        talk.stdin.write(asked[1:])
-        judge(f"reply {number} of {words[1:]}", read_exactly(talk, len(told)).hex(), told.hex())
-    judge(f"the end of {words[1:]}", (talk.wait(5), talk.stdout.read(), talk.stderr.read()), (0, b"", b""))
+        talk.send(asked[1:], soon())
+        judge(f"reply {number} of {words[1:]}", frame_from(talk), told[4:].hex())
+    judge(f"the end of {words[1:]}", end_of(talk), (0, "", ""))
+    talk.close()
     judge(f"all at once, {words[1:]}", whole(b"".join(asked for asked, _ in turns), *words),
           (b"".join(told for _, told in turns), b"", 0))
 
@@ -69,10 +79,11 @@ judge("behind a reply", whole(query + bytes.fromhex("FFFF"), row),
       (turns[0][1], b"path_server talk: a frame of 65535 bytes is longer than 64\n", 9))
 
 # an output that nobody reads, and an input that cannot be read
-talk = start(row)
-talk.stdout.close()
-talk.stdin.write(query)
-judge("no reader", (talk.wait(5), talk.stderr.read()), (6, b"path_server: the output failed\n"))
+nobody, output = os.pipe()
+os.close(nobody)
+done = subprocess.run([program, "talk", row], input=query, stdout=output, stderr=subprocess.PIPE, timeout=10)
+os.close(output)
+judge("no reader", (done.stderr, done.returncode), (b"path_server: the output failed\n", 6))
 folder = os.open("/", os.O_RDONLY)
 done = subprocess.run([program, "talk", row], stdin=folder, capture_output=True, timeout=10)
 judge("a folder as input", (done.stdout, done.stderr, done.returncode),
@@ -85,14 +96,12 @@ while time.monotonic() < end:
     data = b""
     for _ in range(random.randrange(200)):
         frame = bytes(random.choice((0, 1, 2, 3, 4, 6, random.randrange(256))) for _ in range(random.choice((0, 1, 6, 9, 64))))
-        data += struct.pack(">H", len(frame)) + frame
+        data += framed(frame)
     data += bytes(random.randrange(256) for _ in range(random.randrange(4)))
     sent, said, status = whole(data, row)
     judge("the end after random bytes", status in (0, 9) and (said == b"") == (status == 0), True)
-    at = 0
-    while len(sent) - at >= 4 and len(sent) - at >= 4 + struct.unpack_from(">I", sent, at)[0]:
-        kind = sent[at + 4]
-        judge("the kind of a reply", 0x81 <= kind <= 0x8C, True)
-        at += 4 + struct.unpack_from(">I", sent, at)[0]
-    judge("whole replies", at, len(sent))
+    replies, rest = split_replies(sent)
+    judge("whole replies", rest, b"")
+    for reply in replies:
+        decoded(reply)
 sys.exit(judge.failed)

@@ -1,0 +1,78 @@
+"""The program `path_server` as a child process."""
+
+from __future__ import annotations
+
+import os
+import shutil
+import subprocess
+import tempfile
+from typing import IO, Optional, Sequence, cast
+
+from .faults import NotConnected
+
+
+def find_program() -> str:
+    """The program: that of the environment's PATH_SERVER, or the first `path_server` of its PATH.
+
+    NotConnected: there is none.
+    """
+    found = os.environ.get("PATH_SERVER") or shutil.which("path_server")
+    if not found:
+        raise NotConnected("no program path_server: neither PATH_SERVER nor PATH has one")
+    return found
+
+
+class Program:
+    """A child process with a pipe for its output, and one for its input where that is asked for. What it says on
+    standard error is kept."""
+
+    def __init__(self, command: Sequence[str], has_input: bool) -> None:
+        """Starts it.
+
+        NotConnected: it could not be started.
+        """
+        self._told = tempfile.TemporaryFile()
+        self._last_words = ""
+        given = subprocess.PIPE if has_input else subprocess.DEVNULL
+        try:
+            self.process = subprocess.Popen(
+                list(command), bufsize=0, stdin=given, stdout=subprocess.PIPE, stderr=self._told
+            )
+        except (OSError, ValueError) as fault:
+            self._told.close()
+            raise NotConnected("%s could not be started" % command[0]) from fault
+
+    @property
+    def output(self) -> IO[bytes]:
+        """What it writes."""
+        return cast("IO[bytes]", self.process.stdout)
+
+    @property
+    def input(self) -> IO[bytes]:
+        """What it reads, where it was asked for."""
+        return cast("IO[bytes]", self.process.stdin)
+
+    def told(self) -> str:
+        """What it has said on standard error so far, or up to its end."""
+        if not self._told.closed:
+            self._told.seek(0)
+            self._last_words = self._told.read().decode(errors="replace")
+        return self._last_words
+
+    def end(self, patience: float = 0.0) -> None:
+        """Closes its pipes and waits so many seconds until it has ended; else it is killed. A second time is no
+        fault."""
+        for pipe in (self.process.stdin, self.process.stdout):
+            if pipe is not None:
+                pipe.close()
+        status: Optional[int] = self.process.poll()
+        if status is None and patience:
+            try:
+                status = self.process.wait(patience)
+            except subprocess.TimeoutExpired:
+                pass
+        if status is None:
+            self.process.kill()
+            self.process.wait()
+        self.told()
+        self._told.close()

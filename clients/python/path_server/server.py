@@ -1,0 +1,121 @@
+"""Starts the program `path_server` as a server, and ends it."""
+
+from __future__ import annotations
+
+import select
+import socket
+import subprocess
+from dataclasses import dataclass
+from types import TracebackType
+from typing import Optional, Type
+
+from .client import Client
+from .faults import ProgramEnded, TimedOut
+from .programs import Program, find_program
+
+_TRIES = 5  # free ports that may be taken by another before the server has them
+_PORT_TAKEN = 5  # the program's status then
+
+
+def free_port() -> int:
+    """A port of this machine at which nobody listens now."""
+    with socket.socket() as one:
+        one.bind(("127.0.0.1", 0))
+        port: int = one.getsockname()[1]
+        return port
+
+
+@dataclass(frozen=True)
+class Totals:
+    """What a server says at its end: edits accepted, versions published, and the last version."""
+
+    accepted: int
+    published: int
+    version: int
+
+
+class Server:
+    """A `path_server serve` of one's own. It is stopped by `stop`, or killed where a `with` block ends."""
+
+    def __init__(
+        self,
+        map_file: str,
+        *options: str,
+        port: int = 0,
+        doors: int = 8,
+        program: Optional[str] = None,
+        timeout: float = 60.0,
+    ) -> None:
+        """Starts it at a port, or at a free one, and waits up to `timeout` seconds until it serves.
+
+        NotConnected: there is no such program. ProgramEnded: it refuses the map, the port or the options. TimedOut: the
+        map's database was not built in time.
+        """
+        command = [program or find_program(), "serve", map_file]
+        for left in reversed(range(1 if port else _TRIES)):
+            self.port = port or free_port()
+            self._program = Program([*command, str(self.port), str(doors), *options], has_input=False)
+            self.process = self._program.process
+            try:
+                self._hear_first_line(timeout)
+                return
+            except ProgramEnded as ended:
+                if ended.status != _PORT_TAKEN or "port" not in ended.told or not left:
+                    raise
+
+    def _hear_first_line(self, timeout: float) -> None:
+        poll = select.poll()
+        poll.register(self._program.output.fileno(), select.POLLIN)
+        if not poll.poll(timeout * 1000):
+            self.kill()
+            raise TimedOut("the server", timeout)
+        line = self._program.output.readline()
+        if line != b"serving %d\n" % self.port:
+            self._program.end(timeout)
+            raise ProgramEnded(self.process.returncode, self.told(), line)
+
+    def told(self) -> str:
+        """What the program has said on standard error so far, or up to its end."""
+        return self._program.told()
+
+    def connect(self, timeout: float = 10.0) -> Client:
+        """A session with it."""
+        return Client.connect(self.port, timeout=timeout)
+
+    def stop(self, timeout: float = 10.0) -> Totals:
+        """Stops it, waits until its last session has ended, and reads what it says then.
+
+        TimedOut: it did not end in time, as where a session of one's own is still open, and is killed. ProgramEnded: it ended with another status than 0.
+        """
+        try:
+            with self.connect(timeout) as client:
+                client.stop()
+        except TimedOut:
+            self.kill()
+            raise
+        return self.ended(timeout)
+
+    def ended(self, timeout: float = 10.0) -> Totals:
+        """Waits until it has ended by a stop, and reads what it says then."""
+        try:
+            text = self.process.communicate(timeout=timeout)[0].decode(errors="replace")
+        except subprocess.TimeoutExpired:
+            self.kill()
+            raise TimedOut("the server's end", timeout) from None
+        self.kill()
+        words = text.split()
+        if self.process.returncode != 0 or words[0::2] != ["accepted", "published", "version"]:
+            raise ProgramEnded(self.process.returncode, self.told(), text.encode())
+        return Totals(*(int(word) for word in words[1::2]))
+
+    def kill(self) -> None:
+        """Ends the program at once, where it still runs. A second time is no fault."""
+        self._program.end()
+
+    def __enter__(self) -> Server:
+        return self
+
+    def __exit__(
+        self, kind: Optional[Type[BaseException]], fault: Optional[BaseException], trace: Optional[TracebackType]
+    ) -> None:
+        self.kill()
