@@ -4,57 +4,54 @@ is started again at once. Prints only where something is not as it should be.
 
 serve.py PROGRAM MAP, where MAP is `.@.`; serve.sh runs it.
 """
-import os, random, socket, struct, subprocess, sys, tempfile, threading, time
+import random, socket, subprocess, sys, threading, time
 
 from judging import Judge
+from path_server import AskStatus, Bye, PathServerError, Query, Server, Stop, TcpLink, Totals, free_port
+from path_server.frames import encoded
 
 program, row = sys.argv[1:]
 judge = Judge("serve.sh")
-
-def free_port():
-    """A port at which nobody listens."""
-    with socket.socket() as one:
-        one.bind(("127.0.0.1", 0))
-        return one.getsockname()[1]
+PATIENCE = 10  # seconds that a reply may take
 
 def serve(map_file, port, doors, *options):
     """A server whose first line was read."""
-    server = subprocess.Popen([program, "serve", map_file, str(port), str(doors), *options],
-                              stdin=subprocess.DEVNULL, stdout=subprocess.PIPE, stderr=subprocess.PIPE)
-    judge("the first line", server.stdout.readline(), f"serving {port}\n".encode())
-    return server
+    return Server(map_file, *options, port=port, doors=doors, program=program, timeout=20)
 
-def ended(server, accepted, published, version, status=0):
+def ended(server, accepted, published, version):
     """Judges the last lines of a server, and its end."""
     try:
-        said, told = server.communicate(timeout=20)
-    except subprocess.TimeoutExpired:
-        server.kill()
-        said, told = server.communicate()
-    lines = f"accepted {accepted}\npublished {published}\nversion {version}\n".encode()
-    judge("the last lines", (said, told, server.returncode), (lines, b"", status))
+        totals = server.ended(20)
+    except PathServerError as fault:
+        totals = repr(fault)
+    judge("the last lines", (totals, server.told()), (Totals(accepted, published, version), ""))
 
 def connect(port):
-    link = socket.create_connection(("127.0.0.1", port), timeout=10)
-    link.setsockopt(socket.IPPROTO_TCP, socket.TCP_NODELAY, 1)
-    return link
+    return TcpLink(port, timeout=PATIENCE)
+
+def send(link, data):
+    link.send(data, time.monotonic() + PATIENCE)
 
 def read_frame(link):
-    """One reply, or what came of one."""
-    found = b""
-    while len(found) < 4 or len(found) < 4 + struct.unpack_from(">I", found)[0]:
-        piece = link.recv(4096)
-        if not piece:
-            break
-        found += piece
-    return found.hex()
+    """One reply's frame, or what came instead."""
+    try:
+        return link.receive(time.monotonic() + PATIENCE).hex()
+    except PathServerError as fault:
+        return repr(fault)
+
+def end_of(link):
+    """Nothing where the server closes the connection, or what came instead."""
+    try:
+        return link.end(time.monotonic() + PATIENCE)
+    except PathServerError as fault:
+        return repr(fault)
 
 def ask(port, words):
     done = subprocess.run([program, "ask", str(port), *words.split()], stdin=subprocess.DEVNULL,
                           capture_output=True, timeout=20)
     return done.stdout.decode(), done.stderr.decode(), done.returncode
 
-def answer_of(data, reset=False):
+def answer_of(data):
     """What `ask` says of a peer that reads a request, answers with these bytes and hangs up."""
     listener = socket.socket()
     listener.bind(("127.0.0.1", 0))
@@ -63,8 +60,6 @@ def answer_of(data, reset=False):
         link, _ = listener.accept()
         link.recv(64)
         link.sendall(data)
-        if reset:
-            link.setsockopt(socket.SOL_SOCKET, socket.SO_LINGER, struct.pack("ii", 1, 0))
         link.close()
     one = threading.Thread(target=peer, daemon=True)
     one.start()
@@ -74,23 +69,33 @@ def answer_of(data, reset=False):
     listener.close()
     return said[0], said[1].replace(str(port), "PORT"), said[2]
 
-QUERY = bytes.fromhex("0009 01 0000 0000 0002 0000")
-STATUS = bytes.fromhex("0001 04")
-BYE = bytes.fromhex("0001 05")
-STOP = bytes.fromhex("0001 06")
-UNREACHABLE = "000000058200000000"
+QUERY, STATUS = encoded(Query((0, 0), (2, 0))), encoded(AskStatus())
+BYE, STOP = encoded(Bye()), encoded(Stop())
+UNREACHABLE, DONE = "8200000000", "8a"
 
 # two doors beside each other: neither connection sends its second frame before both have their first reply
 port = free_port()
 server = serve(row, port, 2)
 links = [connect(port), connect(port)]
 for link in links:
-    link.sendall(QUERY)
+    send(link, QUERY)
 judge("first replies", [read_frame(link) for link in links], [UNREACHABLE] * 2)
 for link in links:
-    link.sendall(BYE)
-judge("second replies", [read_frame(link) for link in links], ["000000018a"] * 2)
-judge("behind a Bye", [link.recv(1) for link in links], [b"", b""])
+    send(link, BYE)
+judge("second replies", [read_frame(link) for link in links], [DONE] * 2)
+judge("behind a Bye", [end_of(link) for link in links], [None, None])
+for link in links:
+    link.close()
+
+# no reply is lost where a client has sent more than is read, behind a Bye or behind a frame that is too long
+for last, replies in ((BYE, [DONE]), (b"\0\x41", [])):
+    link = connect(port)
+    send(link, QUERY * 2000 + last + QUERY * 100)
+    time.sleep(0.3)
+    found = [read_frame(link) for _ in range(2000 + len(replies))]
+    judge("replies to whom sends on", (found.count(UNREACHABLE), found[2000:]), (2000, replies))
+    judge("behind them", end_of(link), None)
+    link.close()
 
 # each request, and each answer that a row of `.@.` can give
 # A change rings for the builder, so that its version may be there at once.
@@ -116,15 +121,15 @@ for words, *texts in DIALOGUE:
 for data in (b"\0", QUERY[:5], b"\0\x41", b"\xff\xff" * 40, b"\0\0" * 50, random.Random(1).randbytes(300)):
     for reset in (False, True):
         link = connect(port)
-        link.sendall(data)
+        send(link, data)
         if reset:
-            link.setsockopt(socket.SOL_SOCKET, socket.SO_LINGER, struct.pack("ii", 1, 0))
+            link.reset()
         link.close()
 link = connect(port)
 for at in range(len(QUERY)):
-    link.sendall(QUERY[at:at + 1])
+    send(link, QUERY[at:at + 1])
     time.sleep(0.002)
-judge("a frame byte by byte", read_frame(link), "0000000f8100000001000000020000000002" + "02")
+judge("a frame byte by byte", read_frame(link), "8100000001000000020000000002" + "02")
 link.close()
 judge("ask stop", ask(port, "stop"), ("done\n", "", 0))
 ended(server, 1, 1, 1)
@@ -137,8 +142,8 @@ judge("a port that is taken", (second.stdout, second.stderr.decode(), second.ret
 idle = [connect(port) for _ in range(63)]
 judge("one door left", ask(port, "change 1 0 1")[0], "accepted 1\n")
 for link in idle:
-    link.sendall(STATUS)
-judge("63 that were idle", {read_frame(link)[8:16] for link in idle}, {"89000000"})
+    send(link, STATUS)
+judge("63 that were idle", {read_frame(link)[:8] for link in idle}, {"89000000"})
 # a change that nobody asked to build is built at the ring of the bell
 deadline = time.monotonic() + 10
 while ask(port, "status")[0].split()[1] != "1" and time.monotonic() < deadline:
@@ -146,15 +151,15 @@ while ask(port, "status")[0].split()[1] != "1" and time.monotonic() < deadline:
 judge("the builder's version", ask(port, "status")[0], "version 1 accepted 1 cells 3 components 1 runs 4\n")
 # doors at which nobody changed anything: each sees the edit that came in at another one, and the version after it
 for link in idle:
-    link.sendall(STATUS)
-SEEN = "00000019" + "89" + "00000001" "00000001" "00000003" "00000001" "0000000000000004"
+    send(link, STATUS)
+SEEN = "89" + "00000001" "00000001" "00000003" "00000001" "0000000000000004"
 judge("what 63 other doors see", {read_frame(link) for link in idle}, {SEEN})
 for link in idle:
-    link.sendall(QUERY)
-judge("what 63 other doors answer", {read_frame(link) for link in idle}, {"0000000f810000000100000002000000000202"})
+    send(link, QUERY)
+judge("what 63 other doors answer", {read_frame(link) for link in idle}, {"810000000100000002000000000202"})
 link = idle[0]
-link.sendall(STOP)
-judge("a Stop", read_frame(link), "000000018a")
+send(link, STOP)
+judge("a Stop", read_frame(link), DONE)
 for link in idle:
     link.close()
 ended(server, 1, 1, 1)
@@ -166,5 +171,5 @@ BAD = ("bad answer\n", "path_server ask: what came in is no answer, or ended bef
 for name, data in (("too long", "0000800D"), ("half a frame", "0000000582000000"), ("nothing", ""),
                    ("half a length", "0000"), ("no reply", "0000000101"), ("a request", "000104")):
     judge(f"a peer that sends {name}", answer_of(bytes.fromhex(data)), BAD)
-judge("a peer that answers", answer_of(bytes.fromhex(UNREACHABLE))[0::2], ("version 0\nunreachable\n", 0))
+judge("a peer that answers", answer_of(bytes.fromhex("00000005" + UNREACHABLE))[0::2], ("version 0\nunreachable\n", 0))
 sys.exit(judge.failed)

@@ -1,10 +1,12 @@
 //! Cases of versions and walks, of edits, boards and replays, of scenarios, and of boards that threads share.
 #![tactic(auto)]
 
+mod alone;
 mod boards;
 mod builds;
 mod edits;
 mod fields;
+mod near;
 mod queries;
 mod scenarios;
 mod shared;
@@ -31,6 +33,10 @@ pub fn answer<R: Threads + Wait + Sync>(
         "ways" => builds::ways_said(rt, alloc, input)?,
         "walk" => walks::walk_said(rt, alloc, input)?,
         "walks" => walks::walks_said(rt, alloc, input)?,
+        "walks alone" => alone::alone_said(rt, alloc, input)?,
+        "near" => near::near_said(rt, alloc, input)?,
+        "near pairs" => near::pairs_said(rt, alloc, input)?,
+        "radius" => near::radius_said(rt, alloc, input)?,
         _ => return board_answer(rt, alloc, kind, input),
     };
     Ok(Some(said))

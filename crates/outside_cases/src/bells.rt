@@ -7,7 +7,7 @@ use std::fmt::Write;
 use std::sync::Wait;
 use std::thread;
 use std::thread::Threads;
-use wire::{Bell, Ear, HostBell, Ring, TurnEar};
+use wire::{Bell, Ear, HostBell, HostEar, Ring, TurnEar};
 
 /// Adds what an ear heard.
 fn push_ring(said: &mut String, ring: Ring) -> Result<(), AllocError> {
@@ -105,4 +105,50 @@ fn ring_times<R: Wait>(rt: &R, bell: &HostBell, rings: u32) {
     for _ in 0..rings {
         bell.ring(rt);
     }
+}
+
+/// `bells in turn | ROUNDS`: two threads wake each other so many times, each by a bell at whose ear the other waits. How
+/// many rings each has heard.
+pub(crate) fn in_turn<R: Threads + Wait + Sync>(
+    rt: &R,
+    alloc: Global,
+    input: &str,
+) -> Result<Option<String>, AllocError> {
+    match input.parse() {
+        Ok(rounds) => {
+            let (first, second) = heard_in_turn(rt, rounds);
+            Ok(Some(format!(in alloc; "{first} and {second} rings")?))
+        }
+        Err(_) => Ok(None),
+    }
+}
+
+/// How many rings each of two threads has heard that wake each other so many times.
+fn heard_in_turn<R: Threads + Wait + Sync>(rt: &R, rounds: u32) -> (u64, u64) {
+    let (there, back) = (HostBell::new(), HostBell::new());
+    thread::join(
+        rt,
+        || ring_and_wait(rt, &there, back.ear(), rounds),
+        || wait_and_ring(rt, there.ear(), &back, rounds),
+    )
+}
+
+/// Rings a bell and waits at an ear, so many times, and says how many rings were heard.
+fn ring_and_wait<R: Wait>(rt: &R, bell: &HostBell, mut ear: HostEar, rounds: u32) -> u64 {
+    let mut heard: u64 = 0;
+    for _ in 0..rounds {
+        bell.ring(rt);
+        heard = heard.saturating_add(u64::from(ear.wait(rt) == Ring::Rung));
+    }
+    heard
+}
+
+/// Waits at an ear and rings a bell, so many times, and says how many rings were heard.
+fn wait_and_ring<R: Wait>(rt: &R, mut ear: HostEar, bell: &HostBell, rounds: u32) -> u64 {
+    let mut heard: u64 = 0;
+    for _ in 0..rounds {
+        heard = heard.saturating_add(u64::from(ear.wait(rt) == Ring::Rung));
+        bell.ring(rt);
+    }
+    heard
 }

@@ -8,6 +8,7 @@
 mod answering;
 mod asking;
 mod bells;
+mod beside;
 mod boards;
 mod calls;
 mod devices;
@@ -49,6 +50,7 @@ pub fn answer<R: Threads + Wait + Sync>(
         "turn ear" => bells::turn_ear(rt, alloc, input),
         "bell" => bells::bell(rt, alloc, input),
         "bell between threads" => bells::between_threads(rt, alloc, input),
+        "bells in turn" => bells::in_turn(rt, alloc, input),
         "ask" => asking::ask_said(alloc, input),
         "answers" => answering::answers(rt, alloc, input),
         "rings" => answering::rings(rt, alloc, input),
@@ -57,6 +59,7 @@ pub fn answer<R: Threads + Wait + Sync>(
         "cut talk" => talks::cut_talk(rt, alloc, input),
         "failing talk" => talks::failing_talk(rt, alloc, input),
         "served" => serving::served(rt, alloc, input),
+        "served beside" => beside::served_beside(rt, alloc, input),
         _ => return Ok(None),
     };
     in_form(alloc, said)

@@ -1,4 +1,5 @@
 pub mod Telling
+pub mod NearTelling
 pub mod Writing
 pub mod FileLemmas
 pub mod ClapLemmas

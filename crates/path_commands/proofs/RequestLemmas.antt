@@ -13,7 +13,7 @@ use Rattle.clap.specs.Words.{Text, first_value, found_of, is_simple_and_free}
 use Rattle.clap.specs.declared.parser.matches.ArgMatches.{ArgMatches}
 use Rattle.clap.proofs.OnLiterals.{clap_on_literals}
 use Rattle.path_commands.specs.declared.commands.Verb.{Verb}
-use Rattle.path_commands.specs.declared.commands.Verb.TheVariants.{Path, Check, Scen, Made, Replay, Talk, Serve, Ask}
+use Rattle.path_commands.specs.declared.commands.Verb.TheVariants.{Path, Check, Near, NearPath, Scen, Made, Replay, Talk, Serve, Ask}
 use Rattle.path_commands.specs.declared.request.Request.{Request}
 use Rattle.path_commands.specs.declared.request.RequestError.TheVariants.{Usage}
 use Rattle.path_commands.specs.Commands.{app_for, verb_named, verb_of}
@@ -25,6 +25,8 @@ pub simple_app : (verb : Verb) → is_simple_and_free (app_for verb) ≡ true
 unfolding app_for command_app clap_on_literals
 simple_app Path = refl
 simple_app Check = refl
+simple_app Near = refl
+simple_app NearPath = refl
 simple_app Scen = refl
 simple_app Made = refl
 simple_app Replay = refl

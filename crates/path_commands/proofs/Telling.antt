@@ -1,49 +1,51 @@
--- A walk and its cost are the answer of a version.
-use Rattle.std.proofs.Common.{◌≡◌, ℕ, ◌≤◌, not, List, Some, None, sym, ap, subst, ◌∙◌, arith}
-use Rattle.std.proofs.lemmas.List.Sums.{count_by-le-length}
+-- The walk between two cells of a map is the answer of its first version, whether or not that is built.
+use Rattle.std.proofs.Common.{◌≡◌, ℕ, List, None, Some, Vec, sym, subst}
+use Rattle.std.specs.Global.{Global}
 use Rattle.root_cost.specs.declared.Cost.{Cost}
-use Rattle.root_cost.specs.declared.TheConstants.{MAX_STEPS}
 use Rattle.moves.specs.declared.Cell.{Cell}
-use Rattle.moves.specs.Moves.{is_diagonal}
-use Rattle.moves.specs.Paths.{Reaches, cost_of, IsLeastCost}
-use Rattle.moves.proofs.LawsOfPaths.{same_cost_of_best}
-use Rattle.versions.specs.Databases.{Versioned}
-use Rattle.versions.specs.Queries.{AreEnds}
-use Rattle.versions.specs.Answers.{unreachable, path}
-use Rattle.walker.specs.Walks.{Walking, BeginsWalk}
+use Rattle.moves.specs.declared.Move.{Move}
+use Rattle.moves.specs.Maps.{Map}
+use Rattle.moves.specs.Paths.{Reaches, cost_of}
+use Rattle.cell_order.specs.declared.OrderKind.{OrderKind}
+use Rattle.versions.specs.Databases.{Versioned, IsDatabase}
+use Rattle.versions.specs.Queries.{AreEnds, IsRefusal}
+use Rattle.versions.specs.Answers.{IsWalk, unreachable, path}
+use Rattle.walk_rows.specs.declared.WalkError.{WalkError}
+use Rattle.walk_rows.specs.declared.WalkError.TheVariants.{Refused, NoMemory}
+use Rattle.walk_rows.specs.Walks.{IsWalkCause, IsWalkOf}
+use Rattle.path_commands.specs.Queries.{TellsPath}
+use Rattle.path_commands.specs.Runs.{IsFirstPathCause, IsFirstVersion, TellsFirstAnswer}
+use Rattle.path_commands.specs.Statuses.{status_of_walk}
 use Rattle.path_commands.specs.Texts.{unreachable_text}
-use Rattle.path_commands.specs.Queries.{TellsAhead, TellsAnswer, TellsPath}
 
-pub tells_none : (version : Versioned) (start goal : Cell) (text : List ℕ) → AreEnds version.map start goal → (Reaches version.map start goal → ⊥) → text ≡ unreachable_text
-    → TellsAnswer version start goal text
-tells_none version start goal text ends none told = record { answer = unreachable; is = (ends, none); told = told }
+-- the database of a first version is that of the map
+database_of : (map : Map) (order : OrderKind) (version : Versioned) → IsFirstVersion map order version → IsDatabase map order version.comps
+database_of map order version first =
+    subst (λ o. IsDatabase map o version.comps) first.same_order (subst (λ m. IsDatabase m version.order version.comps) first.same_map first.whole.database)
 
-module _ (version : Versioned) (start goal : Cell) (walk : Walking) (begins : BeginsWalk version start goal walk) (cost : Cost) (least : IsLeastCost version.map start goal (Some cost)) where
-  -- the least cost is that of the walk
-  same_cost : cost ≡ cost_of begins.moves
-  same_cost = sym least.2 ∙ same_cost_of_best version.map start goal least.0 begins.moves least.1 begins.is.best
-
-  pub tells_walk : (text : List ℕ) → AreEnds version.map start goal → TellsAhead walk cost text → TellsAnswer version start goal text
-  tells_walk text ends told = record {
-    answer = path begins.moves;
-    is = (ends, begins.is);
-    told = subst (λ c. TellsPath c begins.moves text) same_cost (told begins.moves begins.ahead);
+module _ (map : Map) (order : OrderKind) (start goal : Cell) where
+  pub tells_none : (text : List ℕ) → AreEnds map start goal → IsWalkOf map order start goal None → text ≡ unreachable_text → TellsFirstAnswer map order start goal text
+  tells_none text ends none told = λ version first. record {
+    answer = unreachable;
+    is = (
+      subst (λ m. AreEnds m start goal) (sym first.same_map) ends,
+      λ reach. none version.comps (database_of map order version first) (subst (λ m. Reaches m start goal) first.same_map reach),
+    );
+    told = told;
   }
 
-  pub few_straight : cost.straight ≤ MAX_STEPS
-  few_straight =
-      let most = count_by-le-length (λ move. not (is_diagonal move)) begins.moves in
-      let few = begins.few in
-      let same = ap (λ c. c.straight) same_cost in
-      omega arith
+  pub tells_walk : (moves : Vec Move Global) (cost : Cost) (text : List ℕ) → AreEnds map start goal → IsWalkOf map order start goal (Some moves) → cost ≡ cost_of moves.items
+      → TellsPath cost moves.items text → TellsFirstAnswer map order start goal text
+  tells_walk moves cost text ends walk same told = λ version first. record {
+    answer = path moves.items;
+    is = (
+      subst (λ m. AreEnds m start goal) (sym first.same_map) ends,
+      subst (λ m. IsWalk m version.comps start goal moves.items) (sym first.same_map) (walk version.comps (database_of map order version first)),
+    );
+    told = subst (λ c. TellsPath c moves.items text) same told;
+  }
 
-  pub few_diagonal : cost.diagonal ≤ MAX_STEPS
-  few_diagonal =
-      let most = count_by-le-length is_diagonal begins.moves in
-      let few = begins.few in
-      let same = ap (λ c. c.diagonal) same_cost in
-      omega arith
-
--- where a walk begins there is a least cost
-pub has_cost : (version : Versioned) (start goal : Cell) (walk : Walking) → BeginsWalk version start goal walk → IsLeastCost version.map start goal None → ⊥
-has_cost version start goal walk begins none = none (begins.moves, begins.is.best.leads)
+  -- a refusal is that of the first version
+  pub walk_fails : (error : WalkError) → IsWalkCause map start goal error → IsFirstPathCause map order start goal (status_of_walk error)
+  walk_fails (Refused why) cause = λ version first. subst (λ m. IsRefusal m start goal why) (sym first.same_map) cause
+  walk_fails NoMemory cause = λ version first. tt

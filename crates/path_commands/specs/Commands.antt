@@ -4,7 +4,7 @@ use Rattle.std.specs.Str.{bytes_eq}
 use Rattle.clap.specs.Walk.{Rule, Text}
 use Rattle.clap.specs.Simple.{App}
 use Rattle.path_commands.specs.declared.commands.Verb.{Verb}
-use Rattle.path_commands.specs.declared.commands.Verb.TheVariants.{Path, Check, Scen, Made, Replay, Talk, Serve, Ask}
+use Rattle.path_commands.specs.declared.commands.Verb.TheVariants.{Path, Check, Near, NearPath, Scen, Made, Replay, Talk, Serve, Ask}
 use Rattle.path_commands.specs.declared.commands.Field.{Field}
 use Rattle.path_commands.specs.declared.commands.Field.TheVariants.{Argument, Setting, Several}
 use Rattle.path_commands.specs.declared.commands.Value.{Value}
@@ -42,12 +42,14 @@ with_build arguments =
     map required_rule arguments ++ option_rule (codes "order") ∷ option_rule (codes "workers") ∷ []
 
 abbrev pub verbs : List Verb
-verbs = Path ∷ Check ∷ Scen ∷ Made ∷ Replay ∷ Talk ∷ Serve ∷ Ask ∷ []
+verbs = Path ∷ Check ∷ Scen ∷ Made ∷ Replay ∷ Talk ∷ Serve ∷ Ask ∷ Near ∷ NearPath ∷ []
 
 -- the word that names the command
 abbrev pub verb_name : Verb → Text
 verb_name Path = codes "path"
 verb_name Check = codes "check"
+verb_name Near = codes "near"
+verb_name NearPath = codes "nearpath"
 verb_name Scen = codes "scen"
 verb_name Made = codes "made"
 verb_name Replay = codes "replay"
@@ -60,6 +62,9 @@ abbrev pub verb_rules : Verb → List Rule
 verb_rules Path =
     with_build (codes "MAP" ∷ codes "SX" ∷ codes "SY" ∷ codes "GX" ∷ codes "GY" ∷ [])
 verb_rules Check = with_build (codes "MAP" ∷ [])
+verb_rules Near = with_build (codes "MAP" ∷ [])
+verb_rules NearPath =
+    with_build (codes "MAP" ∷ codes "SX" ∷ codes "SY" ∷ codes "GX" ∷ codes "GY" ∷ [])
 verb_rules Scen = with_build (codes "MAP" ∷ codes "SCEN" ∷ [])
 verb_rules Made = with_build (codes "W" ∷ codes "H" ∷ codes "SEED" ∷ [])
 verb_rules Replay = with_build (codes "MAP" ∷ codes "EVENTS" ∷ [])
@@ -72,6 +77,8 @@ verb_rules Ask = required_rule (codes "PORT") ∷ several_rule (codes "WORDS") �
 abbrev pub verb_synopsis : Verb → Text
 verb_synopsis Path = codes " MAP SX SY GX GY [--order rows|dfs] [--workers N]"
 verb_synopsis Check = codes " MAP [--order rows|dfs] [--workers N]"
+verb_synopsis Near = codes " MAP [--order rows|dfs] [--workers N]"
+verb_synopsis NearPath = codes " MAP SX SY GX GY [--order rows|dfs] [--workers N]"
 verb_synopsis Scen = codes " MAP SCEN [--order rows|dfs] [--workers N]"
 verb_synopsis Made = codes " W H SEED [--order rows|dfs] [--workers N]"
 verb_synopsis Replay = codes " MAP EVENTS [--order rows|dfs] [--workers N]"

@@ -4,6 +4,7 @@ pub mod Requests
 pub mod PlainWords
 pub mod Texts
 pub mod Queries
+pub mod NearQueries
 pub mod Statuses
 pub mod HeardTexts
 pub mod SaidRequests

@@ -1,5 +1,5 @@
 -- What is printed of the answers of a version.
-use Rattle.std.specs.Prelude.{◌≡◌, ◌++◌, ℕ, List}
+use Rattle.std.specs.Prelude.{◌≡◌, ℕ, List}
 use Rattle.root_cost.specs.declared.Cost.{Cost}
 use Rattle.root_cost.specs.Costs.{IsMicro}
 use Rattle.moves.specs.declared.Cell.{Cell}
@@ -7,7 +7,6 @@ use Rattle.moves.specs.declared.Move.{Move}
 use Rattle.moves.specs.Paths.{cost_of}
 use Rattle.versions.specs.Databases.{Versioned}
 use Rattle.versions.specs.Answers.{Answer, refused, unreachable, path, IsAnswer}
-use Rattle.walker.specs.Walks.{Walking, IsAhead}
 use Rattle.scen_read.specs.declared.scenario.ScenLine.{ScenLine}
 use Rattle.scen_run.specs.declared.queries.QueryTotals.{QueryTotals}
 use Rattle.scen_run.specs.declared.results.LineResult.{LineResult}
@@ -17,7 +16,7 @@ use Rattle.scen_run.specs.Results.{AreLineResults}
 use Rattle.path_core.specs.Boards.{Boarded, new_board}
 use Rattle.path_replay.specs.declared.event.Event.{Event}
 use Rattle.path_replay.specs.Replays.{IsReplay}
-use Rattle.path_commands.specs.Texts.{head_text, made_text, names_text, path_text, unreachable_text}
+use Rattle.path_commands.specs.Texts.{head_text, made_text, path_text, unreachable_text}
 
 -- the text tells the cost and the floor of the exact length, and goes up to the moves
 pub record TellsHead (cost : Cost) (text : List ℕ) : Type 0 where
@@ -59,13 +58,3 @@ pub record TellsTotals (version : Versioned) (seed : ℕ) (text : List ℕ) : Ty
 pub record TellsReplay (version : Versioned) (events : List Event) (text : List ℕ) : Type 0 where
   pub board : Boarded
   pub is : IsReplay (new_board version.map version 0) events text board
-
--- ---- while a walk is read
-
--- the text grew by the moves that are ahead of the walk
-abbrev pub AppendsAhead : Walking → List ℕ → List ℕ → Type 0
-AppendsAhead walk old new = (moves : List Move) → IsAhead walk moves → new ≡ old ++ names_text moves
-
--- the text tells the cost and the moves that are ahead of the walk
-abbrev pub TellsAhead : Walking → Cost → List ℕ → Type 0
-TellsAhead walk cost text = (moves : List Move) → IsAhead walk moves → TellsPath cost moves text

@@ -14,7 +14,7 @@ use Rattle.path_commands.specs.declared.commands.Verb.{Verb}
 use Rattle.path_commands.specs.declared.commands.Verb.TheVariants as verb
 use Rattle.path_commands.specs.declared.request.BuildOptions.{BuildOptions}
 use Rattle.path_commands.specs.declared.request.Request.{Request}
-use Rattle.path_commands.specs.declared.request.Request.TheVariants.{Path, Check, Scen, Made, Replay, Talk, Serve, Ask}
+use Rattle.path_commands.specs.declared.request.Request.TheVariants.{Path, Check, Near, NearPath, Scen, Made, Replay, Talk, Serve, Ask}
 use Rattle.path_commands.specs.declared.request.Sides.{Sides}
 use Rattle.path_commands.specs.declared.words.TheConstants.{STANDARD_ROOM}
 use Rattle.path_commands.specs.declared.words.NumberKind.{NumberKind}
@@ -25,13 +25,16 @@ use Rattle.path_commands.specs.Words.{texts_of, value_of, values_of, workers_in}
 use Rattle.path_commands.specs.SaidRequests.{Said, request_said, said_of}
 
 -- What is asked for, each with how a database is built: a best path between two cells of a map;
--- whether a file is a map; what a map says of a file of scenarios; the map that is made of two sides
+-- whether a file is a map; how many runs a map has where compass moves need none; a best path by such
+-- moves; what a map says of a file of scenarios; the map that is made of two sides
 -- and a seed; what a file of events prints on a board that begins with a map; a session on such
 -- a board, with its room; sessions at so many doors of a port on such a board; and, without a
 -- database, one request to the server at a port.
 pub data Asked : Type 0 where
   path : Text → Cell → Cell → BuildOptions → Asked
   check : Text → BuildOptions → Asked
+  near : Text → BuildOptions → Asked
+  nearpath : Text → Cell → Cell → BuildOptions → Asked
   scen : Text → Text → BuildOptions → Asked
   made : Sides → ℕ → BuildOptions → Asked
   replay : Text → Text → BuildOptions → Asked
@@ -43,6 +46,8 @@ pub data Asked : Type 0 where
 abbrev pub asked : Request → Asked
 asked (Path map start goal build) = path map.now start goal build
 asked (Check map build) = check map.now build
+asked (Near map build) = near map.now build
+asked (NearPath map start goal build) = nearpath map.now start goal build
 asked (Scen map scenarios build) = scen map.now scenarios.now build
 asked (Made sides seed build) = made sides seed build
 asked (Replay map events build) = replay map.now events.now build
@@ -54,6 +59,8 @@ asked (Ask port request) = ask port (said_of request)
 abbrev pub verb_asked : Asked → Verb
 verb_asked (path map start goal build) = verb.Path
 verb_asked (check map build) = verb.Check
+verb_asked (near map build) = verb.Near
+verb_asked (nearpath map start goal build) = verb.NearPath
 verb_asked (scen map scenarios build) = verb.Scen
 verb_asked (made sides seed build) = verb.Made
 verb_asked (replay map events build) = verb.Replay
@@ -65,6 +72,8 @@ verb_asked (ask port said) = verb.Ask
 abbrev pub build_of : Asked → BuildOptions
 build_of (path map start goal build) = build
 build_of (check map build) = build
+build_of (near map build) = build
+build_of (nearpath map start goal build) = build
 build_of (scen map scenarios build) = build
 build_of (made sides seed build) = build
 build_of (replay map events build) = build
@@ -170,6 +179,24 @@ check_from _ _ = None
 unfoldable pub check_by : Values → Option Asked
 check_by values = check_from (path_at values (codes "MAP")) (build_at values)
 
+abbrev pub near_from : Option Text → Option BuildOptions → Option Asked
+near_from (Some map) (Some build) = Some (near map build)
+near_from _ _ = None
+
+-- `near MAP`
+unfoldable pub near_by : Values → Option Asked
+near_by values = near_from (path_at values (codes "MAP")) (build_at values)
+
+abbrev pub nearpath_from : Option Text → Option Cell → Option Cell → Option BuildOptions → Option Asked
+nearpath_from (Some map) (Some start) (Some goal) (Some build) = Some (nearpath map start goal build)
+nearpath_from _ _ _ _ = None
+
+-- `nearpath MAP SX SY GX GY`
+unfoldable pub nearpath_by : Values → Option Asked
+nearpath_by values = nearpath_from (path_at values (codes "MAP"))
+    (cell_at values (codes "SX") (codes "SY")) (cell_at values (codes "GX") (codes "GY"))
+    (build_at values)
+
 abbrev pub scen_from : Option Text → Option Text → Option BuildOptions → Option Asked
 scen_from (Some map) (Some scenarios) (Some build) = Some (scen map scenarios build)
 scen_from _ _ _ = None
@@ -241,6 +268,8 @@ ask_by values lists = ask_from (number_at number.Port values (codes "PORT")) (sa
 abbrev pub asked_by : Verb → Values → Lists → Option Asked
 asked_by verb.Path values lists = path_by values
 asked_by verb.Check values lists = check_by values
+asked_by verb.Near values lists = near_by values
+asked_by verb.NearPath values lists = nearpath_by values
 asked_by verb.Scen values lists = scen_by values
 asked_by verb.Made values lists = made_by values
 asked_by verb.Replay values lists = replay_by values

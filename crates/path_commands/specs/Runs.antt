@@ -31,9 +31,10 @@ use Rattle.path_commands.specs.declared.status.Status.TheVariants as status
 use Rattle.path_commands.specs.declared.task.Task.{Task}
 use Rattle.path_commands.specs.declared.task.Task.TheVariants as task
 use Rattle.path_commands.specs.Words.{texts_of}
-use Rattle.path_commands.specs.Requests.{Asked, path, check, scen, made, replay, talk, serve, ask, build_of, request_of}
+use Rattle.path_commands.specs.Requests.{Asked, path, check, near, nearpath, scen, made, replay, talk, serve, ask, build_of, request_of}
 use Rattle.path_commands.specs.Texts.{check_text}
 use Rattle.path_commands.specs.Queries.{TellsAnswer, TellsReplay, TellsResults, TellsTotals}
+use Rattle.path_commands.specs.NearQueries.{TellsNear, TellsNearAnswer}
 use Rattle.path_commands.specs.Statuses.{status_text}
 
 -- a file in a run: its bytes, where they are told, and how often reading it has failed, before the
@@ -120,6 +121,8 @@ map_made sides seed = formula_map sides.width sides.height seed
 abbrev pub GivesMap : (Text → RunFile) → Asked → Map → Type 0
 GivesMap file (path name start goal build) map = HoldsMap (file name) map
 GivesMap file (check name build) map = HoldsMap (file name) map
+GivesMap file (near name build) map = HoldsMap (file name) map
+GivesMap file (nearpath name start goal build) map = HoldsMap (file name) map
 GivesMap file (scen name scenarios build) map = HoldsMap (file name) map
 GivesMap file (made sides seed build) map = IsMade (map_made sides seed) (Whole map)
 GivesMap file (replay name events build) map = HoldsMap (file name) map
@@ -144,6 +147,8 @@ pub record GivesEvents (file : RunFile) (asked : Task) : Type 0 where
 abbrev pub GivesTask : (Text → RunFile) → Asked → Task → Type 0
 GivesTask file (path name start goal build) asked = asked ≡ task.Path start goal
 GivesTask file (check name build) asked = asked ≡ task.Check
+GivesTask file (near name build) asked = asked ≡ task.Near
+GivesTask file (nearpath name start goal build) asked = asked ≡ task.NearPath start goal
 GivesTask file (scen name scenarios build) asked = GivesScenarios (file scenarios) asked
 GivesTask file (made sides seed build) asked = asked ≡ task.Made seed
 GivesTask file (replay name events build) asked = GivesEvents (file events) asked
@@ -173,9 +178,22 @@ pub record AsksOf (run : Run) (task : Task) (version : Versioned) : Type 0 where
 abbrev pub IsAnswerOn : Versioned → Task → List ℕ → Type 0
 IsAnswerOn version (task.Path start goal) text = TellsAnswer version start goal text
 IsAnswerOn version task.Check text = text ≡ check_text version
+IsAnswerOn version task.Near text = TellsNear version text
+IsAnswerOn version (task.NearPath start goal) text = TellsNearAnswer version start goal text
 IsAnswerOn version (task.Scen lines) text = TellsResults version lines.items text
 IsAnswerOn version (task.Made seed) text = TellsTotals version seed text
 IsAnswerOn version (task.Replay events) text = TellsReplay version events.items text
+
+-- the text tells what the first version of a map in that order answers, of which there is just one
+abbrev pub TellsFirstAnswer : Map → OrderKind → Cell → Cell → List ℕ → Type 0
+TellsFirstAnswer map order start goal text =
+    (version : Versioned) → IsFirstVersion map order version → TellsAnswer version start goal text
+
+-- the text is what the first version of a map answers
+pub record IsFirstAnswer (map : Map) (order : OrderKind) (task : Task) (text : List ℕ) : Type 0 where
+  pub version : Versioned
+  pub first : IsFirstVersion map order version
+  pub answers : IsAnswerOn version task text
 
 -- the words ask for something of a map, and the text is what its first version answers
 pub record IsAnswerTo (run : Run) (text : List ℕ) : Type 0 where
@@ -218,6 +236,8 @@ IsEventsFileCause file cause = IsFileCause file MAX_EVENTS_BYTES cause
 abbrev pub GivesNoMap : (Text → RunFile) → Asked → Status → Type 0
 GivesNoMap file (path name start goal build) cause = IsMapFileCause (file name) cause
 GivesNoMap file (check name build) cause = IsMapFileCause (file name) cause
+GivesNoMap file (near name build) cause = IsMapFileCause (file name) cause
+GivesNoMap file (nearpath name start goal build) cause = IsMapFileCause (file name) cause
 GivesNoMap file (scen name scenarios build) cause = IsMapFileCause (file name) cause
 GivesNoMap file (made sides seed build) cause = IsMadeCause (map_made sides seed) cause
 GivesNoMap file (replay name events build) cause = IsMapFileCause (file name) cause
@@ -240,7 +260,19 @@ IsPathCause version start goal _ = ⊥
 -- why what was asked of a version has no answer
 abbrev pub IsVersionCause : Versioned → Task → Status → Type 0
 IsVersionCause version (task.Path start goal) cause = IsPathCause version start goal cause
+IsVersionCause version (task.NearPath start goal) cause = IsPathCause version start goal cause
 IsVersionCause version _ cause = cause ≡ status.NoMemory
+
+-- why a query of the first version of a map in that order has no text
+abbrev pub IsFirstPathCause : Map → OrderKind → Cell → Cell → Status → Type 0
+IsFirstPathCause map order start goal cause =
+    (version : Versioned) → IsFirstVersion map order version → IsPathCause version start goal cause
+
+-- why what was asked of the first version of a map has no answer
+pub record IsFirstCause (map : Map) (order : OrderKind) (task : Task) (cause : Status) : Type 0 where
+  pub version : Versioned
+  pub first : IsFirstVersion map order version
+  pub fails : IsVersionCause version task cause
 
 -- the words ask for something, and there is no map for it
 pub record FailsByMap (run : Run) (cause : Status) : Type 0 where

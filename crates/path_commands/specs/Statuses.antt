@@ -12,13 +12,15 @@ use Rattle.path_commands.specs.declared.request.RequestError.TheVariants as erro
 use Rattle.path_commands.specs.declared.status.Status.{Status}
 use Rattle.path_commands.specs.declared.status.Status.TheVariants as status
 use Rattle.versions.specs.Queries.{refusal_text}
+use Rattle.walk_rows.specs.declared.WalkError.{WalkError}
+use Rattle.walk_rows.specs.declared.WalkError.TheVariants as walk
 use Rattle.path_commands.specs.Texts.{line}
 
 -- the line of a status, without its end; nothing where a text of its own was printed, where the
 -- output fails, and where a session broke off
 abbrev pub status_words : Status → List ℕ
 status_words status.Done = []
-status_words status.Usage = codes "usage: path check scen made replay talk serve ask"
+status_words status.Usage = codes "usage: path check scen made replay talk serve ask near nearpath"
 status_words (status.Map fault) = codes "map refused: " ++ fault_text fault
 status_words (status.Scen fault) = codes "scenario refused: " ++ scenario_fault_text fault
 status_words (status.Query refusal) = refusal_text refusal
@@ -53,6 +55,11 @@ status_code (status.Events line) = 11
 abbrev pub status_of : RequestError → Status
 status_of error.Usage = status.Usage
 status_of error.NoMemory = status.NoMemory
+
+-- the status where no walk is told
+abbrev pub status_of_walk : WalkError → Status
+status_of_walk (walk.Refused why) = status.Query why
+status_of_walk walk.NoMemory = status.NoMemory
 
 -- the status of a session that ended in a fault
 abbrev pub status_for : SessionFault → Status

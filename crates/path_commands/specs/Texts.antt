@@ -49,6 +49,10 @@ check_text version =
     line (codes "size " ++ decimal version.map.width ++ codes " " ++ decimal version.map.height)
     ++ size_text version
 
+-- what `near` prints behind what `check` prints: how many runs all near rows have, and the greatest near radius
+abbrev pub near_text : ℕ → ℕ → List ℕ
+near_text runs widest = line (codes "near " ++ decimal runs) ++ line (codes "widest " ++ decimal widest)
+
 -- how many queries there were, how many have no path, and the straight and the diagonal moves
 abbrev pub totals_text : QueryTotals → List ℕ
 totals_text totals =

@@ -19,6 +19,10 @@ pub enum Verb {
     Path,
     /// Whether a file is a map, and its size.
     Check,
+    /// How many runs a map has where compass moves need none, and how far these are right.
+    Near,
+    /// A best path between two cells of a map, by compass moves where they are right.
+    NearPath,
     /// What a map says of a file of scenarios.
     Scen,
     /// How large a map is that is made of two sides and a seed, and what queries on it come to.
@@ -116,7 +120,7 @@ static ASK_FIELDS: [Field; 2] = [
 
 impl Verb {
     /// All commands.
-    pub const ALL: [Verb; 8] = [
+    pub const ALL: [Verb; 10] = [
         Verb::Path,
         Verb::Check,
         Verb::Scen,
@@ -125,6 +129,8 @@ impl Verb {
         Verb::Talk,
         Verb::Serve,
         Verb::Ask,
+        Verb::Near,
+        Verb::NearPath,
     ];
 
     /// The word that names the command.
@@ -134,6 +140,8 @@ impl Verb {
         match self {
             Verb::Path => "path",
             Verb::Check => "check",
+            Verb::Near => "near",
+            Verb::NearPath => "nearpath",
             Verb::Scen => "scen",
             Verb::Made => "made",
             Verb::Replay => "replay",
@@ -150,13 +158,50 @@ impl Verb {
     {
         match self {
             Verb::Path => PATH_FIELDS.as_slice(),
-            Verb::Check => CHECK_FIELDS.as_slice(),
+            Verb::Check | Verb::Near => CHECK_FIELDS.as_slice(),
+            Verb::NearPath => PATH_FIELDS.as_slice(),
             Verb::Scen => SCEN_FIELDS.as_slice(),
             Verb::Made => MADE_FIELDS.as_slice(),
             Verb::Replay => REPLAY_FIELDS.as_slice(),
             Verb::Talk => TALK_FIELDS.as_slice(),
             Verb::Serve => SERVE_FIELDS.as_slice(),
             Verb::Ask => ASK_FIELDS.as_slice(),
+        }
+    }
+
+    /// What it does, in a line.
+    pub(crate) fn purpose(self) -> &'static str {
+        match self {
+            Verb::Path =>
+                "prints the cost, the length and the moves of an optimal path, or unreachable",
+            Verb::Check =>
+                "prints the sides, the passable cells, the components and the runs of a map",
+            Verb::Scen =>
+                "compares the lengths of a scenario file with those of the map, line by line",
+            Verb::Made => "measures the map that a formula makes of two sides and a seed",
+            Verb::Replay => "prints what edits, builds and queries of a file come to, line by line",
+            Verb::Talk => "answers frames of requests on standard input until it ends",
+            Verb::Serve => "answers the same requests over TCP at a port of this machine",
+            Verb::Ask => "prints what a server answers to one request",
+            Verb::Near =>
+                "prints what check prints, and how many runs are left where the compass is right",
+            Verb::NearPath => "prints an optimal path that goes by the compass where that is right",
+        }
+    }
+
+    /// How it may be called.
+    pub(crate) fn example(self) -> &'static str {
+        match self {
+            Verb::Path => "path_server path maps/tutorial.map 2 2 37 17",
+            Verb::Check => "path_server check maps/tutorial.map --order dfs",
+            Verb::Scen => "path_server scen maps/tutorial.map tutorial.scen",
+            Verb::Made => "path_server made 64 64 7",
+            Verb::Replay => "path_server replay maps/tutorial.map events.txt",
+            Verb::Talk => "path_server talk maps/tutorial.map --room 1000",
+            Verb::Serve => "path_server serve maps/tutorial.map 4000 8",
+            Verb::Ask => "path_server ask 4000 change 20 9 0",
+            Verb::Near => "path_server near maps/tutorial.map",
+            Verb::NearPath => "path_server nearpath maps/tutorial.map 2 2 37 17",
         }
     }
 
@@ -192,6 +237,31 @@ fn first_place(verbs: &[Verb], name: &str) -> Option<usize>
 }
 
 impl Field {
+    /// What its value is for.
+    pub(crate) fn meaning(self) -> &'static str {
+        let (Field::Argument(id, _) | Field::Setting(id, _) | Field::Several(id)) = self;
+        match id {
+            "MAP" => "the map, in the format of MovingAI",
+            "SX" => "the column of the start, from the left",
+            "SY" => "the row of the start, from above",
+            "GX" => "the column of the goal",
+            "GY" => "the row of the goal",
+            "SCEN" => "the scenarios, in the format of MovingAI",
+            "EVENTS" => "the events, one a line",
+            "W" => "how many columns the map has",
+            "H" => "how many rows it has",
+            "SEED" => "what the formula mixes in",
+            "PORT" => "the port of this machine, at 127.0.0.1",
+            "DOORS" => "how many connections are served side by side",
+            "WORDS" => {
+                "query SX SY GX GY, change X Y 0 (blocked) or 1 (passable), build, status, bye or stop"
+            }
+            "order" => "the order of the cells in the database",
+            "workers" => "how many threads build it",
+            _ => "for how many entries of edits and versions memory is taken first",
+        }
+    }
+
     /// What clap is told of it.
     fn arg<'a>(self, alloc: Global) -> Arg<'a>
         ensures rule { rule_of result ≡ rule_for self }

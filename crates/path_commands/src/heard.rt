@@ -42,7 +42,7 @@ fn found_text(alloc: Global, version: u32, cost: Cost, moves: &[Move]) -> Result
 }
 
 /// The cost, the length and the moves of a path, a line each.
-fn path_of(alloc: Global, cost: Cost, moves: &[Move]) -> Result<String, AllocError>
+pub(crate) fn path_of(alloc: Global, cost: Cost, moves: &[Move]) -> Result<String, AllocError>
     requires straight { cost.straight ≤ MAX_STEPS }
     requires diagonal { cost.diagonal ≤ MAX_STEPS }
     ensures { IfOk result (λ text. TellsPath cost moves.now (string_bytes text)) }

@@ -6,6 +6,9 @@ ghost use Rattle.path_commands.specs.Commands.{field_text, verb_name, verb_synop
 ghost use Rattle.path_commands.specs.Texts.{line};
 
 use crate::commands::{Field, Verb, command};
+use crate::pages::{
+    asks_for_help, asks_for_version, nearest, push_page, push_page_of, push_version,
+};
 use crate::request::{Request, RequestError, first_verb, read_request};
 use crate::status::Status;
 use clap::ArgMatches;
@@ -95,6 +98,8 @@ fn push_on_file(
         (Status::Map(fault), Request::Made { .. }) => push_made_fault(text, *fault),
         (Status::Map(fault), Request::Path { map, .. }) => push_map_fault(text, map, *fault),
         (Status::Map(fault), Request::Check { map, .. }) => push_map_fault(text, map, *fault),
+        (Status::Map(fault), Request::Near { map, .. }) => push_map_fault(text, map, *fault),
+        (Status::Map(fault), Request::NearPath { map, .. }) => push_map_fault(text, map, *fault),
         (Status::Map(fault), Request::Scen { map, .. }) => push_map_fault(text, map, *fault),
         (Status::Map(fault), Request::Replay { map, .. }) => push_map_fault(text, map, *fault),
         (Status::Map(fault), Request::Talk { map, .. }) => push_map_fault(text, map, *fault),
@@ -108,6 +113,15 @@ fn push_on_file(
         (
             Status::Query(refusal),
             Request::Path {
+                map,
+                start,
+                goal,
+                ..
+            },
+        ) => { push_refusal(text, map, start, goal, *refusal) }
+        (
+            Status::Query(refusal),
+            Request::NearPath {
                 map,
                 start,
                 goal,
@@ -141,6 +155,7 @@ fn push_bad_answer(text: &mut String, port: u16) -> Result<(), AllocError> {
 fn push_files(text: &mut String, request: Request) -> Result<(), AllocError> {
     match request {
         Request::Path { map, .. } | Request::Check { map, .. } => text.push_str(map),
+        Request::Near { map, .. } | Request::NearPath { map, .. } => text.push_str(map),
         Request::Talk { map, .. } | Request::Serve { map, .. } => text.push_str(map),
         Request::Scen { map, scenarios, .. } => write!(text, "{map} or {scenarios}"),
         Request::Replay { map, events, .. } => write!(text, "{map} or {events}"),
@@ -201,10 +216,8 @@ fn push_map_fault(text: &mut String, file: &str, fault: MapFault) -> Result<(), 
             ..
         } => write!(text, "{expected} cells, found {found}\n"),
         MapFault::BadCell { x, byte, .. } => {
-            write!(
-                text,
-                "one of . G S @ O T at column {x}, found byte {byte}\n"
-            )
+            write!(text, "one of . G S @ O T at column {x}, found ")?;
+            push_byte(text, byte)
         }
         MapFault::Water { x, .. } => {
             write!(text, "one of . G S @ O T at column {x}, found water (W)\n")
@@ -217,6 +230,19 @@ fn push_map_fault(text: &mut String, file: &str, fault: MapFault) -> Result<(), 
                 "at most {MAX_PASSABLE} passable cells, one more at column {x}\n"
             )
         }
+    }
+}
+
+/// A byte of a map: the letter, or the number where it is none that can be printed.
+fn push_byte(text: &mut String, byte: u8) -> Result<(), AllocError> {
+    match byte {
+        b'!'..=b'~' => {
+            let letter = char::from(byte);
+            write!(text, "'{letter}'\n")
+        }
+        b' ' => text.push_str("a space\n"),
+        b'\t' => text.push_str("a tab\n"),
+        _ => write!(text, "byte {byte}\n"),
     }
 }
 
@@ -258,7 +284,7 @@ fn push_events_fault(text: &mut String, file: &str, line: u32) -> Result<(), All
 fn field_wanted(field: u32) -> &'static str {
     match field {
         1 | 3 | 4 => "a number from 0 to 4294967295",
-        9 => "a length of at most 7 digits before the point",
+        9 => "a length without sign or exponent, of at most 7 digits before the point",
         _ => "a number from 0 to 65535",
     }
 }
@@ -308,19 +334,44 @@ fn push_end(
 // ---- words
 
 /// What is wrong with the words, and what the command that they name takes; where they name none,
-/// what there is.
+/// what there is. Who asks for help gets a page.
 fn push_usage(text: &mut String, alloc: Global, words: &[String]) -> Result<(), AllocError> {
     match (first_verb(words), words.first()) {
+        (Some(verb), _) if asks_behind_first(words) => push_page_of(text, verb),
         (Some(verb), _) => {
             push_wrong_word(text, alloc, verb, words)?;
             push_synopsis(text, "usage: ", verb)
         }
-        (None, Some(name)) => {
-            write!(text, "path_server: '{name}' is no command; there are:\n")?;
-            push_commands(text)
+        (None, Some(name)) => push_on_name(text, name),
+        (None, None) => push_page(text),
+    }
+}
+
+/// Whether a word behind the first asks for help.
+fn asks_behind_first(words: &[String]) -> bool {
+    words
+        .iter()
+        .skip(1)
+        .any(|word| matches!(word.as_str(), "--help" | "-h"))
+}
+
+/// What is told of a first word that names no command.
+fn push_on_name(text: &mut String, name: &str) -> Result<(), AllocError> {
+    if asks_for_help(name) {
+        return push_page(text);
+    }
+    if asks_for_version(name) {
+        return push_version(text);
+    }
+    write!(text, "path_server: '{name}' is no command")?;
+    match nearest(name) {
+        Some(verb) => {
+            let meant = verb.name();
+            write!(text, "; is '{meant}' meant?\n")?;
+            push_synopsis(text, "usage: ", verb)
         }
-        (None, None) => {
-            text.push_str("path_server: no command is named; there are:\n")?;
+        None => {
+            text.push_str("; there are:\n")?;
             push_commands(text)
         }
     }
@@ -335,7 +386,7 @@ fn push_commands(text: &mut String) -> Result<(), AllocError> {
 }
 
 /// The line of a command, with its arguments and options, after some text.
-fn push_synopsis(text: &mut String, before: &str, verb: Verb) -> Result<(), AllocError>
+pub(crate) fn push_synopsis(text: &mut String, before: &str, verb: Verb) -> Result<(), AllocError>
     ensures { IfOk result (λ _. string_bytes text.new ≡ string_bytes text.old ++ line
         (before.now ++ codes "path_server " ++ verb_name verb ++ verb_synopsis verb)) }
 {

@@ -1,52 +1,53 @@
-//! `path MAP SX SY GX GY`: the path between two cells of a map, read from the map's database.
+//! `path MAP SX SY GX GY`: the path between two cells of a map, from the rows of the cells on it alone.
 
-ghost use Rattle.std.specs.Prelude.{◌≡◌, ◌≤◌, IfErr, IfOk, string_bytes};
-ghost use Rattle.walker.specs.Walks.{HasFewAhead};
-ghost use Rattle.path_commands.specs.Queries.{AppendsAhead, TellsAhead, TellsAnswer, TellsHead};
-ghost use Rattle.path_commands.specs.Runs.{IsPathCause};
+ghost use Rattle.std.specs.Prelude.{◌≡◌, ◌<◌, ◌≤◌, IfErr, IfOk, length, string_bytes};
+ghost use Rattle.moves.specs.Maps.{IsSearchable};
+ghost use Rattle.moves.specs.Paths.{cost_of};
+ghost use Rattle.path_commands.specs.Queries.{TellsHead};
+ghost use Rattle.path_commands.specs.Runs.{IsFirstPathCause, TellsFirstAnswer};
 ghost use Rattle.path_commands.specs.Texts.{unreachable_text};
 
+use crate::heard::path_of;
 use crate::status::Status;
-use moves::{Cell, MAX_PASSABLE};
+use cell_order::OrderKind;
+use moves::{Cell, Grid, MAX_PASSABLE, Move};
 use root_cost::{Cost, MAX_STEPS};
 use std::alloc::{AllocError, Global};
 use std::fmt::Write;
-use versions::Version;
-use walker::{Walk, measure};
+use walk_rows::walk_between;
 
-/// The text that tells the walk between two cells, or that no path exists.
+/// The text that tells the walk between two cells, or that no path exists. It is what the map's first
+/// version answers, of which no more rows are built than those of the cells on the walk.
 pub fn answer_path(
     alloc: Global,
-    version: &Version,
+    grid: &Grid,
+    order: OrderKind,
     start: Cell,
     goal: Cell,
 ) -> Result<String, Status>
+    requires searchable { IsSearchable grid.now }
     ensures done { IfOk result (λ text.
-        TellsAnswer version.entry.now start goal (string_bytes text)) }
-    ensures refused { IfErr result (IsPathCause version.entry.now start goal) }
+        TellsFirstAnswer grid.now order start goal (string_bytes text)) }
+    ensures refused { IfErr result (IsFirstPathCause grid.now order start goal) }
 {
-    match Walk::start(version, start, goal)? {
+    match walk_between(alloc, grid, order, start, goal)? {
         None => Ok(unreachable_text(alloc)?),
-        Some(mut walk) => {
-            // A path exists, and so it has a cost.
-            let cost = measure(version, start, goal)?.unwrap();
-            Ok(path_text(alloc, cost, &mut walk)?)
-        }
+        Some(moves) => Ok(path_of(alloc, cost_of(&moves), &moves)?),
     }
 }
 
-/// The cost, the length and the moves that are ahead of a walk, a line each. The walk is at its
-/// goal then.
-fn path_text(alloc: Global, cost: Cost, walk: &mut Walk) -> Result<String, AllocError>
-    requires straight { cost.straight ≤ MAX_STEPS }
-    requires diagonal { cost.diagonal ≤ MAX_STEPS }
-    requires few { HasFewAhead walk.old }
-    ensures { IfOk result (λ text. TellsAhead walk.old cost (string_bytes text)) }
+/// What the moves of a path cost.
+fn cost_of(moves: &[Move]) -> Cost
+    requires { length moves.now < MAX_PASSABLE }
+    ensures cost { result ≡ cost_of moves.now }
+    ensures straight { result.straight ≤ MAX_STEPS }
+    ensures diagonal { result.diagonal ≤ MAX_STEPS }
 {
-    let mut text = head_text(alloc, cost)?;
-    push_moves(&mut text, walk)?;
-    text.push_str("\n")?;
-    Ok(text)
+    let mut cost = Cost::ZERO;
+    for by in moves {
+        cost = cost.plus(by.is_diagonal());
+    }
+    cost
 }
 
 /// The cost and the length of a path, a line each, and the word before its moves.
@@ -64,23 +65,8 @@ pub fn head_text(alloc: Global, cost: Cost) -> Result<String, AllocError>
     Ok(text)
 }
 
-/// Writes the names of the moves that are ahead of a walk, a space before each, as they are read.
-fn push_moves(text: &mut String, walk: &mut Walk) -> Result<(), AllocError>
-    requires { HasFewAhead walk.old }
-    ensures { IfOk result (λ _.
-        AppendsAhead walk.old (string_bytes text.old) (string_bytes text.new)) }
-{
-    for _ in 0..MAX_PASSABLE {
-        match walk.step() {
-            Some(by) => write!(text, " {by}")?,
-            None => return Ok(()),
-        }
-    }
-    Ok(())
-}
-
 /// What is printed where no path exists.
-fn unreachable_text(alloc: Global) -> Result<String, AllocError>
+pub fn unreachable_text(alloc: Global) -> Result<String, AllocError>
     ensures { IfOk result (λ text. string_bytes text ≡ unreachable_text) }
 {
     String::from_str(alloc, "unreachable\n")

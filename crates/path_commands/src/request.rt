@@ -13,7 +13,7 @@ ghost use Rattle.path_commands.specs.SaidRequests.{said_of};
 ghost use Rattle.path_commands.specs.declared.words.NumberKind.{NumberKind};
 ghost use Rattle.path_commands.specs.Requests.{AreDoors, HasLimits, IsAsk, IsServe, IsTalk, doors_at, serve_by, ask_by, asked, asked_by, build_at, said_at};
 ghost use Rattle.path_commands.specs.Requests.{build_of, cell_at};
-ghost use Rattle.path_commands.specs.Requests.{check_by, coordinate_at, made_by, number_at, order_at};
+ghost use Rattle.path_commands.specs.Requests.{check_by, coordinate_at, made_by, near_by, nearpath_by, number_at, order_at};
 ghost use Rattle.path_commands.specs.Requests.{path_at, path_by, replay_by, request_by, request_of};
 ghost use Rattle.path_commands.specs.Requests.{room_at, scen_by, sides_at, talk_by, verb_asked, workers_at};
 
@@ -45,6 +45,24 @@ pub enum Request<'a> {
     Check {
         /// The name of the map's file, which is not empty.
         map: &'a str,
+        /// How a database of the map is built.
+        build: BuildOptions,
+    },
+    /// How many runs a map has where compass moves need none.
+    Near {
+        /// The name of the map's file, which is not empty.
+        map: &'a str,
+        /// How a database of the map is built.
+        build: BuildOptions,
+    },
+    /// A best path between two cells of a map, by compass moves where they are right.
+    NearPath {
+        /// The name of the map's file, which is not empty.
+        map: &'a str,
+        /// The cell that the path begins with.
+        start: Cell,
+        /// The cell that the path ends with.
+        goal: Cell,
         /// How a database of the map is built.
         build: BuildOptions,
     },
@@ -168,6 +186,8 @@ impl<'a> Request<'a> {
         match self {
             Request::Path { build, .. } => *build,
             Request::Check { build, .. } => *build,
+            Request::Near { build, .. } => *build,
+            Request::NearPath { build, .. } => *build,
             Request::Scen { build, .. } => *build,
             Request::Made { build, .. } => *build,
             Request::Replay { build, .. } => *build,
@@ -263,6 +283,8 @@ fn asked_of<'a>(verb: Verb, matches: &ArgMatches<'a>) -> Option<Request<'a>>
     match verb {
         Verb::Path => path_asked(matches),
         Verb::Check => check_asked(matches),
+        Verb::Near => near_asked(matches),
+        Verb::NearPath => nearpath_asked(matches),
         Verb::Scen => scen_asked(matches),
         Verb::Made => made_asked(matches),
         Verb::Replay => replay_asked(matches),
@@ -303,6 +325,39 @@ fn check_asked<'a>(matches: &ArgMatches<'a>) -> Option<Request<'a>>
     let map = file_at(matches, "MAP")?;
     let build = build_at(matches)?;
     Some(Request::Check { map, build })
+}
+
+/// What `near` asks for.
+#[tactic(auto, unfolding(crate::specs::Requests::near_by))]
+fn near_asked<'a>(matches: &ArgMatches<'a>) -> Option<Request<'a>>
+    ensures asked { option_map asked result ≡ near_by (first_value (found_of matches.now)) }
+    ensures verb { IfSome result (λ request. verb_asked (asked request) ≡ Verb.Near) }
+    ensures workers { IfSome result (λ request. AreWorkers (build_of (asked request)).workers) }
+    ensures limits { IfSome result (λ request. HasLimits (asked request)) }
+{
+    let map = file_at(matches, "MAP")?;
+    let build = build_at(matches)?;
+    Some(Request::Near { map, build })
+}
+
+/// What `nearpath` asks for.
+#[tactic(auto, unfolding(crate::specs::Requests::nearpath_by))]
+fn nearpath_asked<'a>(matches: &ArgMatches<'a>) -> Option<Request<'a>>
+    ensures asked { option_map asked result ≡ nearpath_by (first_value (found_of matches.now)) }
+    ensures verb { IfSome result (λ request. verb_asked (asked request) ≡ Verb.NearPath) }
+    ensures workers { IfSome result (λ request. AreWorkers (build_of (asked request)).workers) }
+    ensures limits { IfSome result (λ request. HasLimits (asked request)) }
+{
+    let map = file_at(matches, "MAP")?;
+    let start = cell_at(matches, "SX", "SY")?;
+    let goal = cell_at(matches, "GX", "GY")?;
+    let build = build_at(matches)?;
+    Some(Request::NearPath {
+        map,
+        start,
+        goal,
+        build,
+    })
 }
 
 /// What `scen` asks for.

@@ -12,6 +12,7 @@ use std::alloc::{AllocError, Global};
 use std::fmt;
 use std::fmt::Write;
 use versions::QueryRefusal;
+use walk_rows::WalkError;
 use wire::HouseError;
 
 /// How a run ends.
@@ -93,6 +94,20 @@ impl From<QueryRefusal> for Status {
     }
 }
 
+impl From<WalkError> for Status {
+    ghost use Rattle.std.specs.Prelude.{◌≡◌};
+    ghost use Rattle.path_commands.specs.Statuses.{status_of_walk};
+
+    ghost from_gives = { λ error status. status ≡ status_of_walk error };
+
+    fn from(error: WalkError) -> Status {
+        match error {
+            WalkError::Refused(refusal) => Status::Query(refusal),
+            WalkError::NoMemory => Status::NoMemory,
+        }
+    }
+}
+
 impl From<RequestError> for Status {
     ghost use Rattle.std.specs.Prelude.{◌≡◌};
     ghost use Rattle.path_commands.specs.Statuses.{status_of};
@@ -163,7 +178,10 @@ impl fmt::Display for Status {
     fn fmt<W: fmt::Write>(&self, f: &mut fmt::Formatter<W>) -> fmt::Result {
         match self {
             Status::Done | Status::WriteFault | Status::Broken(_) => Ok(()),
-            Status::Usage => write!(f, "usage: path check scen made replay talk serve ask"),
+            Status::Usage => write!(
+                f,
+                "usage: path check scen made replay talk serve ask near nearpath"
+            ),
             Status::Map(fault) => write!(f, "map refused: {fault}"),
             Status::Scen(fault) => write!(f, "scenario refused: {fault}"),
             Status::Query(refusal) => write!(f, "{refusal}"),

@@ -1,10 +1,11 @@
 //! Where the program meets the system: its arguments and its exit status.
 
-ghost use Rattle.std.specs.Prelude.{◌≡◌, drop};
+ghost use Rattle.std.specs.Prelude.{◌≡◌, ◌≢◌, IsTrue, codes, drop};
 ghost use Rattle.std.specs.Process.{exit_status};
 ghost use Rattle.path_commands.specs.Statuses.{status_code};
 ghost use Rattle.path_commands.specs.System.{AreWordsOf, IsErrorOf};
 
+use crate::commands::Verb;
 use crate::request::RequestError;
 use crate::status::Status;
 use std::io;
@@ -21,6 +22,14 @@ pub fn command_words(arguments: &io::Result<Vec<String>>) -> Result<&[String], R
         Ok(arguments) => Ok(behind_first(arguments.as_slice())),
         Err(error) => Err(argument_error(error)),
     }
+}
+
+/// Whether this is the name of a command that puts a line on standard output where its words are
+/// refused: of any but `talk`.
+pub fn is_printed_name(name: &[u8]) -> bool
+    ensures { IsTrue result → name.now ≢ codes "talk" }
+{
+    name != b"talk".as_slice() && Verb::ALL.iter().any(|verb| verb.name().as_bytes() == name)
 }
 
 /// All words but the first.

@@ -26,6 +26,15 @@ pub enum Task {
     },
     /// The size is told.
     Check,
+    /// The size is told, and that of what is near.
+    Near,
+    /// A path between two cells is told, by compass moves where they are right.
+    NearPath {
+        /// The cell that the path begins with.
+        start: Cell,
+        /// The cell that the path ends with.
+        goal: Cell,
+    },
     /// The results of scenarios are told.
     Scen(Vec<ScenLine>),
     /// The size is told, and what the queries of a seed come to.
@@ -52,6 +61,8 @@ pub fn task_for<F: Files>(alloc: Global, files: &mut F, request: Request) -> Res
     match request {
         Request::Path { start, goal, .. } => Ok(Task::Path { start, goal }),
         Request::Check { .. } => Ok(Task::Check),
+        Request::Near { .. } => Ok(Task::Near),
+        Request::NearPath { start, goal, .. } => Ok(Task::NearPath { start, goal }),
         Request::Scen { scenarios, .. } => Ok(Task::Scen(read_scenarios(alloc, files, scenarios)?)),
         Request::Made { seed, .. } => Ok(Task::Made { seed }),
         Request::Replay { events, .. } => Ok(Task::Replay(read_event_file(alloc, files, events)?)),

@@ -10,14 +10,15 @@ use Rattle.scen_read.specs.declared.TheConstants.{MAX_SCEN_BYTES}
 use Rattle.scen_read.specs.ScenText.{scenarios_of}
 use Rattle.path_replay.specs.declared.TheConstants.{MAX_EVENTS_BYTES}
 use Rattle.path_replay.specs.Events.{AreEventsOf, text_said}
+use Rattle.cell_order.specs.declared.OrderKind.{OrderKind}
 use Rattle.versions.specs.Databases.{Versioned}
 use Rattle.path_commands.specs.declared.status.Status.{Status}
 use Rattle.path_commands.specs.declared.status.Status.TheVariants as status
 use Rattle.path_commands.specs.declared.task.Task.{Task}
 use Rattle.path_commands.specs.declared.task.Task.TheVariants as task
 use Rattle.path_commands.specs.Statuses.{status_text}
-use Rattle.path_commands.specs.Requests.{Asked, path, check, scen, made, replay, talk, serve, ask, build_of}
-use Rattle.path_commands.specs.Runs.{AsksOf, Asks, BreaksOff, FailsByMap, FailsByTask, IsAnswerOn, IsAnswerTo, IsFirstVersion, GivesMap, GivesNoMap, GivesNoTask, GivesTask, IsCause, IsEventsFileCause, IsFileCause, IsMadeCause, IsMapFileCause, IsRight, IsScenFileCause, IsVersionCause, PutsAll, Run, RunFile, file_over, map_made, run_over}
+use Rattle.path_commands.specs.Requests.{Asked, path, check, near, nearpath, scen, made, replay, talk, serve, ask, build_of}
+use Rattle.path_commands.specs.Runs.{AsksOf, Asks, BreaksOff, FailsByMap, FailsByTask, IsAnswerTo, IsFirstAnswer, IsFirstCause, IsFirstVersion, GivesMap, GivesNoMap, GivesNoTask, GivesTask, IsCause, IsEventsFileCause, IsFileCause, IsMadeCause, IsMapFileCause, IsRight, IsScenFileCause, IsVersionCause, PutsAll, Run, RunFile, file_over, map_made, run_over}
 
 -- ---- the cause of a status
 
@@ -54,6 +55,9 @@ pub map_fails : (run : Run) (asked : Asked) (cause : Status) → Asks run asked 
 map_fails run (path name start goal build) cause asks h =
     map_file_fails run (run.file name) cause (record { asked = path name start goal build; asks = asks; fails = h }) h
 map_fails run (check name build) cause asks h = map_file_fails run (run.file name) cause (record { asked = check name build; asks = asks; fails = h }) h
+map_fails run (near name build) cause asks h = map_file_fails run (run.file name) cause (record { asked = near name build; asks = asks; fails = h }) h
+map_fails run (nearpath name start goal build) cause asks h =
+    map_file_fails run (run.file name) cause (record { asked = nearpath name start goal build; asks = asks; fails = h }) h
 map_fails run (scen name scenarios build) cause asks h =
     map_file_fails run (run.file name) cause (record { asked = scen name scenarios build; asks = asks; fails = h }) h
 map_fails run (made sides seed build) cause asks h = made_fails run (map_made sides seed) cause (record { asked = made sides seed build; asks = asks; fails = h }) h
@@ -96,6 +100,8 @@ events_file_fails run file (status.Events line) fails h = fails
 pub task_fails : (run : Run) (asked : Asked) (map : Map) (cause : Status) → Asks run asked → GivesMap run.file asked map → GivesNoTask run.file asked cause → IsCause run cause
 task_fails run (path name start goal build) map cause asks gives h = absurd h
 task_fails run (check name build) map cause asks gives h = absurd h
+task_fails run (near name build) map cause asks gives h = absurd h
+task_fails run (nearpath name start goal build) map cause asks gives h = absurd h
 task_fails run (scen name scenarios build) map cause asks gives h =
     scen_file_fails run (run.file scenarios) cause (record { asked = scen name scenarios build; asks = asks; map = map; gives = gives; fails = h }) h
 task_fails run (made sides seed build) map cause asks gives h = absurd h
@@ -119,21 +125,33 @@ version_fails run (task.Path start goal) version (status.TooLong limit) of h = a
 version_fails run (task.Path start goal) version (status.Broken why) of h = absurd h
 version_fails run (task.Path start goal) version status.BadAnswer of h = absurd h
 version_fails run (task.Path start goal) version (status.Events line) of h = absurd h
+version_fails run (task.NearPath start goal) version status.Done of h = absurd h
+version_fails run (task.NearPath start goal) version status.Usage of h = absurd h
+version_fails run (task.NearPath start goal) version (status.Map fault) of h = absurd h
+version_fails run (task.NearPath start goal) version (status.Scen fault) of h = absurd h
+version_fails run (task.NearPath start goal) version (status.Query refusal) of h = record { task = task.NearPath start goal; version = version; of = of; fails = h }
+version_fails run (task.NearPath start goal) version status.ReadFault of h = absurd h
+version_fails run (task.NearPath start goal) version status.WriteFault of h = absurd h
+version_fails run (task.NearPath start goal) version status.NoMemory of h = tt
+version_fails run (task.NearPath start goal) version (status.TooLong limit) of h = absurd h
+version_fails run (task.NearPath start goal) version (status.Broken why) of h = absurd h
+version_fails run (task.NearPath start goal) version status.BadAnswer of h = absurd h
+version_fails run (task.NearPath start goal) version (status.Events line) of h = absurd h
+version_fails run task.Near version cause of h = subst (λ cause. IsCause run cause) (sym h) tt
 version_fails run task.Check version cause of h = subst (λ cause. IsCause run cause) (sym h) tt
 version_fails run (task.Scen lines) version cause of h = subst (λ cause. IsCause run cause) (sym h) tt
 version_fails run (task.Made seed) version cause of h = subst (λ cause. IsCause run cause) (sym h) tt
 version_fails run (task.Replay events) version cause of h = subst (λ cause. IsCause run cause) (sym h) tt
 
--- the answer of the version, and its refusal, are those of the run
-pub answer_is : (run : Run) (given : Task) (version : Versioned) (answer : Result (List ℕ) Status) → AsksOf run given version
-    → IfOk answer (IsAnswerOn version given) → IfOk answer (IsAnswerTo run)
-answer_is run given version (Ok text) of h = record { task = given; version = version; of = of; answers = h }
-answer_is run given version (Err cause) of h = tt
+-- the answer of the first version, and its refusal, are those of the run
+module _ (run : Run) (given : Task) (map : Map) (order : OrderKind) (of : (version : Versioned) → IsFirstVersion map order version → AsksOf run given version) where
+  pub answer_is : (answer : Result (List ℕ) Status) → IfOk answer (IsFirstAnswer map order given) → IfOk answer (IsAnswerTo run)
+  answer_is (Ok text) h = record { task = given; version = h.version; of = of h.version h.first; answers = h.answers }
+  answer_is (Err cause) h = tt
 
-pub refusal_is : (run : Run) (given : Task) (version : Versioned) (answer : Result (List ℕ) Status) → AsksOf run given version → IfErr answer (IsVersionCause version given)
-    → IfErr answer (IsCause run)
-refusal_is run given version (Ok text) of h = tt
-refusal_is run given version (Err cause) of h = version_fails run given version cause of h
+  pub refusal_is : (answer : Result (List ℕ) Status) → IfErr answer (IsFirstCause map order given) → IfErr answer (IsCause run)
+  refusal_is (Ok text) h = tt
+  refusal_is (Err cause) h = version_fails run given h.version cause (of h.version h.first) h.fails
 
 -- ---- what is put of a refusal
 
@@ -171,6 +189,8 @@ module _ {F : Type 0} (content : F → Text → Option Text) (faults : F → Tex
   pub same_map : (asked : Asked) (map : Map) → GivesMap (file_over content faults old mid) asked map → GivesMap (file_over content faults old new) asked map
   same_map (path name start goal build) map h = h
   same_map (check name build) map h = h
+  same_map (near name build) map h = h
+  same_map (nearpath name start goal build) map h = h
   same_map (scen name scenarios build) map h = h
   same_map (made sides seed build) map h = h
   same_map (replay name events build) map h = h
@@ -183,6 +203,8 @@ module _ {F : Type 0} (content : F → Text → Option Text) (faults : F → Tex
     pub same_task : (asked : Asked) (given : Task) → GivesTask (file_over content faults mid new) asked given → GivesTask (file_over content faults old new) asked given
     same_task (path name start goal build) given h = h
     same_task (check name build) given h = h
+    same_task (near name build) given h = h
+    same_task (nearpath name start goal build) given h = h
     same_task (scen name scenarios build) given h = record {
       scenarios = h.scenarios;
       is = h.is;
@@ -250,6 +272,8 @@ module _ {F : Type 0} (content : F → Text → Option Text) (faults : F → Tex
     pub same_task_cause : (asked : Asked) (cause : Status) → GivesNoTask (file_over content faults mid new) asked cause → GivesNoTask (file_over content faults old new) asked cause
     same_task_cause (path name start goal build) cause h = h
     same_task_cause (check name build) cause h = h
+    same_task_cause (near name build) cause h = h
+    same_task_cause (nearpath name start goal build) cause h = h
     same_task_cause (scen name scenarios build) cause h = same_scen_cause scenarios cause h
     same_task_cause (made sides seed build) cause h = h
     same_task_cause (replay name events build) cause h = same_events_cause events cause h

@@ -11,10 +11,10 @@ ghost use Rattle.path_commands.specs.declared.status.Status.{Status};
 ghost use Rattle.path_commands.specs.Requests.{HasLimits, IsAsk, IsPrinted, IsServe, IsTalk, asked, verb_asked};
 ghost use Rattle.path_commands.specs.AskEnds.{CallsNoMore, FallsShort, PutsHeard};
 ghost use Rattle.path_commands.specs.Asks.{HasGivenNone, house_over};
-ghost use Rattle.path_commands.specs.Words.{texts_of};
+ghost use Rattle.path_commands.specs.Words.{AreWorkers, texts_of};
 ghost use Rattle.path_commands.specs.Runs.{BreaksOff, GivesMap, GivesNoMap, IsAnswerOn, IsAnswerTo};
-ghost use Rattle.path_commands.specs.Runs.{IsCause, IsVersionCause, MayBeDone, PutsAll, file_over};
-ghost use Rattle.path_commands.specs.Runs.{run_over};
+ghost use Rattle.path_commands.specs.Runs.{IsCause, IsFirstAnswer, IsFirstCause, IsVersionCause, MayBeDone, PutsAll};
+ghost use Rattle.path_commands.specs.Runs.{file_over, run_over};
 ghost use Rattle.path_commands.specs.Talks.{TalkEnds, input_over};
 ghost use Rattle.path_commands.specs.Serving.{FailsToRead, Serves, doors_over, ear_over};
 
@@ -24,9 +24,9 @@ use path_commands::ask::ask;
 use path_commands::serve::serve;
 use path_commands::talk::talk;
 use path_commands::{
-    Means, Request, Status, Task, answer_check, answer_made, answer_path, answer_replay,
-    answer_scen, first_version, is_ask, is_serve, is_talk, made_grid, put, read_grid, read_request,
-    refuse, task_for,
+    BuildOptions, Means, Request, Status, Task, answer_check, answer_made, answer_near,
+    answer_near_path, answer_path, answer_replay, answer_scen, first_version, is_ask, is_serve,
+    is_talk, made_grid, put, read_grid, read_request, refuse, task_for,
 };
 use std::alloc::Global;
 use std::sync::Wait;
@@ -170,8 +170,35 @@ fn answer<F: Files, B: Bell, G: Gate, R: Threads + Sync>(
     let request = read_request(means.alloc, words)?;
     let grid = grid_for(means.alloc, files, request)?;
     let task = task_for(means.alloc, files, request)?;
-    let version = first_version(means, grid, request.build())?;
-    answer_on(means.rt, means.alloc, version, task)
+    answer_for(means, grid, request.build(), task)
+}
+
+/// The text that answers what was asked of the first version of a map, built as the options say. For a
+/// path no version is built.
+fn answer_for<B: Bell, G: Gate, R: Threads + Sync>(
+    means: &Means<R, B, G>,
+    grid: Grid,
+    options: BuildOptions,
+    task: Task,
+) -> Result<Text, Status>
+    requires small { IsSearchable grid }
+    requires workers { AreWorkers options.workers }
+    requires task { MayBeDone task }
+    ensures done { IfOk result (IsFirstAnswer grid options.order task) }
+    ensures refused { IfErr result (IsFirstCause grid options.order task) }
+{
+    // That the map lies inside the limits is known from its width.
+    let _ = grid.width();
+    match task {
+        Task::Path { start, goal } => {
+            let text = answer_path(means.alloc, &grid, options.order, start, goal)?;
+            Ok(as_text(text))
+        }
+        task => {
+            let version = first_version(means, grid, options)?;
+            answer_on(means.rt, means.alloc, version, task)
+        }
+    }
 }
 
 /// The map that was asked about.
@@ -189,6 +216,8 @@ fn grid_for<F: Files>(alloc: Global, files: &mut F, request: Request) -> Result<
     match request {
         Request::Path { map, .. } => read_grid(alloc, files, map),
         Request::Check { map, .. } => read_grid(alloc, files, map),
+        Request::Near { map, .. } => read_grid(alloc, files, map),
+        Request::NearPath { map, .. } => read_grid(alloc, files, map),
         Request::Scen { map, .. } => read_grid(alloc, files, map),
         Request::Made { sides, seed, .. } => made_grid(alloc, sides, seed),
         Request::Replay { map, .. } => read_grid(alloc, files, map),
@@ -211,8 +240,15 @@ fn answer_on<R: Threads + Sync>(
     ensures refused { IfErr result (IsVersionCause version task) }
 {
     match task {
-        Task::Path { start, goal } => Ok(as_text(answer_path(alloc, &version, start, goal)?)),
+        Task::Path { start, goal } => {
+            let text = answer_path(alloc, version.grid(), version.kind(), start, goal)?;
+            Ok(as_text(text))
+        }
         Task::Check => Ok(as_text(answer_check(alloc, &version)?)),
+        Task::Near => Ok(as_text(answer_near(alloc, version)?)),
+        Task::NearPath { start, goal } => {
+            Ok(as_text(answer_near_path(alloc, version, start, goal)?))
+        }
         Task::Scen(lines) => Ok(as_text(answer_scen(rt, alloc, &version, lines.as_slice())?)),
         Task::Made { seed } => Ok(as_text(answer_made(alloc, &version, seed)?)),
         Task::Replay(events) => Ok(answer_replay(alloc, version, events.as_slice())?),

@@ -3,14 +3,21 @@
 #![tactic(auto)]
 
 use build_pool::FreeGate;
-use path_commands::{Status, advice, argument_advice, command_words, exit_code, refuse};
+use path_commands::{
+    Status, advice, argument_advice, command_words, exit_code, is_printed_name, refuse,
+};
 use path_run::run;
+use std::env::Env;
 use std::process::ExitCode;
 use std::{env, io};
 use wire::{HostBell, HostFiles, StdLink, StdSink, TcpHouse};
 
+/// No name of a command has more bytes.
+const NAME_ROOM: usize = 16;
+
 /// Runs the command that the words ask for over the system's files, standard input and standard
-/// output, and tells on standard error what a person may do about an end other than `Done`.
+/// output, and tells on standard error what a person may do about an end other than `Done`. Where the
+/// words cannot be read, nothing is put on standard output unless they are known to be no `talk`.
 fn main(rt: HostRuntime) -> ExitCode {
     let mut files = HostFiles::new(&rt);
     let mut out = StdSink::new(&rt);
@@ -37,10 +44,25 @@ fn main(rt: HostRuntime) -> ExitCode {
         }
         Err(error) => {
             tell(&rt, argument_advice(error));
-            refuse(rt.alloc(), &mut out, Status::from(error))
+            let status = Status::from(error);
+            if names_printed(&rt) {
+                refuse(rt.alloc(), &mut out, status)
+            } else {
+                status
+            }
         }
     };
     exit_code(&status)
+}
+
+/// Whether the first word, of words that could not be read, is known to name a command that puts a
+/// line on standard output. `talk` puts nothing there, and so does what may be `talk`.
+fn names_printed(rt: &HostRuntime) -> bool {
+    let mut name = [0; NAME_ROOM];
+    match rt.arg(1, &mut name) {
+        Ok(size) => is_printed_name(&name[..size]),
+        Err(_) => false,
+    }
 }
 
 /// Puts a text on standard error. Nothing is left to do where it takes none.

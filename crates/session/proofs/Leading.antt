@@ -1,9 +1,13 @@
 -- Talks at a door, one after the other.
-use Rattle.std.proofs.Common.{◌≡◌, ℕ, true, false, IfErr, IfSome, List, [], ◌∷◌, ◌++◌, length, None, Option, Result, Some, option_map, inl, inr, refl, sym, subst, ap, ◌∙◌}
+use Rattle.std.proofs.Common.{◌≡◌, ℕ, true, false, ◌||◌, IfErr, IfSome, List, [], ◌∷◌, ◌++◌, length, None, Option, Result, Some, option_map, inl, inr, refl, sym, subst, ap, ◌∙◌}
 use Rattle.std.specs.Io.KnownBytes.{append_known}
+use Rattle.std.specs.List.{list_any}
 use Rattle.std.proofs.lemmas.List.{append-nil, append_assoc}
+use Rattle.std.proofs.lemmas.List.Folds.{list_any-append}
 use Rattle.path_core.specs.declared.entry.Entry.{Entry}
 use Rattle.path_core.specs.declared.entry.Entry.TheVariants.{Accept, Halt}
+use Rattle.path_core.specs.Histories.{IsHalting, is_halt}
+use Rattle.path_core.specs.Passes.{BeginsWith}
 use Rattle.path_core.proofs.Passing.{begins_then}
 use Rattle.query_proto.specs.declared.replies.Reply.TheVariants as reply
 use Rattle.query_proto.specs.declared.replies.Reply.{Reply}
@@ -16,7 +20,7 @@ use Rattle.wire.specs.Talks.{EndedTalk, IsFresh, Talk, with_ended, with_sent, wi
 use Rattle.session.specs.declared.sessions.Ended.{Ended}
 use Rattle.session.specs.declared.sessions.SessionFault.{SessionFault}
 use Rattle.session.specs.Conversations.{Conversed, Exchange, HasCause, Rests, ServesFrame, ServesRun, bytes_taken}
-use Rattle.session.specs.Doors.{HasServed, Lead, LeadsOn, SameWhereTold, as_begun}
+use Rattle.session.specs.Doors.{HasGoneOn, HasServed, HasServedOne, Lead, LeadsOn, LooksBetween, MayGoOn, SameWhereTold, ServesOne, as_begun}
 use Rattle.session.specs.Served.{Serves, ServesChange, ServesStatus, ServesStop}
 use Rattle.session.specs.Standing.{AddsOnlyOwn, HoldsSince, Place, Standing}
 use Rattle.session.proofs.Meanwhile.{Grows, enters_grows, grows_itself, grows_then, meanwhile_grows}
@@ -113,14 +117,28 @@ talks_are_own place old before result new after c alone = (run_onward place old 
 
 -- ---- talks
 
+-- a board that halted halts still
+pub halts_still : (seen history : List Entry) → BeginsWith history seen → IsHalting seen → IsHalting history
+halts_still seen history begins halts =
+    subst IsHalting (sym begins.is) (list_any-append is_halt seen begins.rest ∙ ap (λ b. b || list_any is_halt begins.rest) halts)
+
 lead_front : (place : Place) (old mid : Standing) (talks : List EndedTalk) (new : Standing) → Rests place old mid → Lead place mid talks new → Lead place old talks new
 lead_front place old mid [] new first lead = rests_then place old mid new first lead
-lead_front place old mid (talk ∷ rest) new first (from, to, rests, served, lead) = (from, to, rests_then place old mid from first rests, served, lead)
+lead_front place old mid (talk ∷ rest) new first (from, to, look, rests, served, looks, may, lead) =
+    (from, to, look, rests_then place old mid from first rests, served, looks, may, lead)
 
-lead_then : (place : Place) (old : Standing) (talks : List EndedTalk) (mid : Standing) (more : List EndedTalk) (new : Standing) → Lead place old talks mid
-    → Lead place mid more new → Lead place old (talks ++ more) new
-lead_then place old [] mid more new lead then = lead_front place old mid more new lead then
-lead_then place old (talk ∷ rest) mid more new (from, to, rests, served, lead) then = (from, to, rests, served, lead_then place to rest mid more new lead then)
+-- who goes on without a halt did so from each look before
+may_go_on : (place : Place) (look mid : Standing) (more : List EndedTalk) → Rests place look mid → (IsHalting mid.seen → ⊥) → MayGoOn look more
+may_go_on place look mid [] rests on = tt
+may_go_on place look mid (talk ∷ rest) rests on = λ halts. on (halts_still look.seen mid.seen (rests_onward place look mid rests).extends.begins halts)
+
+lead_then : (place : Place) (old : Standing) (talks : List EndedTalk) (mid : Standing) (more : List EndedTalk) (new : Standing) → (IsHalting mid.seen → ⊥)
+    → Lead place old talks mid → Lead place mid more new → Lead place old (talks ++ more) new
+lead_then place old [] mid more new on lead then = lead_front place old mid more new lead then
+lead_then place old (talk ∷ []) mid more new on (from, to, look, rests, served, looks, may, lead) then =
+    (from, to, look, rests, served, looks, may_go_on place look mid more lead on, lead_front place look mid more new lead then)
+lead_then place old (talk ∷ next ∷ rest) mid more new on (from, to, look, rests, served, looks, may, lead) then =
+    (from, to, look, rests, served, looks, may, lead_then place look (next ∷ rest) mid more new on lead then)
 
 -- nothing came, and others may have added entries
 pub served_none : (place : Place) (old new : Standing) (told : Option (List EndedTalk)) → Rests place old new → HasServed place old told new told
@@ -131,26 +149,55 @@ served_none place old new (Some talks) rests = let onward = rests_onward place o
   told = record { more = []; after_is = ap Some (sym (append-nil talks)); lead = rests };
 }
 
-leads_then : (place : Place) (old mid new : Standing) (before between after : Option (List EndedTalk))
+leads_then : (place : Place) (old mid new : Standing) (before between after : Option (List EndedTalk)) → (IsHalting mid.seen → ⊥)
     → IfSome before (λ talks. LeadsOn place old talks mid between) → IfSome between (λ talks. LeadsOn place mid talks new after)
     → IfSome before (λ talks. LeadsOn place old talks new after)
-leads_then place old mid new None between after p q = tt
-leads_then place old mid new (Some talks) between after p q =
+leads_then place old mid new None between after on p q = tt
+leads_then place old mid new (Some talks) between after on p q =
     let then : LeadsOn place mid (talks ++ p.more) new after = subst (λ told. IfSome told (λ all. LeadsOn place mid all new after)) p.after_is q in
     record {
       more = p.more ++ then.more;
       after_is = then.after_is ∙ ap Some (append_assoc talks p.more then.more);
-      lead = lead_then place old p.more mid then.more new p.lead then.lead;
+      lead = lead_then place old p.more mid then.more new on p.lead then.lead;
     }
 
-pub served_then : (place : Place) (old mid new : Standing) (before between after : Option (List EndedTalk)) → HasServed place old before mid between
-    → HasServed place mid between new after → HasServed place old before new after
-served_then place old mid new before between after p q =
+-- the loop went on from a look at which the board did not halt
+pub served_then : (place : Place) (old mid new : Standing) (before between after : Option (List EndedTalk)) → (IsHalting mid.seen → ⊥)
+    → HasServed place old before mid between → HasServed place mid between new after → HasServed place old before new after
+served_then place old mid new before between after on p q =
     record {
       extends = begins_then old.seen mid.seen new.seen p.extends q.extends;
       holds = held_then old.seen mid.seen new.seen old.held mid.held new.held p.extends q.extends p.holds q.holds;
-      told = leads_then place old mid new before between after p.told q.told;
+      told = leads_then place old mid new before between after on p.told q.told;
     }
+
+one_looked_at : (place : Place) (old mid new : Standing) (before after : Option (List EndedTalk)) → IfSome before (λ talks. ServesOne place old talks mid after)
+    → LooksBetween place mid new → IfSome before (λ talks. LeadsOn place old talks new after)
+one_looked_at place old mid new None after one looks = tt
+one_looked_at place old mid new (Some talks) after one looks = record {
+  more = one.talk ∷ [];
+  after_is = one.after_is;
+  lead = (old, mid, new, rests_none place old, one.served, looks, tt, rests_none place new);
+}
+
+-- a session, and the look behind it
+pub served_one : (place : Place) (old mid new : Standing) (before after : Option (List EndedTalk)) → HasServedOne place old before mid after
+    → LooksBetween place mid new → HasServed place old before new after
+served_one place old mid new before after p looks =
+    let onward = rests_onward place mid new looks.rests in
+    record {
+      extends = begins_then old.seen mid.seen new.seen p.extends onward.extends.begins;
+      holds = held_then old.seen mid.seen new.seen old.held mid.held new.held p.extends onward.extends.begins p.holds onward.holds;
+      told = one_looked_at place old mid new before after p.told looks;
+    }
+
+-- the same of a loop that may have begun only now
+pub goes_on : (place : Place) (old mid new : Standing) (before between after : Option (List EndedTalk)) → HasGoneOn old before mid between
+    → HasServed place old before mid between → HasServed place mid between new after → HasServed place old before new after
+goes_on place old mid new before between after gone p q = elim gone [
+  | inl begun ↦ subst (λ told. HasServed place old told new after) begun.1 (subst (λ from. HasServed place from between new after) begun.0 q)
+  | inr on ↦ served_then place old mid new before between after on p q
+]
 
 -- ---- a talk from its first byte on
 
@@ -168,31 +215,25 @@ begun talk told count bytes (whole, none) is =
 
 talk_ended : (place : Place) (from : Standing) (talks : List EndedTalk) (talk : Talk) (told : Option Talk) (result : Result Ended SessionFault) (to : Standing)
     (reads writes : ℕ) → IsFresh (Some talk) → Conversed place from (Some talk) result to told → IfErr result (HasCause 0 reads 0 writes)
-    → LeadsOn place from talks to (with_ended (Some talks) told reads writes)
+    → ServesOne place from talks to (with_ended (Some talks) told reads writes)
 talk_ended place from talks talk None result to reads writes fresh c cause =
     let clash : None ≡ with_sent (with_taken (Some talk) (length (bytes_taken c.exchanges ++ c.last))) c.sent = c.passes.after_is in
     absurd (cc)
 talk_ended place from talks talk (Some now) result to reads writes fresh c cause = record {
-  more = record { talk = now; read_faults = reads; write_faults = writes } ∷ [];
+  talk = record { talk = now; read_faults = reads; write_faults = writes };
   after_is = refl;
-  lead = (
-    from,
-    to,
-    rests_none place from,
-    record {
-      result = result;
-      conversed = subst (λ first. Conversed place from first result to (Some now)) (begun talk (Some now) _ _ fresh c.passes.after_is) c;
-      cause = cause;
-    },
-    rests_none place to,
-  );
+  served = record {
+    result = result;
+    conversed = subst (λ first. Conversed place from first result to (Some now)) (begun talk (Some now) _ _ fresh c.passes.after_is) c;
+    cause = cause;
+  };
 }
 
 -- a connection was served from its first byte on, and handed back
 pub served_talk : (place : Place) (from to : Standing) (before : Option (List EndedTalk)) (fresh told : Option Talk) (result : Result Ended SessionFault)
     (reads_before reads writes_before writes : ℕ) (after : Option (List EndedTalk)) → IsFresh fresh → TellsToo before fresh
     → Conversed place from fresh result to told → IfErr result (HasCause reads_before reads writes_before writes) → reads_before ≡ 0 → writes_before ≡ 0
-    → after ≡ with_ended before told reads writes → HasServed place from before to after
+    → after ≡ with_ended before told reads writes → HasServedOne place from before to after
 served_talk place from to None fresh told result reads_before reads writes_before writes after new tells c cause r w is =
     let onward = run_onward place from c.exchanges to c.serves in record { extends = onward.extends.begins; holds = onward.holds; told = tt }
 served_talk place from to (Some talks) None told result reads_before reads writes_before writes after new tells c cause r w is =
@@ -202,7 +243,7 @@ served_talk place from to (Some talks) (Some talk) told result reads_before read
     record {
       extends = onward.extends.begins;
       holds = onward.holds;
-      told = subst (LeadsOn place from talks to) (sym is)
+      told = subst (ServesOne place from talks to) (sym is)
           (talk_ended place from talks talk told result to reads writes new c
           (subst (λ n. IfErr result (HasCause 0 reads n writes)) w (subst (λ n. IfErr result (HasCause n reads writes_before writes)) r cause)));
     }

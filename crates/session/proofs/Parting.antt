@@ -1,5 +1,5 @@
 -- What a shared board is when it is closed after it was served.
-use Rattle.std.proofs.Common.{◌≡◌, ◌⊎◌, ℕ, ◌+◌, ◌-◌, ◌<◌, Bool, true, false, ◌||◌, IsFalse, List, [], ◌∷◌, length, get_or, Option, Some, inl, inr, refl, sym, subst, ap, ◌∙◌, arith, length-append}
+use Rattle.std.proofs.Common.{◌≡◌, ◌⊎◌, ℕ, ◌+◌, ◌-◌, ◌<◌, Bool, true, false, IsFalse, List, [], ◌∷◌, length, get_or, Option, Some, inl, inr, refl, sym, subst, ap, ◌∙◌, arith, length-append}
 use Rattle.std.specs.List.{list_any}
 use Rattle.std.proofs.Math.Seq.{get_or-append_seam}
 use Rattle.std.proofs.lemmas.Bool.{cases_lt}
@@ -10,6 +10,7 @@ use Rattle.path_core.specs.declared.entry.Entry.{Entry}
 use Rattle.path_core.specs.Boards.{Boarded}
 use Rattle.path_core.specs.Histories.{is_halt, IsHalting}
 use Rattle.path_core.specs.Passes.{OthersAdd}
+use Rattle.path_core.proofs.Passing.{others_begin}
 use Rattle.path_board.specs.declared.pass.Pass.{Pass}
 use Rattle.path_board.specs.declared.state.Foundation.{Foundation}
 use Rattle.path_board.specs.Foundations.{foundation_of}
@@ -23,11 +24,11 @@ use Rattle.session.specs.Doors.{HasServed}
 use Rattle.session.specs.Seats.{place_of, standing_of}
 use Rattle.session.specs.ServedBoards.{AreServed, FailedSo, IsBuiltBy, IsParted, IsPlaceAt, first_standing}
 use Rattle.session.proofs.Crewing.{default_of, same_by_place}
+use Rattle.session.proofs.Leading.{halts_still}
 
 -- a board that halted halts later
 halts_later : (pass : ℕ) (seen history : List Entry) → OthersAdd pass seen history → IsHalting seen → IsHalting history
-halts_later pass seen history grown halts =
-    subst IsHalting (sym grown.grown) (list_any-append is_halt seen grown.more ∙ ap (λ b. b || list_any is_halt grown.more) halts)
+halts_later pass seen history grown halts = halts_still seen history (others_begin pass seen history grown) halts
 
 -- how a new pass stands
 stands_first : (id : TableId) (board : Boarded) (count place : ℕ) (pass : Pass) → IsNewPass id board count place pass → board.version.prefix ≡ 0

@@ -57,6 +57,9 @@ struct Parted<D: Door> {
 /// pass more. It ends when the loops at all doors have ended: the bell is shut then, and the builder ends. All memory
 /// but that of edits, builds and halts is taken before the first knock.
 ///
+/// That the passes look at the board itself, and not at an older state of it, is no part of the contract: it is seen by
+/// review and by cases. What each loop does at its pass is proved (`door_loop`, `build_loop`).
+///
 /// # Errors
 ///
 /// There was no memory. The doors come back, nothing was heard at the ear, and the board is dropped.

@@ -1,13 +1,12 @@
 //! A loop at a door: each connection that comes in is a session.
 
-ghost use Rattle.std.specs.Prelude.{◌≡◌, ◌<◌, ◌≤◌, ◌-◌, false, IfSome};
+ghost use Rattle.std.specs.Prelude.{◌≡◌, ◌<◌, ◌≤◌, ◌-◌, false, IfNone, IfSome};
 ghost use Rattle.build_pool.specs.declared.TheConstants.{MAX_WORKERS};
 ghost use Rattle.path_core.specs.Histories.{IsHalting};
 ghost use Rattle.wire.specs.Knocks.{HasLent, TellsToo};
 ghost use Rattle.wire.specs.Talks.{IsFresh};
 ghost use Rattle.session.specs.declared.doors.DoorEnded.TheVariants.{Halting};
-ghost use Rattle.session.specs.Conversations.{Rests};
-ghost use Rattle.session.specs.Doors.{DoorEndsSo, GoesOnOrEnds, HasServed, SameWhereTold};
+ghost use Rattle.session.specs.Doors.{DoorEndsSo, GoesOnOrEnds, HasServed, HasServedOne, LooksBetween, SameWhereTold};
 ghost use Rattle.session.specs.Standing.{stands};
 
 use crate::desk::Desk;
@@ -31,7 +30,8 @@ pub enum DoorEnded {
 }
 
 /// Serves the connections that come to a door, one after the other, until the board halts, nobody will come any more,
-/// or a knock fails. Each connection is handed back to the door, however its session ended.
+/// or a knock fails. Each connection is handed back to the door, however its session ended. Behind each it looks at the
+/// board, and goes on to the next only where the board does not halt.
 pub fn door_loop<K: Desk, D: Door, R: Threads + Wait + Sync, G: Gate>(
     rt: &R,
     alloc: Global,
@@ -100,7 +100,7 @@ fn serve_conn<K: Desk, D: Door, R: Threads + Wait + Sync, G: Gate>(
     requires no_write_fault { D.Conn.write_faults conn ≡ 0 }
     requires lent { HasLent (D.talks door.old) (D.lent door.old) }
     ensures place { K.place desk.new ≡ K.place desk.old }
-    ensures served { HasServed (K.place desk.old) (stands K.seen K.version K.looks desk.old)
+    ensures served { HasServedOne (K.place desk.old) (stands K.seen K.version K.looks desk.old)
         (D.talks door.old) (stands K.seen K.version K.looks desk.new) (D.talks door.new) }
     ensures back { IfSome (D.talks door.old) (λ _. D.lent door.new ≡ D.lent door.old - 1) }
     ensures closed { D.closed door.new ≡ D.closed door.old }
@@ -122,9 +122,10 @@ fn serve_conn<K: Desk, D: Door, R: Threads + Wait + Sync, G: Gate>(
 /// Looks at the board, and ends the loop where it halts.
 fn pause<K: Desk, R: Wait>(rt: &R, desk: &mut K) -> Option<DoorEnded>
     ensures place { K.place desk.new ≡ K.place desk.old }
-    ensures rests { Rests (K.place desk.old) (stands K.seen K.version K.looks desk.old)
+    ensures looks { LooksBetween (K.place desk.old) (stands K.seen K.version K.looks desk.old)
         (stands K.seen K.version K.looks desk.new) }
     ensures halts { IfSome result (λ ended. (ended ≡ Halting) × IsHalting (K.seen desk.new)) }
+    ensures on { IfNone result (IsHalting (K.seen desk.new) → ⊥) }
 {
     if desk.look(rt).halting {
         return Some(DoorEnded::Halting);

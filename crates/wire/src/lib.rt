@@ -58,6 +58,6 @@ pub use steady_sink::SteadySink;
 pub use stream_link::StreamLink;
 pub use tcp_door::{KNOCK_TIME, TcpDoor};
 pub use tcp_house::TcpHouse;
-pub use tcp_link::{IDLE_TIME, TcpLink};
+pub use tcp_link::{IDLE_TIME, PARTING_TIME, TcpLink};
 pub use turn_ear::TurnEar;
 pub use writer_sink::WriterSink;

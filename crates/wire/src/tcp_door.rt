@@ -13,7 +13,9 @@ use std::time::Duration;
 /// How long a knock waits for a connection, in milliseconds.
 pub const KNOCK_TIME: u64 = 50;
 
-/// A door at a port of 127.0.0.1. It is never closed, and tells no talks, as the system tells none.
+/// A door at a port of 127.0.0.1. It is never closed, and tells no talks, as the system tells none. A
+/// connection that is handed back ends when the other side has closed it, or is silent for a short
+/// time.
 #[derive(Drop)]
 pub struct TcpDoor {
     listener: TcpListener,
@@ -100,5 +102,7 @@ impl Door for TcpDoor {
         }
     }
 
-    fn done(&mut self, _conn: TcpLink) {}
+    fn done(&mut self, conn: TcpLink) {
+        conn.part();
+    }
 }

@@ -6,11 +6,22 @@ use crate::stream_link::read_some;
 use crate::writer_sink::write_some;
 use crate::{Failed, Link};
 use std::io;
-use std::net::TcpStream;
+use std::io::Read;
+use std::net::{Shutdown, TcpStream};
 use std::time::Duration;
 
 /// How long a connection may be idle, in seconds: a recv or a send that waits longer fails.
 pub const IDLE_TIME: u64 = 300;
+
+/// How long a connection that ends waits for what still comes in, in milliseconds: it is closed where
+/// nothing comes for so long.
+pub const PARTING_TIME: u64 = 100;
+
+/// How often at most something that comes in while a connection ends is thrown away.
+const PARTING_READS: u32 = 32;
+
+/// How many bytes of it are thrown away at once.
+const PARTING_ROOM: usize = 16_384;
 
 /// A connection over TCP: one read a recv and one write a send, and small writes leave at once. It
 /// tells no talk, as the system tells none. It fails where it is idle for [`IDLE_TIME`].
@@ -36,6 +47,24 @@ impl TcpLink {
             read_faults: 0,
             write_faults: 0,
         })
+    }
+
+    /// Ends the connection so that what was sent arrives. Its sending half is shut, and what still
+    /// comes in is thrown away until the other side has closed it, or nothing comes for
+    /// [`PARTING_TIME`]: the system takes back what was sent where it closes over unread bytes.
+    pub(crate) fn part(self) {
+        let mut stream = self.stream;
+        let pause = Some(Duration::from_millis(PARTING_TIME));
+        if stream.shutdown(Shutdown::Write).is_err() || stream.set_read_timeout(pause).is_err() {
+            return;
+        }
+        let mut room = [0; PARTING_ROOM];
+        for _ in 0..PARTING_READS {
+            match stream.read(&mut room) {
+                Ok(0) | Err(_) => return,
+                Ok(_) => {}
+            }
+        }
     }
 
     /// How many recvs have failed.

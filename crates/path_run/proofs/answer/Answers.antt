@@ -15,16 +15,18 @@ returns-in_err-task-clause-refused g c =
 
 pub returns-clause-done : goal.returns-clause-done
 returns-clause-done g c =
-    let first = subst (λ (build : BuildOptions). IsFirstVersion c.in_ok-grid.grid build.order c.in_ok-version.version) c.build.ensures c.in_ok-version.ensures in
-    let of = asks_of g.F.Files.content g.F.Files.faults c.args.files.now c.grid_for.new.files c.task_for.new.files c.in_ok-grid.ensures.kept c.in_ok-grid.ensures.later
-    c.args.words.now (asked c.in_ok-request.request) c.in_ok-grid.grid c.in_ok-task.task c.in_ok-version.version c.in_ok-request.ensures.request c.in_ok-grid.ensures.grid
-    c.in_ok-task.ensures.task first in
-    answer_is _ c.in_ok-task.task c.in_ok-version.version c.answer_on.result of c.answer_on.ensures.done
+    answer_is _ c.in_ok-task.task c.in_ok-grid.grid c.build.result.order
+    (λ version first.
+    asks_of g.F.Files.content g.F.Files.faults c.args.files.now c.grid_for.new.files c.task_for.new.files c.in_ok-grid.ensures.kept c.in_ok-grid.ensures.later
+    c.args.words.now (asked c.in_ok-request.request) c.in_ok-grid.grid c.in_ok-task.task version c.in_ok-request.ensures.request c.in_ok-grid.ensures.grid
+    c.in_ok-task.ensures.task (subst (λ (build : BuildOptions). IsFirstVersion c.in_ok-grid.grid build.order version) c.build.ensures first))
+    c.answer_for.result c.answer_for.ensures.done
 
 pub returns-clause-refused : goal.returns-clause-refused
 returns-clause-refused g c =
-    let first = subst (λ (build : BuildOptions). IsFirstVersion c.in_ok-grid.grid build.order c.in_ok-version.version) c.build.ensures c.in_ok-version.ensures in
-    let of = asks_of g.F.Files.content g.F.Files.faults c.args.files.now c.grid_for.new.files c.task_for.new.files c.in_ok-grid.ensures.kept c.in_ok-grid.ensures.later
-    c.args.words.now (asked c.in_ok-request.request) c.in_ok-grid.grid c.in_ok-task.task c.in_ok-version.version c.in_ok-request.ensures.request c.in_ok-grid.ensures.grid
-    c.in_ok-task.ensures.task first in
-    refusal_is _ c.in_ok-task.task c.in_ok-version.version c.answer_on.result of c.answer_on.ensures.refused
+    refusal_is _ c.in_ok-task.task c.in_ok-grid.grid c.build.result.order
+    (λ version first.
+    asks_of g.F.Files.content g.F.Files.faults c.args.files.now c.grid_for.new.files c.task_for.new.files c.in_ok-grid.ensures.kept c.in_ok-grid.ensures.later
+    c.args.words.now (asked c.in_ok-request.request) c.in_ok-grid.grid c.in_ok-task.task version c.in_ok-request.ensures.request c.in_ok-grid.ensures.grid
+    c.in_ok-task.ensures.task (subst (λ (build : BuildOptions). IsFirstVersion c.in_ok-grid.grid build.order version) c.build.ensures first))
+    c.answer_for.result c.answer_for.ensures.refused

@@ -1,24 +1,17 @@
 use Rattle.std.proofs.Common.{subst}
-use Rattle.moves.specs.Paths.{IsLeastCost}
-use Rattle.walker.specs.Walks.{IsBegun}
-use Rattle.path_commands.proofs.Telling.{tells_walk, few_straight, few_diagonal}
+use Rattle.walk_rows.specs.Walks.{IsWalkOf}
+use Rattle.path_commands.proofs.Telling.{tells_none, tells_walk}
 use Rattle.path_commands.proofs.path.answer_path.Goals as goal
 
-pub path_text-requires-clause-straight : goal.path_text-requires-clause-straight
-path_text-requires-clause-straight c =
-    let begins = subst (λ found. IsBegun c.args.version.now c.args.start c.args.goal found) c.in-Some.is c.in_ok-start.ensures.walk in
-    few_straight c.args.version.now c.args.start c.args.goal c.in-Some.walk begins c.unwrap-cost.result
-    (subst (λ cost. IsLeastCost c.args.version.now.map c.args.start c.args.goal cost) c.unwrap-cost.ensures c.in_ok-measure-in-Some.ensures.cost)
+pub returns-in_ok-unreachable_text-in-None-clause-done :
+    goal.returns-in_ok-unreachable_text-in-None-clause-done
+returns-in_ok-unreachable_text-in-None-clause-done c =
+    let none = subst (λ found. IsWalkOf c.args.grid.now c.args.order c.args.start c.args.goal found) c.in-None.is c.in_ok-walk_between.ensures.walk in
+    tells_none c.args.grid.now c.args.order c.args.start c.args.goal _ c.in_ok-walk_between.ensures.ends none c.in_ok-unreachable_text-in-None.ensures
 
-pub path_text-requires-clause-diagonal : goal.path_text-requires-clause-diagonal
-path_text-requires-clause-diagonal c =
-    let begins = subst (λ found. IsBegun c.args.version.now c.args.start c.args.goal found) c.in-Some.is c.in_ok-start.ensures.walk in
-    few_diagonal c.args.version.now c.args.start c.args.goal c.in-Some.walk begins c.unwrap-cost.result
-    (subst (λ cost. IsLeastCost c.args.version.now.map c.args.start c.args.goal cost) c.unwrap-cost.ensures c.in_ok-measure-in-Some.ensures.cost)
-
-pub returns-in_ok-path_text-in-Some-clause-done : goal.returns-in_ok-path_text-in-Some-clause-done
-returns-in_ok-path_text-in-Some-clause-done c =
-    let begins = subst (λ found. IsBegun c.args.version.now c.args.start c.args.goal found) c.in-Some.is c.in_ok-start.ensures.walk in
-    tells_walk c.args.version.now c.args.start c.args.goal c.in-Some.walk begins c.unwrap-cost.result
-    (subst (λ cost. IsLeastCost c.args.version.now.map c.args.start c.args.goal cost) c.unwrap-cost.ensures c.in_ok-measure-in-Some.ensures.cost)
-    _ c.in_ok-start.ensures.ends c.in_ok-path_text-in-Some.ensures
+pub returns-in_ok-path_of-in-Some-clause-done : goal.returns-in_ok-path_of-in-Some-clause-done
+returns-in_ok-path_of-in-Some-clause-done c =
+    let walk = subst (λ found. IsWalkOf c.args.grid.now c.args.order c.args.start c.args.goal found) c.in-Some.is c.in_ok-walk_between.ensures.walk in
+    let cost = rw c.deref.ensures.value at c.cost_of.ensures.cost in
+    let told = rw c.deref-in-Some.ensures.value at c.in_ok-path_of-in-Some.ensures in
+    tells_walk c.args.grid.now c.args.order c.args.start c.args.goal c.in-Some.moves _ _ c.in_ok-walk_between.ensures.ends walk cost told

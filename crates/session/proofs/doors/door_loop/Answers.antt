@@ -1,7 +1,7 @@
-use Rattle.std.proofs.Common.{refl, subst, ◌∙◌}
+use Rattle.std.proofs.Common.{inl, inr, refl, subst, ◌∙◌}
 use Rattle.session.specs.Doors.{HasServed}
 use Rattle.session.specs.Standing.{standing}
-use Rattle.session.proofs.Leading.{same_then, same_told, served_none, served_then}
+use Rattle.session.proofs.Leading.{goes_on, same_then, same_told, served_none}
 use Rattle.session.proofs.Ringing.{rests_none}
 use Rattle.session.proofs.doors.door_loop.Goals as goal
 
@@ -10,7 +10,7 @@ loop-init g c =
     let place = g.K.Desk.place c.args.desk.now in
     let old = standing (g.K.Desk.seen c.args.desk.now) (g.K.Desk.version c.args.desk.now) (g.K.Desk.looks c.args.desk.now) in
     let told = g.D.Door.talks c.args.door.now in
-    (served_none place old old told (rests_none place old), refl, c.requires.open, refl, same_told told (g.D.Door.lent c.args.door.now), refl)
+    (served_none place old old told (rests_none place old), refl, c.requires.open, refl, same_told told (g.D.Door.lent c.args.door.now), refl, inl (refl, refl))
 
 pub returns-in-Some-serve_knock-clause-served : goal.returns-in-Some-serve_knock-clause-served
 returns-in-Some-serve_knock-clause-served g c =
@@ -22,7 +22,7 @@ returns-in-Some-serve_knock-clause-served g c =
     let between = g.D.Door.talks c.loop.door in
     let after = g.D.Door.talks c.serve_knock.new.door in
     let inv = c.loop.invariant in
-    served_then place old mid new (g.D.Door.talks c.args.door.now) between after inv.0
+    goes_on place old mid new (g.D.Door.talks c.args.door.now) between after inv.6 inv.0
     (subst (λ p. HasServed p mid between new after) inv.1 c.serve_knock.ensures.served)
 
 pub loop-preserved : goal.loop-preserved
@@ -37,12 +37,13 @@ loop-preserved g c =
     let after = g.D.Door.talks c.serve_knock.new.door in
     let inv = c.loop.invariant in
     let then = c.in-None-serve_knock.ensures in (
-      served_then place old mid new before between after inv.0
+      goes_on place old mid new before between after inv.6 inv.0
           (subst (λ p. HasServed p mid between new after) inv.1 c.serve_knock.ensures.served),
       c.serve_knock.ensures.place ∙ inv.1,
-      then.ended.0,
-      then.ended.1 ∙ inv.3,
+      then.ended.1,
+      then.ended.2 ∙ inv.3,
       same_then place old mid before between (g.D.Door.lent c.args.door.now) (g.D.Door.lent c.loop.door) (g.D.Door.lent c.serve_knock.new.door)
           inv.0 inv.4 c.serve_knock.ensures.lent,
       c.serve_knock.ensures.port ∙ inv.5,
+      inr then.ended.0,
     )

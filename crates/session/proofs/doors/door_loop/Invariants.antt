@@ -1,6 +1,6 @@
 use Rattle.std.proofs.Common.{◌≡◌, false}
-use Rattle.session.specs.Doors.{HasServed, SameWhereTold}
-use Rattle.session.specs.Standing.{standing}
+use Rattle.session.specs.Doors.{HasGoneOn, HasServed, SameWhereTold}
+use Rattle.session.specs.Standing.{standing, stands}
 use Rattle.session.proofs.doors.door_loop.Given as goal
 
 abbrev pub invariant-loop : goal.invariant-loop
@@ -11,3 +11,5 @@ invariant-loop g l =
     × (g.D.Door.faults l.door ≡ g.D.Door.faults l.fn.door)
     × SameWhereTold (g.D.Door.talks l.fn.door) (g.D.Door.lent l.fn.door) (g.D.Door.lent l.door)
     × (g.D.Door.port l.door ≡ g.D.Door.port l.fn.door)
+    × HasGoneOn (stands g.K.Desk.seen g.K.Desk.version g.K.Desk.looks l.fn.desk) (g.D.Door.talks l.fn.door)
+    (stands g.K.Desk.seen g.K.Desk.version g.K.Desk.looks l.desk) (g.D.Door.talks l.door)

@@ -1,8 +1,7 @@
 use Rattle.std.proofs.Common.{subst, sym}
-use Rattle.session.specs.Conversations.{Rests}
-use Rattle.session.specs.Doors.{HasServed}
+use Rattle.session.specs.Doors.{HasServed, HasServedOne, LooksBetween}
 use Rattle.session.specs.Standing.{standing, stands}
-use Rattle.session.proofs.Leading.{served_none, served_then}
+use Rattle.session.proofs.Leading.{served_none, served_one}
 use Rattle.session.proofs.Ringing.{rests_none}
 use Rattle.session.proofs.doors.serve_knock.Goals as goal
 use Rattle.session.proofs.doors.serve_knock.Goals.{After-knock}
@@ -27,8 +26,8 @@ returns-in-Ok-Conn-clause-served g c =
     let new = standing (g.K.Desk.seen desk) (g.K.Desk.version desk) (g.K.Desk.looks desk) in
     let before = g.D.Door.talks c.args.door.now in
     let after = g.D.Door.talks c.serve_conn.new.door in
-    served_then place old mid new before after after (subst (λ told. HasServed place old told mid after) c.knock.ensures.talks c.serve_conn.ensures.served)
-    (served_none place mid new after (subst (λ p. Rests p mid new) c.serve_conn.ensures.place c.pause.ensures.rests))
+    served_one place old mid new before after (subst (λ told. HasServedOne place old told mid after) c.knock.ensures.talks c.serve_conn.ensures.served)
+    (subst (λ p. LooksBetween p mid new) c.serve_conn.ensures.place c.pause.ensures.looks)
 
 pub returns-in-Ok-Closed-clause-served : goal.returns-in-Ok-Closed-clause-served
 returns-in-Ok-Closed-clause-served g c = none_served g (goal.at.returns-in-Ok-Closed-clause-served g c).After-knock

@@ -1,0 +1,14 @@
+pub mod Compasses
+pub mod Radii
+pub mod WidenedSets
+pub mod Parts
+pub mod NearMoves
+pub mod NearWalking
+pub mod Fewest
+pub mod Determined
+pub mod Greatest
+pub mod Written
+pub mod Filling
+pub mod Following
+pub mod Measuring
+pub mod Stepping

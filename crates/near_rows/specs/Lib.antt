@@ -1,0 +1,6 @@
+pub mod Compass
+pub mod NearRows
+pub mod NearVersions
+pub mod NearPaths
+pub mod NearWalks
+pub mod Building

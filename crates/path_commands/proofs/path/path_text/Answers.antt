@@ -1,5 +1,0 @@
-use Rattle.path_commands.proofs.Writing.{tells_path}
-use Rattle.path_commands.proofs.path.path_text.Goals as goal
-
-pub returns : goal.returns
-returns c = λ moves ahead. tells_path _ _ _ _ _ c.in_ok-text.ensures (c.in_ok-push_moves.ensures moves ahead) c.in_ok-push_str.ensures.bytes

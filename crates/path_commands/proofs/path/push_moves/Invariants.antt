@@ -1,7 +1,0 @@
-use Rattle.std.proofs.Common.{string_bytes}
-use Rattle.path_replay.proofs.Telling.{IsTold}
-use Rattle.path_commands.proofs.path.push_moves.Given as goal
-
--- the moves so far are written
-abbrev pub invariant-loop : goal.invariant-loop
-invariant-loop l = IsTold l.fn.walk l.walk (string_bytes l.fn.text) (string_bytes l.text) l.counter

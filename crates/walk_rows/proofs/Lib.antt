@@ -1,0 +1,10 @@
+pub mod Lists
+pub mod TightRows
+pub mod FirstSetsExist
+pub mod Reaching
+pub mod Listing
+pub mod Existing
+pub mod Keeping
+pub mod Walking
+pub mod Options
+pub mod Lent

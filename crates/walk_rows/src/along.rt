@@ -1,0 +1,137 @@
+//! A walk, move by move, from the rows of the cells on it.
+
+ghost use Rattle.std.specs.Prelude.{◌≡◌, ◌<◌, ◌↔◌, Contains, IfOk, IsTrue, OnOk, length};
+ghost use Rattle.moves.specs.Maps.{IsSearchable};
+ghost use Rattle.moves.specs.FirstSetLists.{cell_of};
+ghost use Rattle.row_store.specs.Comps.{IsPlaceOf};
+ghost use Rattle.build_pool.specs.Places.{AreSources, AreWithNear};
+ghost use Rattle.walk_rows.specs.Walks.{AreWordsFrom, CanBeWalked, IsKeptOver, IsReady, SpellsOver};
+
+use crate::bench::Workbench;
+use build_pool::one_row;
+use first_sets::FirstSets;
+use grid_search::Search;
+use lane_rows::Near;
+use moves::{Cell, Grid, Move};
+use run_pack::{find_move, find_word_move};
+use std::alloc::{AllocError, Global};
+
+/// The moves that the rows of the cells spell from one of them to another.
+///
+/// # Errors
+///
+/// `AllocError` where memory runs out.
+pub(crate) fn walk_among(
+    alloc: Global,
+    grid: &Grid,
+    cells: &[Cell],
+    start: Cell,
+    goal: Cell,
+) -> Result<Vec<Move>, AllocError>
+    requires searchable { IsSearchable grid.now }
+    requires cells { CanBeWalked grid.now cells.now }
+    requires start { Contains cells.now start }
+    requires goal { Contains cells.now goal }
+    ensures { IfOk result (λ moves. SpellsOver cells.now start moves.items goal) }
+{
+    let mut moves = Vec::new(alloc);
+    if start == goal {
+        return Ok(moves);
+    }
+    let to = place_of(cells, goal);
+    let near = Near::of(alloc, cells)?;
+    let mut bench = Workbench::new(alloc, grid, cells, goal)?;
+    let mut at = start;
+    for _ in 0..cells.len() {
+        if is_reached(at, goal) {
+            return Ok(moves);
+        }
+        let by = next_move(alloc, grid, cells, &near, &mut bench, at, to)?;
+        moves.push(by)?;
+        bench.learn(grid, at, by);
+        at = at.target(by);
+    }
+    Ok(moves)
+}
+
+/// Whether the cell is the goal.
+fn is_reached(at: Cell, goal: Cell) -> bool
+    ensures { IsTrue result ↔ at ≡ goal }
+{
+    at == goal
+}
+
+/// The move that is kept for the goal in the row of a cell: the row is at hand, or it is built with those of cells that
+/// may come after it.
+fn next_move(
+    alloc: Global,
+    grid: &Grid,
+    cells: &[Cell],
+    near: &Near,
+    bench: &mut Workbench,
+    at: Cell,
+    to: usize,
+) -> Result<Move, AllocError>
+    requires searchable { IsSearchable grid.now }
+    requires cells { CanBeWalked grid.now cells.now }
+    requires table { AreWithNear cells.now near.now }
+    requires ready { IsReady cells.now bench.old }
+    requires at { Contains cells.now at }
+    requires to { to < length cells.now }
+    ensures ready { OnOk result (IsReady cells.now bench.new) }
+    ensures kept { IfOk result (IsKeptOver cells.now at (cell_of cells.now to)) }
+{
+    if let Some(lane) = bench.lane_of(cells, at) {
+        return Ok(move_in(cells, at, bench.words(lane), to));
+    }
+    let place = place_of(cells, at);
+    bench.solve(grid, cells, near, place)?;
+    match bench.lane_of(cells, at) {
+        Some(lane) => Ok(move_in(cells, at, bench.words(lane), to)),
+        None => plain_move(alloc, grid, cells, place, to),
+    }
+}
+
+/// The place of one of the cells.
+fn place_of(cells: &[Cell], cell: Cell) -> usize
+    requires { Contains cells.now cell }
+    ensures { IsPlaceOf cells.now cell result }
+{
+    cells.iter().position(|other| *other == cell).unwrap()
+}
+
+/// The move that the words of the row of a cell keep for a place.
+fn move_in(cells: &[Cell], at: Cell, words: &[u32], to: usize) -> Move
+    requires sources { AreSources cells.now }
+    requires words { AreWordsFrom cells.now at words.now }
+    requires to { to < length cells.now }
+    ensures { IsKeptOver cells.now at (cell_of cells.now to) result }
+{
+    // The cells are here for the contract alone, and so is the one where the walk stands.
+    let _ = cells;
+    let _ = at;
+    let number = find_word_move(words, to as u32);
+    Move::of(number).unwrap_or_default()
+}
+
+/// The move that is kept for a place in the row of a cell, by a plain search from there.
+fn plain_move(
+    alloc: Global,
+    grid: &Grid,
+    cells: &[Cell],
+    place: usize,
+    to: usize,
+) -> Result<Move, AllocError>
+    requires searchable { IsSearchable grid.now }
+    requires cells { CanBeWalked grid.now cells.now }
+    requires place { place < length cells.now }
+    requires to { to < length cells.now }
+    ensures { IfOk result (IsKeptOver cells.now (cell_of cells.now place) (cell_of cells.now to)) }
+{
+    let room = (grid.width() * grid.height()) as usize;
+    let mut search = Search::new(alloc, room)?;
+    let mut sets = FirstSets::new(alloc, room)?;
+    let row = one_row(alloc, cells, place as u32, &mut search, &mut sets, grid)?;
+    let number = find_move(&row, to as u32);
+    Ok(Move::of(number).unwrap_or_default())
+}

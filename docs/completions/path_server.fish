@@ -1,0 +1,39 @@
+# Completes the words of path_server. Made by tools/manual.
+complete -c path_server -f -n __fish_use_subcommand -a path -d 'prints the cost, the length and the moves of an optimal path, or unreachable'
+complete -c path_server -x -n '__fish_seen_subcommand_from path' -l order -a 'rows dfs'
+complete -c path_server -x -n '__fish_seen_subcommand_from path' -l workers
+complete -c path_server -F -n '__fish_seen_subcommand_from path'
+complete -c path_server -f -n __fish_use_subcommand -a check -d 'prints the sides, the passable cells, the components and the runs of a map'
+complete -c path_server -x -n '__fish_seen_subcommand_from check' -l order -a 'rows dfs'
+complete -c path_server -x -n '__fish_seen_subcommand_from check' -l workers
+complete -c path_server -F -n '__fish_seen_subcommand_from check'
+complete -c path_server -f -n __fish_use_subcommand -a scen -d 'compares the lengths of a scenario file with those of the map, line by line'
+complete -c path_server -x -n '__fish_seen_subcommand_from scen' -l order -a 'rows dfs'
+complete -c path_server -x -n '__fish_seen_subcommand_from scen' -l workers
+complete -c path_server -F -n '__fish_seen_subcommand_from scen'
+complete -c path_server -f -n __fish_use_subcommand -a made -d 'measures the map that a formula makes of two sides and a seed'
+complete -c path_server -x -n '__fish_seen_subcommand_from made' -l order -a 'rows dfs'
+complete -c path_server -x -n '__fish_seen_subcommand_from made' -l workers
+complete -c path_server -f -n __fish_use_subcommand -a replay -d 'prints what edits, builds and queries of a file come to, line by line'
+complete -c path_server -x -n '__fish_seen_subcommand_from replay' -l order -a 'rows dfs'
+complete -c path_server -x -n '__fish_seen_subcommand_from replay' -l workers
+complete -c path_server -F -n '__fish_seen_subcommand_from replay'
+complete -c path_server -f -n __fish_use_subcommand -a talk -d 'answers frames of requests on standard input until it ends'
+complete -c path_server -x -n '__fish_seen_subcommand_from talk' -l order -a 'rows dfs'
+complete -c path_server -x -n '__fish_seen_subcommand_from talk' -l workers
+complete -c path_server -x -n '__fish_seen_subcommand_from talk' -l room
+complete -c path_server -F -n '__fish_seen_subcommand_from talk'
+complete -c path_server -f -n __fish_use_subcommand -a serve -d 'answers the same requests over TCP at a port of this machine'
+complete -c path_server -x -n '__fish_seen_subcommand_from serve' -l order -a 'rows dfs'
+complete -c path_server -x -n '__fish_seen_subcommand_from serve' -l workers
+complete -c path_server -x -n '__fish_seen_subcommand_from serve' -l room
+complete -c path_server -F -n '__fish_seen_subcommand_from serve'
+complete -c path_server -f -n __fish_use_subcommand -a ask -d 'prints what a server answers to one request'
+complete -c path_server -f -n __fish_use_subcommand -a near -d 'prints what check prints, and how many runs are left where the compass is right'
+complete -c path_server -x -n '__fish_seen_subcommand_from near' -l order -a 'rows dfs'
+complete -c path_server -x -n '__fish_seen_subcommand_from near' -l workers
+complete -c path_server -F -n '__fish_seen_subcommand_from near'
+complete -c path_server -f -n __fish_use_subcommand -a nearpath -d 'prints an optimal path that goes by the compass where that is right'
+complete -c path_server -x -n '__fish_seen_subcommand_from nearpath' -l order -a 'rows dfs'
+complete -c path_server -x -n '__fish_seen_subcommand_from nearpath' -l workers
+complete -c path_server -F -n '__fish_seen_subcommand_from nearpath'

@@ -1,0 +1,14 @@
+#!/usr/bin/env bash
+# The man page and the completions are what tools/manual makes of the program, where one was built; and bash takes its
+# completion. Prints only where something is not as it should be.
+set -u
+# shellcheck source=tests/built.bash
+. "$(dirname "$(readlink -f "${BASH_SOURCE[0]}")")/built.bash" || exit 1
+top=$here/..
+case $program in */release/path_server) exit 0 ;; esac
+status=0
+"$top/tools/manual" --check "$program" || status=1
+offered=$(bash -c '. "$1" && COMP_WORDS=(path_server check --o); COMP_CWORD=2; _path_server; echo "${COMPREPLY[@]}"' \
+  bash "$top/docs/completions/path_server.bash")
+[ "$offered" = --order ] || { echo "manual.sh: bash offers '$offered' behind 'check --o'" >&2; status=1; }
+exit "$status"
