@@ -152,6 +152,6 @@ some_merged cells rows other new p q m = record {
   };
 }
 
--- the rows of a worker that were built
-pub share_is : (cells : List Cell) (share : Result (List (List Run)) AllocError) (rows : List (List Run)) → IfOk share (AreSome cells) → share ≡ Ok rows → AreSome cells rows
-share_is cells share rows told is = subst (λ s. IfOk s (AreSome cells)) is told
+-- what a worker has built
+pub share_is : {X : Type 0} (P : X → Type 0) (share : Result X AllocError) (built : X) → IfOk share P → share ≡ Ok built → P built
+share_is P share built told is = subst (λ s. IfOk s P) is told

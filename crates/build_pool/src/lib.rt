@@ -10,10 +10,11 @@ ghost use Rattle.moves.specs.Maps.{IsSearchable};
 ghost use Rattle.moves.specs.FirstSetLists.{cell_of, AreFirstSets};
 ghost use Rattle.cell_order.specs.Orders.{kind_of, ordered};
 ghost use Rattle.row_store.specs.Rows.{IsRowFrom, AreRows};
-ghost use Rattle.build_pool.specs.Places.{CanBeBuilt, AreComponent};
-ghost use Rattle.build_pool.specs.Pieces.{CanBuild, AreSome};
+ghost use Rattle.build_pool.specs.Places.{CanBeBuilt, AreComponent, AreWithNear};
+ghost use Rattle.build_pool.specs.Pieces.{CanBuild};
 
 mod board;
+mod harvest;
 mod pending;
 mod piece;
 mod plain;
@@ -22,11 +23,12 @@ mod rows;
 use cell_order::{OrderKind, order_of};
 use first_sets::FirstSets;
 use grid_search::Search;
+pub use harvest::Harvest;
 use lane_rows::Near;
 use moves::{Cell, Grid, MAX_PASSABLE};
 use pending::Pending;
 use piece::{Share, build_share};
-use plain::{put_rest, write_sets};
+pub use plain::{put_rest, write_sets};
 use row_store::{CompData, RowPool};
 use run_pack::{Run, pack};
 use std::alloc::{AllocError, Global};
@@ -43,6 +45,10 @@ const SWEEPS: u32 = 64;
 pub trait Gate: Sync {
     /// The piece with that number begins.
     fn enter(&self, piece: u32);
+
+    /// A worker has just built so many rows more, whosever piece they are of. It is told once a tile, so that progress can
+    /// be shown, and nothing is promised of it: rows that are built in another way than by tiles are not told.
+    fn built(&self, _rows: u32) {}
 }
 
 /// A gate that holds no piece.
@@ -124,25 +130,86 @@ fn build_with<R: Threads + Sync, G: Gate>(
 {
     let order = order_of(alloc, kind, cells)?;
     let near = Near::of(alloc, &order)?;
-    let pending = Pending::new(alloc, order.len())?;
+    let mut rows: RowPool = gather_with(rt, alloc, &order, &near, effort, gate)?;
+    put_rest(alloc, &order, &mut rows)?;
+    CompData::of_pool(alloc, kind.number(), order, rows)
+}
+
+/// What is kept of the tiles of a component, whose cells stand in some order, by so many workers, from 1 to 64. Pieces are
+/// cut and pass the gate as in `build_rows`. Of a cell whose tile was not solved it has nothing.
+///
+/// # Errors
+///
+/// `AllocError` where memory runs out.
+pub fn gather<R: Threads + Sync, G: Gate, H: Harvest>(
+    rt: &R,
+    alloc: Global,
+    cells: &[Cell],
+    near: &Near,
+    workers: u32,
+    gate: &G,
+) -> Result<H, AllocError>
+    requires table { AreWithNear cells.now near.now }
+    requires worker { 0 < workers }
+    requires workers { workers ≤ MAX_WORKERS }
+    ensures { IfOk result (H.gathered cells.now) }
+{
+    let effort = Effort {
+        workers,
+        sweeps: Some(SWEEPS),
+    };
+    gather_with(rt, alloc, cells, near, effort, gate)
+}
+
+/// `gather` with so much effort.
+fn gather_with<R: Threads + Sync, G: Gate, H: Harvest>(
+    rt: &R,
+    alloc: Global,
+    cells: &[Cell],
+    near: &Near,
+    effort: Effort,
+    gate: &G,
+) -> Result<H, AllocError>
+    requires table { AreWithNear cells.now near.now }
+    requires worker { 0 < effort.workers }
+    requires workers { effort.workers ≤ MAX_WORKERS }
+    ensures { IfOk result (H.gathered cells.now) }
+{
+    let pending = Pending::new(alloc, cells.len())?;
     let shares = thread::map_indices(
         rt,
         alloc,
         effort.workers as usize,
-        &|piece: usize| -> Result<RowPool, AllocError>
-            requires { CanBuild order.items near effort.workers piece }
-            ensures { IfOk result (AreSome order.items) }
+        &|piece: usize| -> Result<H, AllocError>
+            requires { CanBuild cells.now near.now effort.workers piece }
+            ensures { IfOk result (H.gathered cells.entry.now) }
         {
             let share = effort.share(piece as u32);
-            build_share(alloc, &order, &near, &pending, share, gate)
+            build_share(alloc, cells, near, &pending, share, gate)
         },
     )?;
-    let mut rows = RowPool::blank(alloc, order.len())?;
+    let mut all = H::begin(alloc, cells)?;
     for share in shares {
-        rows.merge(share?)?;
+        all.take_over(cells, share?)?;
     }
-    put_rest(alloc, &order, &mut rows)?;
-    CompData::of_pool(alloc, kind.number(), order, rows)
+    Ok(all)
+}
+
+/// `gather` by the calling thread alone, with no gate.
+///
+/// # Errors
+///
+/// `AllocError` where memory runs out.
+pub fn gather_alone<H: Harvest>(alloc: Global, cells: &[Cell], near: &Near) -> Result<H, AllocError>
+    requires table { AreWithNear cells.now near.now }
+    ensures { IfOk result (H.gathered cells.now) }
+{
+    let effort = Effort {
+        workers: 1,
+        sweeps: Some(SWEEPS),
+    };
+    let pending = Pending::new(alloc, cells.len())?;
+    build_share(alloc, cells, near, &pending, effort.share(0), &FreeGate)
 }
 
 /// The row of one source: the tight row of its first sets to the cells, which are a whole component of the grid in some
@@ -150,7 +217,8 @@ fn build_with<R: Threads + Sync, G: Gate>(
 ///
 /// # Errors
 ///
-/// `AllocError` where memory runs out.
+/// `AllocError` where memory runs out. Whatever the search and the sets then have of another source is of no use, and
+/// they may be used again.
 pub fn one_row(
     alloc: Global,
     cells: &[Cell],

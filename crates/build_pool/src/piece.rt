@@ -8,14 +8,13 @@
 
 ghost use Rattle.std.specs.Prelude.{◌≡◌, ℕ, ◌+◌, ◌*◌, ◌/◌, ◌<◌, ◌≤◌, length, slice_index, IfOk, IfSome, OnOk};
 ghost use Rattle.build_pool.specs.Places.{AreWithNear};
-ghost use Rattle.build_pool.specs.Pieces.{cut, CanBuild, ArePackedOver, ArePartly, AreSome};
+ghost use Rattle.build_pool.specs.Pieces.{cut, CanBuild};
 
+use crate::harvest::Harvest;
 use crate::pending::Pending;
-use crate::rows::put_row;
 use crate::{Gate, MAX_WORKERS};
 use lane_rows::{LANES, Near, Tiles};
 use moves::{Cell, MAX_PASSABLE};
-use row_store::RowPool;
 use std::alloc::{AllocError, Global};
 
 /// One worker of so many, and how often the places of a tile are gone over back and forth before it is given up, where
@@ -27,27 +26,36 @@ pub(crate) struct Share {
     pub sweeps: Option<u32>,
 }
 
-/// The rows that one worker builds, after its piece has passed the gate; those of others are blank. All that a row
-/// needs to be built is taken once.
-pub(crate) fn build_share<G: Gate>(
+/// What one worker gathers, after its piece has passed the gate; it has nothing of what others build. All that a row
+/// needs to be built is taken once. Without sweeps it builds none.
+pub(crate) fn build_share<G: Gate, H: Harvest>(
     alloc: Global,
     cells: &[Cell],
     near: &Near,
     pending: &Pending,
     share: Share,
     gate: &G,
-) -> Result<RowPool, AllocError>
+) -> Result<H, AllocError>
     requires { CanBuild cells.now near.now share.workers share.piece }
-    ensures { IfOk result (AreSome cells.now) }
+    ensures { IfOk result (H.gathered cells.now) }
 {
     gate.enter(share.piece);
     pending.offer(
         cut_of(cells.len(), share.workers, share.piece),
         cut_of(cells.len(), share.workers, share.piece + 1),
     );
-    let mut rows = RowPool::blank(alloc, cells.len())?;
-    put_tiles(alloc, cells, near, pending, share, &mut rows)?;
-    Ok(rows)
+    let mut harvest = H::begin(alloc, cells)?;
+    let Some(sweeps) = share.sweeps else {
+        return Ok(harvest);
+    };
+    let mut bench = Workbench::new(alloc, near.len(), pending.blocks(), sweeps)?;
+    for first in 0..near.len() {
+        if pending.may_be_taken(first) {
+            let built = build_tile(near, cells, pending, first as u16, &mut bench, &mut harvest)?;
+            gate.built(built);
+        }
+    }
+    Ok(harvest)
 }
 
 /// Where a piece begins.
@@ -93,60 +101,37 @@ impl Workbench {
     }
 }
 
-/// Builds rows as long as there are some that may be taken. Without sweeps it builds none.
-fn put_tiles(
-    alloc: Global,
-    cells: &[Cell],
-    near: &Near,
-    pending: &Pending,
-    share: Share,
-    rows: &mut RowPool,
-) -> Result<(), AllocError>
-    requires can { CanBuild cells.now near.now share.workers share.piece }
-    requires part { ArePartly cells.now rows.old }
-    ensures whole { OnOk result (length rows.new ≡ length rows.old) }
-    ensures part { OnOk result (ArePartly cells.now rows.new) }
-{
-    let Some(sweeps) = share.sweeps else {
-        return Ok(());
-    };
-    let mut bench = Workbench::new(alloc, near.len(), pending.blocks(), sweeps)?;
-    for first in 0..near.len() {
-        if pending.may_be_taken(first) {
-            put_tile(near, cells, pending, first as u16, &mut bench, rows)?;
-        }
-    }
-    Ok(())
-}
-
-/// Builds the rows of a tile around the place, where that may still be taken.
-fn put_tile(
+/// Builds the rows of a tile around the place, where that may still be taken, and says how many there are.
+fn build_tile<H: Harvest>(
     near: &Near,
     cells: &[Cell],
     pending: &Pending,
     first: u16,
     bench: &mut Workbench,
-    rows: &mut RowPool,
-) -> Result<(), AllocError>
-    requires sources { AreWithNear cells.now near.now }
+    harvest: &mut H,
+) -> Result<u32, AllocError>
+    requires near { AreWithNear cells.now near.now }
     requires first { first < length near.now }
     requires count { bench.old.tiles.count ≡ length near.now }
     requires marks { length bench.old.wanted.items ≡ length near.now }
-    requires part { ArePartly cells.now rows.old }
+    requires part { H.gathered cells.now harvest.old }
     ensures count { OnOk result (bench.new.tiles.count ≡ length near.now) }
     ensures marks { OnOk result (length bench.new.wanted.items ≡ length near.now) }
-    ensures whole { OnOk result (length rows.new ≡ length rows.old) }
-    ensures part { OnOk result (ArePartly cells.now rows.new) }
+    ensures part { OnOk result (H.gathered cells.now harvest.new) }
 {
     let Some(taken) = choose_tile(near, pending, first, bench) else {
-        return Ok(());
+        return Ok(0);
     };
     if !bench.tiles.run(near, bench.sweeps) {
-        return Ok(());
+        return Ok(0);
     }
-    bench.tiles.pack()?;
-    put_lanes(&bench.tiles, taken, cells, rows)?;
-    Ok(())
+    harvest.gather(cells, near, &mut bench.tiles, taken)?;
+    Ok(count_of(taken))
+}
+
+/// How many lanes are marked.
+fn count_of(taken: [bool; LANES]) -> u32 {
+    taken.iter().filter(|is_taken| **is_taken).count() as u32
 }
 
 /// Chooses the sources of a tile around the place when it is the worker's turn, and takes their rows. It says in which
@@ -187,29 +172,4 @@ fn take_lanes(pending: &Pending, tiles: &Tiles, count: usize) -> Option<[bool; L
         }
     }
     if is_any { Some(taken) } else { None }
-}
-
-/// Puts the packed rows of the lanes that were taken.
-fn put_lanes(
-    tiles: &Tiles,
-    taken: [bool; LANES],
-    cells: &[Cell],
-    rows: &mut RowPool,
-) -> Result<(), AllocError>
-    requires packed { ArePackedOver cells.now tiles.now }
-    requires part { ArePartly cells.now rows.old }
-    ensures whole { OnOk result (length rows.new ≡ length rows.old) }
-    ensures part { OnOk result (ArePartly cells.now rows.new) }
-{
-    for lane in 0..LANES {
-        if taken[lane] {
-            put_row(
-                rows,
-                cells,
-                usize::from(tiles.source(lane)),
-                tiles.words(lane),
-            )?;
-        }
-    }
-    Ok(())
 }

@@ -22,7 +22,11 @@ struct Plain {
 }
 
 /// Builds the rows that are blank. Where there are none it takes no memory.
-pub(crate) fn put_rest(alloc: Global, cells: &[Cell], rows: &mut RowPool) -> Result<(), AllocError>
+///
+/// # Errors
+///
+/// `AllocError` where memory runs out. Some of the rows may be built then.
+pub fn put_rest(alloc: Global, cells: &[Cell], rows: &mut RowPool) -> Result<(), AllocError>
     requires sources { AreSources cells.now }
     requires inside { length rows.old ≤ length cells.now }
     requires part { ArePartly cells.now rows.old }
@@ -97,7 +101,7 @@ fn put_plain(
 }
 
 /// Searches from the source at a place, and writes its first sets to the cells in their order.
-pub(crate) fn write_sets(
+pub fn write_sets(
     grid: &Grid,
     cells: &[Cell],
     place: usize,

@@ -6,3 +6,4 @@ pub mod Tiles
 pub mod Laws
 pub mod Rows
 pub mod Packed
+pub mod Completed

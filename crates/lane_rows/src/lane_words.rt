@@ -9,7 +9,7 @@ use std::marker::Model;
 
 /// Sixteen lists of words, which grow as words are pushed and keep their memory where they are cleared.
 #[derive(Drop)]
-pub(crate) struct LaneWords {
+pub struct LaneWords {
     lists: Vec<Vec<u32>>,
 }
 
@@ -25,7 +25,11 @@ impl Model for LaneWords {
 
 impl LaneWords {
     /// Lists without words.
-    pub(crate) fn new(alloc: Global) -> Result<LaneWords, AllocError> {
+    ///
+    /// # Errors
+    ///
+    /// `AllocError` where memory runs out.
+    pub fn new(alloc: Global) -> Result<LaneWords, AllocError> {
         let mut lists = Vec::with_capacity(alloc, LANES)?;
         for _ in 0..LANES {
             lists.push(Vec::new(alloc))?;
@@ -58,7 +62,7 @@ impl LaneWords {
     }
 
     /// The words of a lane.
-    pub(crate) fn of(&self, lane: usize) -> &[u32]
+    pub fn of(&self, lane: usize) -> &[u32]
         requires { lane < 16 }
         ensures { result.now ≡ words_in self.now lane }
     {

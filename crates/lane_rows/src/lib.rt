@@ -21,5 +21,7 @@ mod solve;
 mod sweeps;
 mod tiles;
 
+pub use lane_words::LaneWords;
 pub use near::Near;
+pub use packing::pack_lanes;
 pub use tiles::{LANES, Tiles};

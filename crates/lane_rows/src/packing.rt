@@ -13,12 +13,13 @@ use run_pack::{MAX_PLACES, least_word};
 use std::alloc::AllocError;
 use std::simd::prelude::*;
 
-/// Packs the sets of each lane into a row of words.
+/// Packs the sets of each lane into a row of words, in the place of all words that were there.
 ///
 /// # Errors
 ///
-/// `AllocError` where memory runs out.
-pub(crate) fn pack_lanes(sets: &[u8x16], words: &mut LaneWords) -> Result<(), AllocError>
+/// `AllocError` where memory runs out. The words of each lane are then those of its first runs, or one fewer; the sets are
+/// as before.
+pub fn pack_lanes(sets: &[u8x16], words: &mut LaneWords) -> Result<(), AllocError>
     requires some { 0 < length sets.now }
     requires few { length sets.now ≤ MAX_PLACES }
     ensures packed { OnOk result (ArePackedLanes sets.now words.new) }

@@ -8,6 +8,7 @@ ghost use Rattle.lane_rows.specs.Rows.{HasFirstSets, HasMoves};
 ghost use Rattle.lane_rows.specs.Equations.{lane_of};
 ghost use Rattle.lane_rows.specs.Tiles.{AreTaken, IsRowOf, IsSolved, Tile};
 ghost use Rattle.lane_rows.specs.Packed.{HavePackedRows, words_in};
+ghost use Rattle.lane_rows.specs.Completed.{AreCompleted};
 
 use crate::Near;
 use crate::kernels::FULL;
@@ -141,11 +142,28 @@ impl Tiles {
         self.write_row(lane, row);
     }
 
-    /// Packs the rows of all lanes, each with all moves at its source. The sets are used up by it.
+    /// Gives each lane's source all moves in that lane, as a path without moves has any first move.
+    pub fn complete(&mut self)
+        requires { (lane : ℕ) → lane < 16 → slice_index self.old.sources lane < self.old.count }
+        ensures count { self.new.count ≡ self.old.count }
+        ensures sources { self.new.sources ≡ self.old.sources }
+        ensures completed { AreCompleted self.old self.new }
+    {
+        fill_own(self.sets.as_mut_slice(), self.sources);
+    }
+
+    /// The sets of all lanes by places, as they stand.
+    pub fn sets(&self) -> &[u8x16]
+        ensures { result.now ≡ take self.now.count self.now.sets }
+    {
+        &self.sets[..self.count]
+    }
+
+    /// Packs the rows of all lanes, each with all moves at its source. The sets are completed by it.
     ///
     /// # Errors
     ///
-    /// `AllocError` where memory runs out.
+    /// `AllocError` where memory runs out. Only the words are of no use then, and the tile may be packed again.
     pub fn pack(&mut self) -> Result<(), AllocError>
         requires some { 0 < self.old.count }
         requires sources { (lane : ℕ) → lane < 16
@@ -153,6 +171,7 @@ impl Tiles {
         ensures count { self.new.count ≡ self.old.count }
         ensures sources { self.new.sources ≡ self.old.sources }
         ensures rows { OnOk result (HavePackedRows self.old self.new.words) }
+        ensures completed { AreCompleted self.old self.new }
     {
         fill_own(self.sets.as_mut_slice(), self.sources);
         pack_lanes(&self.sets[..self.count], &mut self.words)?;

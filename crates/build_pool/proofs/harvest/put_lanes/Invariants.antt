@@ -1,6 +1,6 @@
 use Rattle.std.proofs.Common.{◌≡◌, length}
 use Rattle.build_pool.specs.Pieces.{ArePartly}
-use Rattle.build_pool.proofs.piece.put_lanes.Given as goal
+use Rattle.build_pool.proofs.harvest.put_lanes.Given as goal
 
 abbrev pub invariant-loop-lane : goal.invariant-loop-lane
 invariant-loop-lane l = record {
