@@ -9,17 +9,17 @@ use Rattle.moves.proofs.MoveLaws.{same_cell}
 use Rattle.near_rows.specs.Compass.{IsCompass, IsInSquare}
 
 -- how one number stands to another: it is less, the same, or greater
-data Order : Type 0 where
+pub data Order : Type 0 where
   below : Order
   level : Order
   above : Order
 
-abbrev Stands : Order → ℕ → ℕ → Type 0
+abbrev pub Stands : Order → ℕ → ℕ → Type 0
 Stands below a b = b < a
 Stands level a b = b ≡ a
 Stands above a b = a < b
 
-one_order : (p q : Order) (a b : ℕ) → Stands p a b → Stands q a b → p ≡ q
+pub one_order : (p q : Order) (a b : ℕ) → Stands p a b → Stands q a b → p ≡ q
 one_order below below a b h k = refl
 one_order below level a b h k = absurd (omega arith)
 one_order below above a b h k = absurd (omega arith)
@@ -30,7 +30,7 @@ one_order above below a b h k = absurd (omega arith)
 one_order above level a b h k = absurd (omega arith)
 one_order above above a b h k = refl
 
-abbrev column_order : Move → Order
+abbrev pub column_order : Move → Order
 column_order N = level
 column_order NE = above
 column_order E = above
@@ -40,7 +40,7 @@ column_order SW = below
 column_order W = below
 column_order NW = below
 
-abbrev row_order : Move → Order
+abbrev pub row_order : Move → Order
 row_order N = below
 row_order NE = below
 row_order E = level
@@ -72,7 +72,7 @@ moved_by SW = refl
 moved_by W = refl
 moved_by NW = refl
 
-columns_stand : (from : Cell) (move : Move) (to : Cell) → IsCompass from move to → Stands (column_order move) from.x to.x
+pub columns_stand : (from : Cell) (move : Move) (to : Cell) → IsCompass from move to → Stands (column_order move) from.x to.x
 columns_stand from N to h = h.0
 columns_stand from NE to h = h.0
 columns_stand from E to h = h.0
@@ -82,7 +82,7 @@ columns_stand from SW to h = h.0
 columns_stand from W to h = h.0
 columns_stand from NW to h = h.0
 
-rows_stand : (from : Cell) (move : Move) (to : Cell) → IsCompass from move to → Stands (row_order move) from.y to.y
+pub rows_stand : (from : Cell) (move : Move) (to : Cell) → IsCompass from move to → Stands (row_order move) from.y to.y
 rows_stand from N to h = h.1
 rows_stand from NE to h = h.1
 rows_stand from E to h = h.1
@@ -91,6 +91,17 @@ rows_stand from S to h = h.1
 rows_stand from SW to h = h.1
 rows_stand from W to h = h.1
 rows_stand from NW to h = h.1
+
+pub compass_stands : (from : Cell) (move : Move) (to : Cell) → Stands (column_order move) from.x to.x → Stands (row_order move) from.y to.y
+    → IsCompass from move to
+compass_stands from N to columns rows = (columns, rows)
+compass_stands from NE to columns rows = (columns, rows)
+compass_stands from E to columns rows = (columns, rows)
+compass_stands from SE to columns rows = (columns, rows)
+compass_stands from S to columns rows = (columns, rows)
+compass_stands from SW to columns rows = (columns, rows)
+compass_stands from W to columns rows = (columns, rows)
+compass_stands from NW to columns rows = (columns, rows)
 
 -- between two cells there is at most one compass move
 pub same_compass : (from : Cell) (a b : Move) (to : Cell) → IsCompass from a to → IsCompass from b to → a ≡ b

@@ -4,33 +4,10 @@ use Rattle.std.proofs.lemmas.Bool.{cases_eq, cases_lt}
 use Rattle.std.proofs.lemmas.List.{get_or-set_same, get_or-set_other, length-replicate, length-set}
 use Rattle.moves.specs.declared.Cell.{Cell}
 use Rattle.moves.specs.Maps.{Map}
-use Rattle.moves.specs.FirstSetLists.{cell_of, AreFirstSets}
-use Rattle.moves.proofs.OneValue.{one_value}
-use Rattle.lane_rows.specs.Tables.{IsNumbered}
-use Rattle.lane_rows.specs.Laws.{IsTableOf}
-use Rattle.lane_rows.specs.Rows.{HasFirstSets}
-use Rattle.lane_rows.specs.Tiles.{Tile, IsSolved}
+use Rattle.moves.specs.FirstSetLists.{cell_of}
 use Rattle.row_store.specs.Rows.{row_at}
 use Rattle.near_rows.specs.NearRows.{Nearby, IsNearAt, AreNear, IsNearRadius, AreWidened}
-use Rattle.near_rows.specs.Building.{IsGround, IsTable, ArePartly, AreDone, PutsNear, HasBlank}
-use Rattle.near_rows.proofs.Parts.{first_over_part}
-
--- the cells of a component can be numbered
-pub ground_numbered : (map : Map) (cells : List Cell) → IsGround map cells → IsNumbered cells
-ground_numbered map cells ground = record {
-  once = ground.once;
-  columns = λ k d within. (ground.on_map k d within).column;
-  rows = λ k d within. (ground.on_map k d within).row;
-  few = ground.few;
-}
-
-pub part_blank : (map : Map) (cells : List Cell) (nearby : Nearby) → length nearby.radii ≡ length cells → nearby.rows ≡ replicate (length cells) []
-    → ArePartly map cells nearby
-part_blank map cells nearby radii blank = record {
-  radii = radii;
-  rows = ap length blank ∙ length-replicate (length cells) [];
-  each = λ place within. inl (ap (λ rows. row_at rows place) blank ∙ one_value (length cells) place []);
-}
+use Rattle.near_rows.specs.Building.{ArePartly, AreDone, PutsNear, HasBlank}
 
 module _ (map : Map) (cells : List Cell) (old new : Nearby) (place radius : ℕ) (sets : List ℕ) (within : place < length cells) (part : ArePartly map cells old)
     (put : PutsNear old new place radius sets) (is : IsNearRadius map cells (cell_of cells place) radius)
@@ -125,19 +102,3 @@ none_blank map cells nearby p none = record {
     | inr near ↦ near
   ];
 }
-
--- ---- sets of a solved tile
-
--- the sets of a lane are the first sets from its source over the whole map
-pub tile_sets : (map : Map) (cells : List Cell) (beside : List (List ℕ)) (tile : Tile) (lane place : ℕ) (sets : List ℕ) → IsGround map cells → IsTable cells beside
-    → IsSolved beside tile → HasFirstSets tile lane sets → place ≡ slice_index tile.sources lane → place < length cells
-    → AreFirstSets map (cell_of cells place) cells sets
-tile_sets map cells beside tile lane place sets ground table solved first at within =
-    let over : IsTableOf ground.alone cells beside = record {
-      just = ground.just;
-      numbered = ground_numbered map cells ground;
-      edges = table.edges;
-      pairs = table.pairs;
-    } in
-    first_over_part map cells ground.part ground.alone place sets ground.just within
-    (subst (λ k. AreFirstSets ground.alone (cell_of cells k) cells sets) (sym at) (first ground.alone cells beside over solved))

@@ -7,7 +7,10 @@ pub mod NearWalking
 pub mod Fewest
 pub mod Determined
 pub mod Greatest
-pub mod Written
+pub mod Choices
+pub mod CompassSets
+pub mod NearLanes
+pub mod Gathered
 pub mod Filling
 pub mod Following
 pub mod Measuring

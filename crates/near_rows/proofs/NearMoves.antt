@@ -26,7 +26,7 @@ use Rattle.versions.proofs.BestWalks.{at_one_place}
 use Rattle.near_rows.specs.Compass.{IsInSquare}
 use Rattle.near_rows.specs.NearRows.{Nearby, IsNearRow, IsRightWithin, AreNear}
 use Rattle.near_rows.specs.NearPaths.{IsNearMoveBy, IsNearMove, IsLookedUp, SpellsNear}
-use Rattle.near_rows.specs.Building.{IsPart}
+use Rattle.build_pool.specs.Places.{AreComponent}
 use Rattle.near_rows.proofs.Compasses.{same_compass, some_compass, square_or_not}
 use Rattle.near_rows.proofs.Parts.{has_place, part_reaches, part_has, part_has_back}
 
@@ -148,7 +148,7 @@ module _ (map : Map) (cells : List Cell) (nearby : Nearby) (near : AreNear map c
         let rest = spelled_near_once q.2 goal xs ys (subst (λ c. SpellsNear cells nearby c xs goal) next p.4) q.4 in
         ap (λ m. m ∷ xs) move ∙ ap (λ ms. y ∷ ms) rest
 
-  module _ (part : IsPart map cells) where
+  module _ (part : AreComponent map cells) where
     pub spelled_along : (goal : Cell) → Contains cells goal → (n : ℕ) (from : Cell) (best : List Move) → Contains cells from → IsBest map from best goal
         → length best ≡ n → (moves : List Move) × SpellsNear cells nearby from moves goal × IsBest map from moves goal
     spelled_along goal b n from [] a best long = ([], best.leads.1, best)

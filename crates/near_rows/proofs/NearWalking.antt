@@ -21,7 +21,8 @@ use Rattle.versions.proofs.BestWalks.{component_of, same_cells_kept, kept_cells,
 use Rattle.near_rows.specs.NearRows.{Nearby, AreNear}
 use Rattle.near_rows.specs.NearVersions.{NearVersioned, IsNearVersion, IsHomeLabel, nearby_at}
 use Rattle.near_rows.specs.NearPaths.{SpellsNear, IsNearMove, IsNearWalk, NearWalksAreBest}
-use Rattle.near_rows.specs.Building.{IsPart, IsGround}
+use Rattle.build_pool.specs.Places.{AreComponent}
+use Rattle.near_rows.specs.Building.{IsGround}
 use Rattle.near_rows.proofs.NearMoves.{near_walk, near_once, spelled_near_once}
 
 -- ---- a component of a version
@@ -33,7 +34,7 @@ module _ (version : Versioned) (is : IsVersion version) (label : ℕ) (within : 
   pub comp_whole : IsComp (comp_at version.comps label)
   comp_whole = (is.database.each label within).whole
 
-  pub part_of_version : IsPart version.map (comp_at version.comps label).cells
+  pub part_of_version : AreComponent version.map (comp_at version.comps label).cells
   part_of_version = record {
     component = component_at is.database.components label;
     is = component_of version.map version.order version.comps is.database label within;

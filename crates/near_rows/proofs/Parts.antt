@@ -19,14 +19,14 @@ use Rattle.run_pack.specs.Runs.{ArePackable}
 use Rattle.row_store.specs.Comps.{IsPlaceOf}
 use Rattle.row_store.proofs.RowLaws.{HasJust-permuted}
 use Rattle.near_rows.specs.NearRows.{AreWidened}
-use Rattle.near_rows.specs.Building.{IsPart}
+use Rattle.build_pool.specs.Places.{AreComponent}
 use Rattle.near_rows.proofs.Compasses.{square_or_not}
 
 -- the cell at a place is one of the cells
 pub has_place : (cells : List Cell) (cell : Cell) (place : ℕ) → IsPlaceOf cells cell place → Contains cells cell
 has_place cells cell place is = subst (Contains cells) is.there (Contains-get_or cells place (record { x = 0; y = 0 }) is.within)
 
-module _ (map : Map) (cells : List Cell) (part : IsPart map cells) where
+module _ (map : Map) (cells : List Cell) (part : AreComponent map cells) where
   inside : (cell : Cell) → Contains cells cell → Contains part.component cell
   inside cell has = Contains-permutation cells part.component cell part.order has
 

@@ -42,18 +42,22 @@ module _ (source : Cell) (radius : ℕ) (cells : List Cell) (old : List ℕ) whe
   }
 
   -- where all are widened, they are the widened sets
-  pub widened_all : (new : List ℕ) (upto : ℕ) → AreWidenedTo source radius cells old new upto → upto ≡ length cells → (map : Map)
-      → AreFirstSets map source cells old → AreWidened map source radius cells new
-  widened_all new upto p all map first = record {
-    whole = p.whole ∙ first.whole;
+  pub widened_each : (new : List ℕ) → length new ≡ length old
+      → ((place : ℕ) → place < length cells → IsWidenedSet source radius (cell_of cells place) (slice_index old place) (slice_index new place))
+      → (map : Map) → AreFirstSets map source cells old → AreWidened map source radius cells new
+  widened_each new whole done map first = record {
+    whole = whole ∙ first.whole;
     bytes = All-from_get_or (λ s. s < 256) new 0 (λ k within.
         let size = first.whole in
-        let long = p.whole in
-        let is = p.done k (omega arith) in
+        let is = done k (omega arith) in
         elim (square_or_not source radius (cell_of cells k)) [
           | inl square ↦ rw (is.inside square) (omega arith)
           | inr out ↦ rw (is.outside out) (All-get_or (λ s. s < 256) old k 0 (omega arith) first.bytes)
         ]);
-    inside = λ place within square. (p.done place (omega arith)).inside square;
-    outside = λ place within out move. rw ((p.done place (omega arith)).outside out) (first.each place within move);
+    inside = λ place within square. (done place within).inside square;
+    outside = λ place within out move. rw ((done place within).outside out) (first.each place within move);
   }
+
+  pub widened_all : (new : List ℕ) (upto : ℕ) → AreWidenedTo source radius cells old new upto → upto ≡ length cells → (map : Map)
+      → AreFirstSets map source cells old → AreWidened map source radius cells new
+  widened_all new upto p all = widened_each new p.whole (λ place within. p.done place (omega arith))

@@ -1,5 +1,5 @@
 -- Near rows of a component while they are built, in whatever order they are found.
-use Rattle.std.specs.Prelude.{◌≡◌, ◌⊎◌, ℕ, ◌<◌, ◌≤◌, List, [], length, All, AllPairs, IsPermutation, slice_set}
+use Rattle.std.specs.Prelude.{◌≡◌, ◌⊎◌, ℕ, ◌<◌, ◌≤◌, List, [], length, All, AllPairs, slice_set}
 use Rattle.run_pack.specs.declared.Run.{Run}
 use Rattle.run_pack.specs.Runs.{IsPacked}
 use Rattle.moves.specs.declared.Cell.{Cell}
@@ -7,34 +7,22 @@ use Rattle.moves.specs.declared.Move.{Move}
 use Rattle.moves.specs.declared.TheConstants.{MAX_PASSABLE}
 use Rattle.moves.specs.Maps.{Map, IsSearchable}
 use Rattle.moves.specs.MoveSets.{Has}
-use Rattle.moves.specs.Components.{IsComponent}
 use Rattle.moves.specs.Rectangles.{IsOnMap}
 use Rattle.moves.specs.ComponentLaws.{HasJust}
-use Rattle.lane_rows.specs.Tables.{AreNear as AreNeighbours, IsMutual}
 use Rattle.row_store.specs.Rows.{row_at}
+use Rattle.build_pool.specs.Places.{AreComponent}
 use Rattle.near_rows.specs.Compass.{IsCompass, IsInSquare}
 use Rattle.near_rows.specs.NearRows.{Nearby, IsNearAt}
 
--- the cells are those of a component of the map, in some order
-pub record IsPart (map : Map) (cells : List Cell) : Type 0 where
-  pub component : List Cell
-  pub is : IsComponent map component
-  pub order : IsPermutation cells component
-
 -- the cells are those of a component of a map that may be searched, each once, and there is a map that has just them
 pub record IsGround (map : Map) (cells : List Cell) : Type 0 where
-  pub part : IsPart map cells
+  pub part : AreComponent map cells
   pub alone : Map
   pub just : HasJust alone cells
   pub searchable : IsSearchable map
   pub few : length cells ≤ MAX_PASSABLE
   pub on_map : All IsOnMap cells
   pub once : AllPairs (λ a b. a ≡ b → ⊥) cells
-
--- the neighbours of all these cells
-pub record IsTable (cells : List Cell) (beside : List (List ℕ)) : Type 0 where
-  pub edges : AreNeighbours cells beside
-  pub pairs : IsMutual beside
 
 -- the set has not the compass move between two cells
 pub record IsAstray (from to : Cell) (set : ℕ) : Type 0 where

@@ -4,3 +4,5 @@ pub mod NearVersions
 pub mod NearPaths
 pub mod NearWalks
 pub mod Building
+pub mod Lanes
+pub mod Gathering

@@ -10,7 +10,7 @@ use Rattle.row_store.specs.Comps.{Comp, IsComp, IsPlaceOf}
 use Rattle.near_rows.specs.NearRows.{Nearby, AreNear}
 use Rattle.near_rows.specs.NearVersions.{NearVersioned}
 use Rattle.near_rows.specs.NearPaths.{SpellsNear, IsNearWalk}
-use Rattle.near_rows.specs.Building.{IsPart}
+use Rattle.build_pool.specs.Places.{AreComponent}
 
 -- a near walk as its callers see it: a component, what is near in it, the cell that was reached, and the goal
 pub record NearWalking : Type 0 where
@@ -23,7 +23,7 @@ pub record NearWalking : Type 0 where
 pub record IsUnderWay (comp : Comp) (nearby : Nearby) (at goal : Cell) (place column : ℕ) : Type 0 where
   pub whole : IsComp comp
   pub map : Map
-  pub part : IsPart map comp.cells
+  pub part : AreComponent map comp.cells
   pub near : AreNear map comp.cells nearby
   pub here : IsPlaceOf comp.cells at place
   pub there : IsPlaceOf comp.cells goal column

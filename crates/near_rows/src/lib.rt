@@ -8,11 +8,14 @@
 
 mod building;
 mod compass;
+mod gathering;
+mod lanes;
 pub mod laws;
 mod near_version;
 mod near_walk;
 mod nearby;
 mod plain;
+mod vectors;
 mod widening;
 
 use moves::MAX_SIDE;

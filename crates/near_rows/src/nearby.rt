@@ -1,16 +1,17 @@
 //! What is near in a component: a radius and a row for each of its cells.
 
-ghost use Rattle.std.specs.Prelude.{◌≡◌, ℕ, ◌+◌, ◌*◌, ◌^◌, ◌-◌, ◌<◌, ◌≤◌, ◌↔◌, [], length, map, replicate, slice_index, IfOk, OnOk, IsTrue};
+ghost use Rattle.std.specs.Prelude.{◌≡◌, ◌≢◌, ℕ, ◌+◌, ◌*◌, ◌^◌, ◌-◌, ◌<◌, ◌≤◌, ◌↔◌, [], length, map, replicate, slice_index, IfOk, OnOk, IsTrue};
 ghost use Rattle.run_pack.specs.Runs.{ArePackable, IsFound, Rises, run_of_word};
 ghost use Rattle.moves.specs.Moves.{number_of};
 ghost use Rattle.row_store.specs.Rows.{row_at};
 ghost use Rattle.near_rows.specs.NearRows.{IsGreatest, runs_in};
 ghost use Rattle.near_rows.specs.Building.{PutsNear};
+ghost use Rattle.near_rows.specs.Gathering.{AreBothMerged, PutsRow};
 
 use moves::{MAX_PASSABLE, Move};
 use row_store::RowPool;
 use run_pack::steps::Steps;
-use run_pack::{find_word, find_word_near};
+use run_pack::{MAX_PLACES, find_word, find_word_near};
 use std::alloc::{AllocError, Global};
 use std::marker::Model;
 use std::sync::ledger::Ledger;
@@ -65,6 +66,43 @@ impl NearRows {
         self.rows.put_sets(place, sets)?;
         self.radii[place] = radius;
         Ok(())
+    }
+
+    /// Puts a radius, and a row that is kept as words, in the place of a row without runs.
+    ///
+    /// # Errors
+    ///
+    /// `AllocError` where memory runs out.
+    pub(crate) fn put_words(
+        &mut self,
+        place: usize,
+        radius: u16,
+        words: &[u32],
+    ) -> Result<(), AllocError>
+        requires place { place < length self.old.rows }
+        requires empty { row_at self.old.rows place ≡ [] }
+        requires few { length words.now ≤ MAX_PLACES }
+        ensures put { OnOk result (PutsRow self.old self.new place radius (map run_of_word words.now)) }
+        ensures whole { length self.new.rows ≡ length self.old.rows }
+    {
+        self.rows.put_words(place, words)?;
+        self.radii[place] = radius;
+        Ok(())
+    }
+
+    /// Takes radii and rows of another where it has no runs itself.
+    ///
+    /// # Errors
+    ///
+    /// `AllocError` where memory runs out.
+    pub(crate) fn merge(&mut self, other: NearRows) -> Result<(), AllocError>
+        requires { length self.old.rows ≡ length other.rows }
+        ensures merged { OnOk result (AreBothMerged self.old other self.new) }
+        ensures whole { length self.new.rows ≡ length self.old.rows }
+    {
+        let NearRows { radii, rows } = other;
+        take_radii(self.radii.as_mut_slice(), &self.rows, &radii);
+        self.rows.merge(rows)
     }
 
     /// Whether the row at a place has no runs.
@@ -135,6 +173,23 @@ impl NearRows {
         ensures { self.new ≡ self.old }
     {
         self.rows.shrink();
+    }
+}
+
+/// Takes the radii of others where a row has no runs.
+fn take_radii(radii: &mut [u16], rows: &RowPool, others: &[u16])
+    requires rows { length radii.old ≡ length rows.now }
+    requires others { length others.now ≡ length rows.now }
+    ensures whole { length radii.new ≡ length radii.old }
+    ensures kept { (place : ℕ) → row_at rows.now place ≢ []
+        → slice_index radii.new place ≡ slice_index radii.old place }
+    ensures taken { (place : ℕ) → place < length radii.old → row_at rows.now place ≡ []
+        → slice_index radii.new place ≡ slice_index others.now place }
+{
+    for place in 0..radii.len() {
+        if rows.row(place).is_empty() {
+            radii[place] = others[place];
+        }
     }
 }
 

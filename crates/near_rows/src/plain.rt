@@ -1,12 +1,12 @@
 //! Near rows by a plain search from one source after the other.
 
 ghost use Rattle.std.specs.Prelude.{◌≡◌, ◌+◌, ◌*◌, ◌<◌, ◌≤◌, length, OnOk, IsTrue, ◌↔◌};
-ghost use Rattle.moves.specs.FirstSetLists.{cell_of, AreFirstSets};
 ghost use Rattle.near_rows.specs.Building.{AreDone, ArePartly, HasBlank, IsGround};
 ghost use Rattle.near_rows.specs.NearRows.{AreNear};
 
 use crate::building::put_source;
 use crate::nearby::NearRows;
+use build_pool::write_sets;
 use first_sets::FirstSets;
 use grid_search::Search;
 use moves::{Cell, Grid};
@@ -94,26 +94,14 @@ fn put_plain(
     if !near.is_blank(place) {
         return Ok(());
     }
-    write_sets(grid, cells, place, plain, sets);
+    write_sets(
+        grid,
+        cells,
+        place,
+        &mut plain.search,
+        &mut plain.sets,
+        sets,
+    );
     put_source(grid, cells, place, sets, near)?;
     Ok(())
-}
-
-/// Searches from the source at a place, and writes its first sets to the cells in their order.
-fn write_sets(grid: &Grid, cells: &[Cell], place: usize, plain: &mut Plain, bytes: &mut [u8])
-    requires ground { IsGround grid.now cells.now }
-    requires place { place < length cells.now }
-    requires search { grid.now.width * grid.now.height ≤ plain.old.search.room }
-    requires room { grid.now.width * grid.now.height ≤ plain.old.sets.room }
-    requires bytes { length bytes.old ≡ length cells.now }
-    ensures search { plain.new.search.room ≡ plain.old.search.room }
-    ensures room { plain.new.sets.room ≡ plain.old.sets.room }
-    ensures bytes { AreFirstSets grid.now (cell_of cells.now place) cells.now bytes.new }
-{
-    let source = cells[place];
-    plain.search.from_source(grid, source);
-    plain.sets.fill(grid, &plain.search, source);
-    for (place, cell) in cells.iter().enumerate() {
-        bytes[place] = plain.sets.set_of(*cell).mask();
-    }
 }

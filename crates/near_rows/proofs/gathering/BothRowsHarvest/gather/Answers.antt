@@ -1,0 +1,6 @@
+use Rattle.near_rows.proofs.Gathered.{have_first_sets}
+use Rattle.near_rows.proofs.gathering.BothRowsHarvest.gather.Goals as goal
+
+pub put_tile-requires-clause-first : goal.put_tile-requires-clause-first
+put_tile-requires-clause-first c =
+    have_first_sets _ _ _ _ c.requires.table c.requires.solved c.requires.sources c.in_ok-gather.ensures.count c.in_ok-gather.ensures.sources c.in_ok-gather.ensures.completed
