@@ -202,8 +202,9 @@ judge("ask need not wait", run("ask", peer(0, DONE), "status")[:3], ("done\n", "
 if "--long" in sys.argv:
     at = peer(600, DONE)
     *said, took = run("ask", at, "status", timeout=ANSWER_TIME + 30)
-    judge("ask gives up", said, ["read fault\n", f"{WAITING}path_server ask: no whole answer came in {ANSWER_TIME} seconds\n"
-                                 f"path_server ask: nobody answers at port {at}, or no longer\n", 5])
+    gives_up = f"path_server ask: no whole answer came in {ANSWER_TIME} seconds\n"
+    judge("ask gives up", said,
+          ["read fault\n", f"{WAITING}{gives_up}path_server ask: nobody answers at port {at}, or no longer\n", 5])
     judge(f"ask gives up after {took:.0f} seconds", is_due(took, ANSWER_TIME), True)
 
 # where the system gives fewer descriptors than the doors need

@@ -40,7 +40,8 @@ struct FewDescriptors {
 ///
 /// # Errors
 ///
-/// `Failed` where the outside refuses, and `NoMemory` where there is none.
+/// `Failed` where the outside refuses the port or descriptors, and `NoMemory` where there is none, or
+/// where it refuses threads.
 pub(crate) fn open_front<'a, R>(
     journal: &Journal<'a, R>,
     alloc: Global,
@@ -57,9 +58,10 @@ where
         journal.tell(FewDescriptors { count });
         return Err(HouseError::Failed);
     }
+    // The system does not say whether a thread was refused for want of memory or by a limit.
     if !has_threads(journal.rt(), count) {
         journal.tell(FewThreads { count });
-        return Err(HouseError::Failed);
+        return Err(HouseError::NoMemory);
     }
     match Arc::new(alloc, front) {
         Ok(front) => Ok(front),

@@ -59,6 +59,7 @@ pub(crate) struct TimedStream<'a, R> {
     stream: TcpStream,
     front: Arc<Front<'a, R>>,
     watch: FrameWatch,
+    heard: bool,
     frame_since: Option<Instant>,
     reply_since: Option<Instant>,
     cause: Option<Cause>,
@@ -74,6 +75,7 @@ impl<'a, R: Clock + Eprint> TimedStream<'a, R> {
             stream: ticking(stream)?,
             front,
             watch: FrameWatch::new(),
+            heard: false,
             frame_since: None,
             reply_since: None,
             cause: None,
@@ -89,6 +91,7 @@ impl<'a, R: Clock + Eprint> TimedStream<'a, R> {
             self.may_wait()?;
             if let Some(count) = self.read(room)? {
                 self.watch.take(&room[..count]);
+                self.heard = true;
                 return Ok(count);
             }
         }
@@ -187,10 +190,12 @@ impl<'a, R: Clock + Eprint> TimedStream<'a, R> {
         }
     }
 
-    /// Tells the operator that the connection ends by a fault, if it does.
+    /// Tells the operator that the connection ends by a fault, if it does. Who breaks off before a word
+    /// has only seen whether somebody is there, as a health check does.
     fn tell_end(&self) {
         let journal = self.front.journal();
         match self.cause {
+            Some(Cause::Broken) if !self.heard => {}
             Some(cause) => {
                 self.front.count_broken();
                 journal.note(Ended { cause });
