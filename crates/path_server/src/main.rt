@@ -7,13 +7,20 @@ use path_commands::{
     Status, advice, argument_advice, command_words, exit_code, is_printed_name, refuse,
 };
 use path_run::run;
-use std::env::Env;
+use std::env::{Env, FillError};
+use std::io::IsTerminal;
 use std::process::ExitCode;
 use std::{env, io};
-use wire::{HostBell, HostFiles, StdLink, StdSink, TcpHouse};
+use wire::{HostBell, HostFiles, Journal, StdLink, StdSink, TcpHouse};
 
 /// No name of a command has more bytes.
 const NAME_ROOM: usize = 16;
+
+/// The environment variable that says whether words for the operator are put: 1, or anything else.
+const LOG: &str = "PATH_SERVER_LOG";
+
+/// A longer value of that variable is not 1.
+const LOG_ROOM: usize = 2;
 
 /// Runs the command that the words ask for over the system's files, standard input and standard
 /// output, and tells on standard error what a person may do about an end other than `Done`. Where the
@@ -32,7 +39,7 @@ fn main(rt: HostRuntime) -> ExitCode {
                 &mut files,
                 &mut StdLink::new(&rt),
                 &mut out,
-                &mut TcpHouse::new(&rt),
+                &mut TcpHouse::new(Journal::new(&rt, is_logged(&rt))),
                 &bell,
                 &mut bell.ear(),
                 &FreeGate,
@@ -62,6 +69,17 @@ fn names_printed(rt: &HostRuntime) -> bool {
     match rt.arg(1, &mut name) {
         Ok(size) => is_printed_name(&name[..size]),
         Err(_) => false,
+    }
+}
+
+/// Whether words for the operator are put on standard error: as the environment says, or else where
+/// that is a terminal.
+fn is_logged(rt: &HostRuntime) -> bool {
+    let mut value = [0; LOG_ROOM];
+    match rt.var(LOG, &mut value) {
+        Ok(size) => size == 1 && value[0] == b'1',
+        Err(FillError::TooLong) => false,
+        Err(FillError::NotPresent) => rt.stderr().is_terminal(),
     }
 }
 

@@ -3,17 +3,26 @@ ghost use Rattle.std.specs.Prelude.{◌≡◌, ◌≤◌, [], All, None, vec_len
 ghost use Rattle.wire.specs.Houses.{count_if, rose_once};
 
 use crate::faults::count_fault;
-use crate::tcp_door::{address, listen};
-use crate::{DoorsAsked, Failed, House, HouseError, TcpDoor, TcpLink};
+use crate::front::Front;
+use crate::opening::{doors_of, open_front, tell_opened};
+use crate::{DoorsAsked, Failed, House, HouseError, Journal, TcpCall, TcpDoor};
 use arrayvec::ArrayVec;
-use std::alloc::{AllocError, Global};
+use std::alloc::Global;
+use std::io::Eprint;
 use std::net::{Net, TcpListener, TcpStream};
+use std::sync::{Arc, Wait};
+use std::thread::Threads;
+use std::time::{Clock, Instant};
+use thiserror::Error;
 
 /// What opens doors at ports of 127.0.0.1 and calls at them. It tells no doors and no links, as the
-/// system tells none. The doors of a port share what listens there.
+/// system tells none. The doors of a port share what listens there. What the operator is told of
+/// doors and connections goes to its journal.
 #[derive(Drop)]
 pub struct TcpHouse<'a, R> {
-    rt: &'a R,
+    journal: Journal<'a, R>,
+    front: Option<Arc<Front<'a, R>>>,
+    begun: Option<Instant>,
     asked: ArrayVec<DoorsAsked, 2>,
     called: Option<u16>,
     door_faults: u64,
@@ -21,9 +30,9 @@ pub struct TcpHouse<'a, R> {
     write_faults: u64,
 }
 
-impl<'a, R: Net> TcpHouse<'a, R> {
-    /// A house of which nothing was asked yet, through this runtime.
-    pub fn new(rt: &'a R) -> TcpHouse<'a, R>
+impl<'a, R: Clock + Eprint> TcpHouse<'a, R> {
+    /// A house of which nothing was asked yet, through the runtime of its journal.
+    pub fn new(journal: Journal<'a, R>) -> TcpHouse<'a, R>
         ensures asked { result.asked.items ≡ [] }
         ensures called { result.called ≡ None }
         ensures doors { result.door_faults ≡ 0 }
@@ -31,7 +40,9 @@ impl<'a, R: Net> TcpHouse<'a, R> {
         ensures writes { result.write_faults ≡ 0 }
     {
         TcpHouse {
-            rt,
+            begun: Instant::now(journal.rt()).ok(),
+            journal,
+            front: None,
             asked: ArrayVec::new(),
             called: None,
             door_faults: 0,
@@ -41,54 +52,63 @@ impl<'a, R: Net> TcpHouse<'a, R> {
     }
 }
 
-/// So many doors at a port.
-fn open_doors<R: Net<Listener = TcpListener, Stream = TcpStream>>(
-    rt: &R,
-    alloc: Global,
-    port: u16,
-    count: usize,
-) -> Result<Vec<TcpDoor>, HouseError>
-    ensures count { IfOk result (λ doors. vec_len doors ≡ count) }
-    ensures no_fault { IfOk result (λ doors. All (λ door. door.faults ≡ 0) doors.items) }
+impl<'a, R> TcpHouse<'a, R>
+where
+    R: Net<Listener = TcpListener, Stream = TcpStream> + Clock + Eprint + Threads + Wait,
 {
-    let Ok(listener) = listen(rt, port) else {
-        return Err(HouseError::Failed);
-    };
-    let mut doors = Vec::with_capacity(alloc, count)?;
-    while doors.len() < count {
-        let Ok(shared) = listener.try_clone() else {
-            return Err(HouseError::Failed);
-        };
-        doors.push(TcpDoor::over(shared)).unwrap();
+    /// Opens so many doors at a port.
+    fn open(
+        &mut self,
+        alloc: Global,
+        port: u16,
+        count: u32,
+    ) -> Result<Vec<TcpDoor<'a, R>>, HouseError>
+        ensures count { IfOk result (λ doors. vec_len doors ≡ count) }
+        ensures no_fault { IfOk result (λ doors. All (λ door. door.faults ≡ 0) doors.items) }
+        ensures asked { self.new.asked ≡ self.old.asked }
+        ensures called { self.new.called ≡ self.old.called }
+        ensures doors { self.new.door_faults ≡ self.old.door_faults }
+        ensures reads { self.new.read_faults ≡ self.old.read_faults }
+        ensures writes { self.new.write_faults ≡ self.old.write_faults }
+    {
+        let front = open_front(&self.journal, alloc, port, count)?;
+        let doors = doors_of(&front, alloc, count as usize)?;
+        tell_opened(&self.journal, self.begun, port, count);
+        self.front = Some(front);
+        Ok(doors)
     }
-    Ok(doors)
 }
 
-/// A connection to a port.
-fn call_at<R: Net<Stream = TcpStream>>(rt: &R, port: u16) -> Result<TcpLink, Failed>
-    ensures reads { IfOk result (λ link. link.read_faults ≡ 0) }
-    ensures writes { IfOk result (λ link. link.write_faults ≡ 0) }
-{
-    let Ok(stream) = TcpStream::connect(rt, address(port)) else {
-        return Err(Failed);
-    };
-    match TcpLink::over(stream) {
-        Ok(link) => Ok(link),
-        Err(_) => Err(Failed),
-    }
+/// How many connections came to the doors of a port, and how many of them ended by a fault.
+#[derive(Debug, Clone, Copy, Error)]
+#[error("path_server serve: ended; {taken} connections, {broken} of them by a fault")]
+struct EndedAfter {
+    taken: u64,
+    broken: u64,
+}
+
+/// Tells the operator how many connections came.
+fn tell_ended<R: Clock + Eprint>(front: &Front<'_, R>) {
+    front.journal().note(EndedAfter {
+        taken: front.taken(),
+        broken: front.broken(),
+    });
 }
 
 // Whether one of these doors has failed.
-fn has_failed(doors: &[TcpDoor]) -> bool
+fn has_failed<R: Clock + Eprint>(doors: &[TcpDoor<'_, R>]) -> bool
     ensures { result ≡ rose_once (λ door. door.faults) doors.now }
 {
     doors.iter().any(|door| door.fault_count() != 0)
 }
 
-impl<'a, R: Net<Listener = TcpListener, Stream = TcpStream>> House for TcpHouse<'a, R> {
-    type Conn = TcpLink;
+impl<'a, R> House for TcpHouse<'a, R>
+where
+    R: Net<Listener = TcpListener, Stream = TcpStream> + Clock + Eprint + Threads + Wait + Sync,
+{
+    type Conn = TcpCall<'a, R>;
 
-    type Door = TcpDoor;
+    type Door = TcpDoor<'a, R>;
 
     ghost asked = { λ house. house.asked.items };
 
@@ -102,38 +122,46 @@ impl<'a, R: Net<Listener = TcpListener, Stream = TcpStream>> House for TcpHouse<
 
     ghost write_faults = { λ house. house.write_faults };
 
-    fn doors(&mut self, alloc: Global, port: u16, count: u32) -> Result<Vec<TcpDoor>, HouseError> {
+    fn doors(
+        &mut self,
+        alloc: Global,
+        port: u16,
+        count: u32,
+    ) -> Result<Vec<TcpDoor<'a, R>>, HouseError> {
         self.asked.push(DoorsAsked { port, count });
-        let outcome = open_doors(self.rt, alloc, port, count as usize);
+        let outcome = self.open(alloc, port, count);
         if let Err(HouseError::Failed) = &outcome {
             count_fault(&mut self.door_faults);
         }
         outcome
     }
 
-    fn call(&mut self, port: u16) -> Result<TcpLink, Failed> {
+    fn call(&mut self, port: u16) -> Result<TcpCall<'a, R>, Failed> {
         self.called = Some(port);
-        let outcome = call_at(self.rt, port);
+        let outcome = TcpCall::to(self.journal.another(), port);
         if outcome.is_err() {
             count_fault(&mut self.read_faults);
         }
         outcome
     }
 
-    fn shut(&mut self, doors: Vec<TcpDoor>)
+    fn shut(&mut self, doors: Vec<TcpDoor<'a, R>>)
         ensures asked { self.new.asked ≡ self.old.asked }
         ensures called { self.new.called ≡ self.old.called }
         ensures doors { self.new.door_faults
-            ≡ count_if (rose_once (λ door. door.faults) doors.items) self.old.door_faults }
+            ≡ count_if (rose_once (λ door. door.faults) doors.entry.items) self.old.door_faults }
         ensures reads { self.new.read_faults ≡ self.old.read_faults }
         ensures writes { self.new.write_faults ≡ self.old.write_faults }
     {
         if has_failed(&doors) {
             count_fault(&mut self.door_faults);
         }
+        if let Some(front) = self.front.take() {
+            tell_ended(&front);
+        }
     }
 
-    fn hang_up(&mut self, link: TcpLink) {
+    fn hang_up(&mut self, link: TcpCall<'a, R>) {
         if link.read_fault_count() != 0 {
             count_fault(&mut self.read_faults);
         }
