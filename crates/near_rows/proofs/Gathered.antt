@@ -1,29 +1,26 @@
 -- Near rows that are put one by one, on any map.
-use Rattle.std.proofs.Common.{◌≡◌, ◌≢◌, ◌⊎◌, ℕ, ◌<◌, ◌≤◌, List, [], ◌∷◌, length, replicate, slice_index, take, sym, ap, subst, ◌∙◌, inl, inr, arith}
+use Rattle.std.proofs.Common.{◌≡◌, ◌≢◌, ◌⊎◌, ℕ, ◌<◌, List, [], ◌∷◌, length, replicate, slice_index, take, sym, ap, subst, ◌∙◌, inl, inr, arith}
 use Rattle.std.proofs.lemmas.Bool.{cases_eq}
 use Rattle.std.proofs.lemmas.List.Sorted.{length_permutation}
 use Rattle.std.proofs.lemmas.List.{get_or-set_same, get_or-set_other, length-replicate, length-map, length-set}
 use Rattle.run_pack.specs.declared.Run.{Run}
-use Rattle.run_pack.specs.declared.TheConstants.{MAX_PLACES}
 use Rattle.run_pack.specs.Runs.{IsTight, run_of_word}
 use Rattle.run_pack.proofs.RowLemmas.{length-row}
 use Rattle.moves.specs.declared.Cell.{Cell}
-use Rattle.moves.specs.declared.TheConstants.{MAX_PASSABLE}
 use Rattle.moves.specs.Maps.{Map, IsWithinLimits}
 use Rattle.moves.specs.FirstSetLists.{cell_of, AreFirstSets}
 use Rattle.moves.proofs.ComponentLaws.{components_are_connected}
 use Rattle.moves.proofs.OneValue.{one_value}
 use Rattle.lane_rows.specs.Completed.{AreCompleted}
 use Rattle.lane_rows.specs.Laws.{IsTableOf}
-use Rattle.lane_rows.specs.Tables.{AreNear as AreNeighbours, IsMutual}
 use Rattle.lane_rows.specs.Tiles.{Tile, IsSolved}
 use Rattle.lane_rows.specs.Packed.{ArePackedLanes, row_of, sets_in, words_in}
 use Rattle.lane_rows.proofs.Rowing.{row_is_first}
 use Rattle.row_store.specs.Rows.{row_at}
 use Rattle.row_store.specs.Pools.{merged}
-use Rattle.build_pool.specs.Places.{AreComponent, AreSources, AreWithNear, CanBeBuilt}
+use Rattle.build_pool.specs.Places.{AreComponent, AreSources, AreWithNear}
 use Rattle.build_pool.proofs.Connecting.{AreGiven, lies_on_map, sources_in_order}
-use Rattle.near_rows.specs.NearRows.{Nearby, AreNear, AreWidened, IsNearAt, IsNearRadius, IsNearRow}
+use Rattle.near_rows.specs.NearRows.{Nearby, AreWidened, IsNearRadius}
 use Rattle.near_rows.specs.Building.{ArePartly, IsGround}
 use Rattle.near_rows.specs.Gathering.{AreBothMerged, AreSomeNear, HaveFirstSets, HaveNearRows, IsNearOver, PutsRow}
 use Rattle.near_rows.proofs.Parts.{first_over_part, widened_packable}

@@ -11,6 +11,7 @@ pub mod Choices
 pub mod CompassSets
 pub mod NearLanes
 pub mod Gathered
+pub mod BothBuilt
 pub mod Filling
 pub mod Following
 pub mod Measuring

@@ -1,8 +1,8 @@
 -- A version with the near rows of all its components.
 use Rattle.std.specs.Prelude.{◌≡◌, ℕ, ◌<◌, ◌≤◌, List, [], length, slice_index_or, sum_by, All, Any, Contains, Option, MatchOption}
 use Rattle.moves.specs.declared.Cell.{Cell}
-use Rattle.moves.specs.Maps.{IsPassable}
-use Rattle.row_store.specs.Comps.{IsPlaceOf}
+use Rattle.moves.specs.Maps.{Map, IsPassable}
+use Rattle.row_store.specs.Comps.{Comp, IsPlaceOf}
 use Rattle.versions.specs.Databases.{Versioned, IsVersion, comp_at, runs_of}
 use Rattle.near_rows.specs.NearRows.{Nearby, AreNear, runs_in}
 
@@ -21,6 +21,11 @@ pub record IsNearVersion (near : NearVersioned) : Type 0 where
   pub whole : length near.nearby ≡ length near.version.comps
   pub each : (label : ℕ) → label < length near.version.comps
       → AreNear near.version.map (comp_at near.version.comps label).cells (nearby_at near.nearby label)
+
+-- what is near in each of some components of a map, in their order
+pub record AreNearIn (map : Map) (comps : List Comp) (nearby : List Nearby) : Type 0 where
+  pub whole : length nearby ≡ length comps
+  pub each : (label : ℕ) → label < length comps → AreNear map (comp_at comps label).cells (nearby_at nearby label)
 
 -- the component with that number has both cells
 pub record IsHomeLabel (near : NearVersioned) (start goal : Cell) (label : ℕ) : Type 0 where

@@ -12,19 +12,25 @@ ghost use Rattle.near_rows.specs.Building.{IsNearer, IsWidenedSet};
 ghost use Rattle.near_rows.specs.Lanes.{source_in};
 
 use crate::MAX_RADIUS;
-use crate::vectors::{by_order, everywhere, filled, greater, less_by, lesser, long, shared, where_empty};
+use crate::vectors::{
+    by_order, everywhere, filled, greater, less_by, lesser, long, shared, where_empty,
+};
 use lane_rows::{LANES, Tiles};
 use moves::Cell;
 use std::simd::prelude::*;
 
 /// The moves that go east, west, and neither.
 const EAST: u16 = 0b0000_1110;
+
 const WEST: u16 = 0b1110_0000;
+
 const UPRIGHT: u16 = 0b0001_0001;
 
 /// The moves that go north, south, and neither.
 const NORTH: u16 = 0b1000_0011;
+
 const SOUTH: u16 = 0b0011_1000;
+
 const LEVEL: u16 = 0b0100_0100;
 
 /// Where the sources of a tile lie: their columns, and their rows.
@@ -88,13 +94,7 @@ fn compass_sets(sources: Sources, cell: Cell) -> u16x16
         ↔ IsCompass (source_in sources.columns sources.rows lane) move cell }
 {
     shared(
-        by_order(
-            sources.columns,
-            everywhere(cell.x),
-            EAST,
-            UPRIGHT,
-            WEST,
-        ),
+        by_order(sources.columns, everywhere(cell.x), EAST, UPRIGHT, WEST),
         by_order(sources.rows, everywhere(cell.y), SOUTH, LEVEL, NORTH),
     )
 }

@@ -6,8 +6,10 @@
 //! and the row where the goal is outside. (Strasser, Harabor and Botea 2014: any optimal first move may be kept.)
 #![tactic(auto)]
 
+mod both;
 mod building;
 mod compass;
+mod crew;
 mod gathering;
 mod lanes;
 pub mod laws;

@@ -2,7 +2,7 @@
 
 ghost use Rattle.std.specs.Prelude.{◌≡◌, ◌≢◌, ◌+◌, ◌-◌, ◌*◌, ◌^◌, ◌<◌, ◌≤◌, All, Contains, length, slice_index, IfOk, IfErr, IfSome, IfNone, OnErr, OnOk};
 ghost use Rattle.std.specs.Arc.{arc_value};
-ghost use Rattle.moves.specs.Maps.{Map, IsPassable};
+ghost use Rattle.moves.specs.Maps.{Map, IsPassable, IsSearchable};
 ghost use Rattle.moves.specs.Paths.{Reaches};
 ghost use Rattle.versions.specs.Databases.{comp_at};
 ghost use Rattle.versions.specs.Queries.{AreEnds, IsRefusal};
@@ -13,16 +13,22 @@ ghost use Rattle.near_rows.specs.NearRows.{AreNear, runs_in};
 ghost use Rattle.near_rows.specs.NearVersions.{IsFoundRadius, IsHomeLabel, IsNearVersion, IsWidest, near_runs_of, nearby_at};
 ghost use Rattle.near_rows.specs.NearPaths.{HasFewNearProbes, IsLookedUp, IsNearMove, IsNearNext, TakesFewNearProbes};
 
+use crate::both::{Parts, parts_of};
 use crate::building::near_rows_of;
 use crate::compass::{compass, distance};
+use crate::crew::Crew;
 use crate::nearby::NearRows;
-use moves::{Cell, MAX_PASSABLE, Move};
+use build_pool::{Gate, MAX_WORKERS};
+use cell_order::OrderKind;
+use components::label;
+use moves::{Cell, Grid, MAX_PASSABLE, Move};
 use row_store::CompData;
 use run_pack::steps::Steps;
 use std::alloc::{AllocError, Global};
 use std::marker::Model;
 use std::sync::Arc;
 use std::sync::ledger::Ledger;
+use std::thread::Threads;
 use versions::{Next, QueryRefusal, Version, judge};
 
 /// A version, and for each passable cell its near radius and its near row.
@@ -58,14 +64,53 @@ impl NearVersion {
         ensures near { IfOk result (λ near. IsNearVersion near) }
     {
         let nearby = nearby_of(alloc, &version)?;
+        Ok(NearVersion::of(version, nearby))
+    }
+
+    /// The near version of a map that no edit has changed, whose rows and near rows are built in one go by so many
+    /// workers, from 1 to 64. It is the same one for any number of workers. Each piece of a component passes the gate once.
+    ///
+    /// # Errors
+    ///
+    /// `AllocError` where memory runs out. The map is dropped then.
+    pub fn build<R: Threads + Sync, G: Gate>(
+        rt: &R,
+        alloc: Global,
+        grid: Grid,
+        kind: OrderKind,
+        workers: u32,
+        gate: &G,
+    ) -> Result<NearVersion, AllocError>
+        requires searchable { IsSearchable grid }
+        requires worker { 0 < workers }
+        requires workers { workers ≤ MAX_WORKERS }
+        ensures map { IfOk result (λ near. near.version.map ≡ grid) }
+        ensures prefix { IfOk result (λ near. near.version.prefix ≡ 0) }
+        ensures order { IfOk result (λ near. near.version.order ≡ kind) }
+        ensures near { IfOk result (λ near. IsNearVersion near) }
+    {
+        let labels = label(alloc, &grid)?;
+        let crew = Crew::new(rt, alloc, workers, gate);
+        let Parts { comps, nearby } = parts_of(&crew, kind, &grid, &labels)?;
+        let version = Version::assemble_labelled(0, grid, kind, labels, comps);
+        Ok(NearVersion::of(Arc::new(alloc, version)?, nearby))
+    }
+
+    /// A version with what is near in each of its components.
+    fn of(version: Arc<Version>, nearby: Vec<NearRows>) -> NearVersion
+        requires near { IsNearVersion (record { version = arc_value version; nearby = nearby.items }) }
+        requires few { length nearby.items < 2 ^ 32 }
+        ensures version { result.version ≡ arc_value version }
+        ensures near { IsNearVersion result }
+    {
         let runs = runs_of(&nearby);
         let widest = widest_of(&nearby);
-        Ok(NearVersion {
+        NearVersion {
             version,
             nearby,
             runs,
             widest,
-        })
+        }
     }
 
     /// The version.

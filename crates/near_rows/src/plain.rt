@@ -94,14 +94,7 @@ fn put_plain(
     if !near.is_blank(place) {
         return Ok(());
     }
-    write_sets(
-        grid,
-        cells,
-        place,
-        &mut plain.search,
-        &mut plain.sets,
-        sets,
-    );
+    write_sets(grid, cells, place, &mut plain.search, &mut plain.sets, sets);
     put_source(grid, cells, place, sets, near)?;
     Ok(())
 }

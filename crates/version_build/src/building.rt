@@ -19,7 +19,7 @@ use std::thread::Threads;
 use versions::Version;
 
 /// Components with fewer cells are built by one worker: to start more takes longer than to build their rows.
-const FEW_CELLS: usize = 256;
+pub const FEW_CELLS: usize = 256;
 
 /// The version that a plan is for, built by so many workers, from 1 to 64. All workers are on one component after the
 /// other, and each piece of a component passes the gate once. It is the same version for any number of workers.

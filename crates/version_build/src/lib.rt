@@ -12,6 +12,6 @@ mod planning;
 mod plans;
 
 pub use builder::Builder;
-pub use building::build;
+pub use building::{FEW_CELLS, build};
 pub use planning::plan;
 pub use plans::{BuildReport, Plan};

@@ -1,4 +1,4 @@
-use Rattle.std.proofs.Common.{ℕ, ◌≡◌, ◌<◌, ◌+◌, ◌-◌, ◌%◌, ◌∙◌, cond, eqb, get_or, min, ap, arith}
+use Rattle.std.proofs.Common.{ℕ, ◌+◌, ◌-◌, ◌%◌, ◌∙◌, cond, eqb, get_or, min, ap, arith}
 use Rattle.near_rows.proofs.Choices.{short_lane}
 use Rattle.near_rows.proofs.NearLanes.{nearer_lane, both_lane}
 use Rattle.near_rows.proofs.lanes.nearer.Goals as goal

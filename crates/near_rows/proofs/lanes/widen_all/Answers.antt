@@ -1,5 +1,5 @@
 use Rattle.std.proofs.Common.{arith}
-use Rattle.near_rows.proofs.NearLanes.{widening_none, widening_more, widening_all}
+use Rattle.near_rows.proofs.NearLanes.{widening_more, widening_all}
 use Rattle.near_rows.proofs.lanes.widen_all.Goals as goal
 
 pub loop-place-preserved : goal.loop-place-preserved

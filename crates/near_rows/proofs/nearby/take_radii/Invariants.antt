@@ -1,4 +1,4 @@
-use Rattle.std.proofs.Common.{◌≡◌, ◌≢◌, ℕ, ◌<◌, ◌≤◌, [], length, slice_index}
+use Rattle.std.proofs.Common.{◌≡◌, ◌≢◌, ℕ, ◌<◌, [], length, slice_index}
 use Rattle.row_store.specs.Rows.{row_at}
 use Rattle.near_rows.proofs.nearby.take_radii.Given as goal
 

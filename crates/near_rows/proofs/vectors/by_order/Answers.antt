@@ -1,4 +1,4 @@
-use Rattle.std.proofs.Common.{ltb, eqb, cond, replicate, get_or, refl, ap, ◌∙◌, arith, w16}
+use Rattle.std.proofs.Common.{ltb, eqb, replicate, get_or, refl, ◌∙◌, arith, w16}
 use Rattle.std.proofs.lemmas.Simd.{get_or-replicate}
 use Rattle.lane_rows.proofs.LanePacking.{choice}
 use Rattle.lane_rows.proofs.Vectors.{chosen, length_chosen}

@@ -1,4 +1,4 @@
-use Rattle.std.proofs.Common.{ℕ, leb, cond, replicate, get_or, length, refl, ap, ◌≡◌, ◌∙◌, arith, w16}
+use Rattle.std.proofs.Common.{ℕ, leb, replicate, get_or, length, refl, ap, ◌≡◌, ◌∙◌, arith, w16}
 use Rattle.std.proofs.lemmas.List.{get_or-map}
 use Rattle.std.proofs.lemmas.Simd.{get_or-replicate}
 use Rattle.lane_rows.proofs.Vectors.{chosen, length_chosen}

@@ -1,5 +1,0 @@
-use Rattle.near_rows.proofs.Fewest.{all_few}
-use Rattle.near_rows.proofs.near_version.NearVersion.make.Goals as goal
-
-pub runs_of-runs-requires-clause-each : goal.runs_of-runs-requires-clause-each
-runs_of-runs-requires-clause-each c = rw c.deref-2.ensures.value (all_few _ c.in_ok-nearby.ensures.near)
