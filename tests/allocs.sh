@@ -5,7 +5,8 @@
 #
 # Each run ends with status 7, or one reply tells of want of memory: that to a build or, without room, to an edit or a
 # stop. All other replies are right for a board on which nothing came of it. A run that feels nothing of a single refusal
-# did without that memory: a list grew by less, or was not cut to its size; a thread's work was done by another. Where
+# did without that memory: a list grew by less, or was not cut to its size; a thread's work was done by another (only the
+# threads that `serve` tries before it begins are felt: status 7). Where
 # all that follow are refused too, only the last requests go unfelt, behind the last reply. Prints only where that is not
 # so.
 set -u
