@@ -160,7 +160,7 @@ state "./install, never built: builds and copies" && prints 0 "" env -C "$room/e
 state "./install: the copy runs" && prints 0 "one<x>" "$room/elsewhere/to here/bin/path_server" x
 prefix="$room/elsewhere/to here"
 state "./install: the licences"
-judge "$(cat "$prefix/share/doc/path_server/"LICENSE-*)" "$(cat "$top"/LICENSE-*)"
+judge "$(cat "$prefix/share/doc/path_server/"{LICENSE-*,NOTICES})" "$(cat "$top"/{LICENSE-*,NOTICES})"
 state "./install, what a killed copy left"
 echo half >"$prefix/bin/.path_server.new"
 prints 0 "" "$repo/install" "$prefix"

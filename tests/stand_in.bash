@@ -66,7 +66,7 @@ path_server may_wait=1: beside low clap
 END
     touch "$repo/crates/"{low,beside,path_server}/src/main.rt "$repo/maps/tutorial.map"
     program one 0 >"$repo/crates/path_server/src/program"
-    cp -- "$top/path_server" "$top/build" "$top/install" "$top"/LICENSE-* "$repo"
+    cp -- "$top/path_server" "$top/build" "$top/install" "$top"/LICENSE-* "$top/NOTICES" "$repo"
     cp -- "$top/release/"{make,sources,verify} "$repo/release"
     stand_in >"$room/bin/rt" && chmod 755 "$room/bin/rt"
     : >"$calls" && : >"$calls.proved"
