@@ -10,8 +10,10 @@ use Rattle.root_cost.proofs.Adding.{at_most_step}
 use Rattle.root_cost.proofs.Squares.{le_from_squares}
 use Rattle.moves.specs.declared.Cell.{Cell}
 use Rattle.moves.specs.declared.Move.{Move}
+use Rattle.moves.specs.declared.Terrain.{Terrain}
+use Rattle.moves.specs.declared.Terrain.TheVariants.{Blocked, Land, Water}
 use Rattle.moves.specs.declared.Move.TheVariants.{N, NE, E, SE, S, SW, W, NW}
-use Rattle.moves.specs.Maps.{Map, IsPassable, place_of}
+use Rattle.moves.specs.Maps.{Map, IsPassable, IsLike, passable_of, place_of, terrain_of}
 use Rattle.moves.specs.Moves.{number_of, is_diagonal, corner, IsTarget, IsLegal}
 use Rattle.moves.specs.Paths.{Leads, cost_of, IsBest}
 use Rattle.moves.specs.PathLaws.{BestPathsExist}
@@ -30,10 +32,31 @@ passable_or_not map cell = elim (cases_lt cell.x map.width) [
   | inr right ↦ inr (λ passable. let column = passable.inside.column in omega arith)
   | inl column ↦ elim (cases_lt cell.y map.height) [
     | inr low ↦ inr (λ passable. let row = passable.inside.row in omega arith)
-    | inl row ↦ elim (cases_Bool (slice_index_or map.passable (place_of map.width cell) false)) [
+    | inl row ↦ elim (cases_Bool (slice_index_or (passable_of map) (place_of map.width cell) false)) [
       | inl free ↦ inl (record { inside = record { column = column; row = row }; passable = free })
       | inr blocked ↦ inr (λ passable. let free = passable.passable in cc)
     ]
+  ]
+]
+
+-- two terrains are one or they are not
+same_terrain : (s t : Terrain) → (s ≡ t) ⊎ (s ≡ t → ⊥)
+same_terrain Blocked Blocked = inl refl
+same_terrain Blocked Land = inr (λ e. cc)
+same_terrain Blocked Water = inr (λ e. cc)
+same_terrain Land Blocked = inr (λ e. cc)
+same_terrain Land Land = inl refl
+same_terrain Land Water = inr (λ e. cc)
+same_terrain Water Blocked = inr (λ e. cc)
+same_terrain Water Land = inr (λ e. cc)
+same_terrain Water Water = inl refl
+
+pub like_or_not : (map : Map) (cell other : Cell) → IsLike map cell other ⊎ (IsLike map cell other → ⊥)
+like_or_not map cell other = elim (passable_or_not map other) [
+  | inr blocked ↦ inr (λ like. blocked like.passable)
+  | inl free ↦ elim (same_terrain (terrain_of map other) (terrain_of map cell)) [
+    | inl same ↦ inl (record { passable = free; same = same })
+    | inr apart ↦ inr (λ like. apart like.same)
   ]
 ]
 
@@ -67,15 +90,15 @@ module _ (map : Map) (a : Cell) (move : Move) where
   abbrev Illegal : Type 0
   Illegal = (to : Cell) → IsLegal map a move to → ⊥
 
-  diagonal_or_not : (to : Cell) → IsTarget a move to → IsPassable map a → IsPassable map to → Legal ⊎ Illegal
+  diagonal_or_not : (to : Cell) → IsTarget a move to → IsPassable map a → IsLike map a to → Legal ⊎ Illegal
   diagonal_or_not to target leaves enters =
       let same : (other : Cell) → IsLegal map a move other → other ≡ to = λ other legal. same_target a move other to legal.target target in
       elim (cases_Bool (is_diagonal move)) [
         | inr straight ↦ inl (to, straight_is_legal map a move to straight target leaves enters)
-        | inl odd ↦ elim (passable_or_not map (corner a to)) [
-          | inr blocked ↦ inr (λ other legal. blocked (subst (λ c. IsPassable map (corner a c)) (same other legal) (legal.corners odd).0))
-          | inl free ↦ elim (passable_or_not map (corner to a)) [
-            | inr blocked ↦ inr (λ other legal. blocked (subst (λ c. IsPassable map (corner c a)) (same other legal) (legal.corners odd).1))
+        | inl odd ↦ elim (like_or_not map a (corner a to)) [
+          | inr blocked ↦ inr (λ other legal. blocked (subst (λ c. IsLike map a (corner a c)) (same other legal) (legal.corners odd).0))
+          | inl free ↦ elim (like_or_not map a (corner to a)) [
+            | inr blocked ↦ inr (λ other legal. blocked (subst (λ c. IsLike map a (corner c a)) (same other legal) (legal.corners odd).1))
             | inl also ↦ inl (to, record { target = target; leaves = leaves; enters = enters; corners = λ _. (free, also) })
           ]
         ]
@@ -86,8 +109,8 @@ module _ (map : Map) (a : Cell) (move : Move) where
     | inr none ↦ inr (λ to legal. none to legal.target)
     | inl (to, target) ↦ elim (passable_or_not map a) [
       | inr blocked ↦ inr (λ other legal. blocked legal.leaves)
-      | inl leaves ↦ elim (passable_or_not map to) [
-        | inr blocked ↦ inr (λ other legal. blocked (subst (IsPassable map) (same_target a move other to legal.target target) legal.enters))
+      | inl leaves ↦ elim (like_or_not map a to) [
+        | inr blocked ↦ inr (λ other legal. blocked (subst (IsLike map a) (same_target a move other to legal.target target) legal.enters))
         | inl enters ↦ diagonal_or_not to target leaves enters
       ]
     ]

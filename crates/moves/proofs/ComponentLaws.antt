@@ -1,19 +1,19 @@
 -- Inside a component its cells alone decide: the legal moves, the paths and the best paths.
-use Rattle.std.proofs.Common.{get_or, IsFalse, List, [], ◌∷◌, Option, Some, None, inl, inr}
+use Rattle.std.proofs.Common.{subst, get_or, IsFalse, List, [], ◌∷◌, Option, Some, None, inl, inr}
 use Rattle.std.specs.List.{All, Contains}
 use Rattle.std.proofs.lemmas.List.Elements.{All-contains, All-head, All-tail, Contains-get_or}
 use Rattle.root_cost.specs.declared.Cost.{Cost}
 use Rattle.moves.specs.declared.Cell.{Cell}
 use Rattle.moves.specs.declared.Move.{Move}
-use Rattle.moves.specs.Maps.{Map, IsPassable}
+use Rattle.moves.specs.Maps.{Map, IsPassable, IsLike}
 use Rattle.moves.specs.Moves.{is_diagonal, corner, IsLegal}
 use Rattle.moves.specs.Paths.{Leads, IsBest, IsLeastCost}
 use Rattle.moves.specs.FirstSets.{IsFirstMove}
 use Rattle.moves.specs.Components.{IsComponent}
 use Rattle.moves.specs.StraightPaths.{GoesThrough, IsConnected}
-use Rattle.moves.specs.ComponentLaws.{HasJust, ComponentsKeepMoves, ComponentsKeepBestPaths, ComponentsKeepCosts, ComponentsKeepFirstSets, ComponentsAreConnected, ComponentsStayComponents}
+use Rattle.moves.specs.ComponentLaws.{HasJust, ComponentsAreOfOneClass, ComponentsKeepMoves, ComponentsKeepBestPaths, ComponentsKeepCosts, ComponentsKeepFirstSets, ComponentsAreConnected, ComponentsStayComponents}
 use Rattle.moves.proofs.LawsOfPaths.{one_move, leads_kept}
-use Rattle.moves.proofs.MoveLaws.{legal_near}
+use Rattle.moves.proofs.MoveLaws.{like_itself, like_through, legal_near}
 use Rattle.moves.proofs.StraightPaths.{replaced, straight_path}
 
 module _ (map : Map) (cells : List Cell) (component : IsComponent map cells) where
@@ -23,6 +23,15 @@ module _ (map : Map) (cells : List Cell) (component : IsComponent map cells) whe
 
   pub member_is_passable : (a : Cell) → Contains cells a → IsPassable map a
   member_is_passable a c = All-contains (IsPassable map) cells a component.passable c
+
+  -- a component is of one class
+  pub like_along : (from : Cell) (moves : List Move) (to : Cell) → Leads map from moves to → IsLike map from to
+  like_along from [] to leads = subst (IsLike map from) leads.1 (like_itself map from leads.0)
+  like_along from (move ∷ moves) to leads =
+      like_through map from leads.0 to leads.1.enters (like_along leads.0 moves to leads.2)
+
+  pub members_are_like : (a b : Cell) → Contains cells a → Contains cells b → IsLike map a b
+  members_are_like a b in_a in_b = let reach = (component.whole a b in_a).0 in_b in like_along a reach.0 b reach.1
 
   -- a path of straight moves goes through cells of the component
   pub goes_through : (from : Cell) (moves : List Move) (to : Cell) → Contains cells from → Leads map from moves to
@@ -52,21 +61,25 @@ module _ (map : Map) (cells : List Cell) (component : IsComponent map cells) whe
     pub passable_in_map : (a : Cell) → IsPassable part a → IsPassable map a
     passable_in_map a p = member_is_passable a ((only.just_these a).0 p)
 
+    -- all that are passable there are like each other here
+    like_in_map : (a b : Cell) → IsPassable part a → IsLike part a b → IsLike map a b
+    like_in_map a b free like = members_are_like a b ((only.just_these a).0 free) ((only.just_these b).0 like.passable)
+
     pub legal_in_map : (a : Cell) (move : Move) (b : Cell) → IsLegal part a move b → IsLegal map a move b
-    legal_in_map a move b legal = legal_near part map a move b (λ c near. passable_in_map c) legal
+    legal_in_map a move b legal = legal_near part map a move b (λ c near. like_in_map a c legal.leaves) legal
 
     pub legal_in_part : (a : Cell) (move : Move) (b : Cell) → Contains cells a → IsLegal map a move b → IsLegal part a move b
     legal_in_part a move b c legal = record {
       target = legal.target;
       leaves = passable_in_part a c;
-      enters = passable_in_part b (stays_inside a move b c legal);
+      enters = only.one_class a b c (stays_inside a move b c legal);
       corners = λ d.
           let r = replaced map a move b legal d in
-          (passable_in_part (corner a b) (stays_inside a _ (corner a b) c r.rise), passable_in_part (corner b a) (stays_inside a _ (corner b a) c r.aside));
+          (only.one_class a (corner a b) c (stays_inside a _ (corner a b) c r.rise), only.one_class a (corner b a) c (stays_inside a _ (corner b a) c r.aside));
     }
 
     pub leads_in_map : (from : Cell) (moves : List Move) (to : Cell) → Leads part from moves to → Leads map from moves to
-    leads_in_map from moves to leads = leads_kept part map passable_in_map from moves to leads
+    leads_in_map from moves to leads = leads_kept part map like_in_map from moves to leads
 
     pub leads_in_part : (from : Cell) (moves : List Move) (to : Cell) → Contains cells from → Leads map from moves to
         → Leads part from moves to
@@ -118,6 +131,9 @@ module _ (map : Map) (cells : List Cell) (component : IsComponent map cells) whe
       );
       in_order = component.in_order;
     }
+
+pub components_are_of_one_class : ComponentsAreOfOneClass
+components_are_of_one_class map cells component a b in_a in_b = members_are_like map cells component a b in_a in_b
 
 pub components_stay_components : ComponentsStayComponents
 components_stay_components map cells component part only = component_of_part map cells component part only

@@ -4,11 +4,11 @@ use Rattle.root_cost.proofs.Order.{at_most_antisymmetric}
 use Rattle.root_cost.proofs.Adding.{at_most_sum_cancel, at_most_sum_first_cancel}
 use Rattle.moves.specs.declared.Cell.{Cell}
 use Rattle.moves.specs.declared.Move.{Move}
-use Rattle.moves.specs.Maps.{Map, IsPassable}
+use Rattle.moves.specs.Maps.{Map, IsPassable, IsLike}
 use Rattle.moves.specs.Moves.{opposite, IsLegal}
 use Rattle.moves.specs.Paths.{IsPath, Leads, cost_of, IsBest}
 use Rattle.moves.specs.PathLaws.{back_along, EndsAt, LawsOfPaths}
-use Rattle.moves.proofs.MoveLaws.{legal_back, legal_near}
+use Rattle.moves.proofs.MoveLaws.{like_itself, legal_back, legal_near}
 use Rattle.moves.proofs.CostsOfPaths.{cost_of-append, back_along-cons, cost_of-back_along}
 
 -- a path begins at a passable cell
@@ -28,7 +28,7 @@ joined map a b c (move ∷ first) rest p q = (p.0, p.1, joined map p.0 b c first
 
 -- a path of one legal move
 pub one_move : (map : Map) (a b : Cell) (move : Move) → IsLegal map a move b → Leads map a (move ∷ []) b
-one_move map a b move legal = (b, legal, (legal.enters, refl))
+one_move map a b move legal = (b, legal, (legal.enters.passable, refl))
 
 -- a path and one legal move more
 pub one_more : (map : Map) (a b c : Cell) (moves : List Move) (move : Move) → Leads map a moves b → IsLegal map b move c
@@ -86,7 +86,7 @@ spelled : (map : Map) (from to : Cell) (rest : List Cell) → IsPath map (from �
 spelled map from to [] path ends = ([], (path.0, ends), refl)
 spelled map from to (next ∷ rest) path ends =
     let step = path.1.0 in
-    let later = spelled map next to rest (step.1.enters, path.1.1) ends in
+    let later = spelled map next to rest (step.1.enters.passable, path.1.1) ends in
     (step.0 ∷ later.0, (next, step.1, later.1), ap suc later.2)
 
 walked : (map : Map) (from to : Cell) (moves : List Move) → Leads map from moves to
@@ -96,12 +96,12 @@ walked map from to (move ∷ moves) path =
     let later = walked map path.0 to moves path.2 in
     (path.0 ∷ later.0, (path.1.leaves, ((move, path.1), later.1.1)), later.2, ap suc later.3)
 
--- a path is a path in each map where the passable cells are so as well
-pub leads_kept : (a b : Map) → ((c : Cell) → IsPassable a c → IsPassable b c)
+-- a path is a path in each map where the cells of one class are so as well
+pub leads_kept : (a b : Map) → ((cell other : Cell) → IsPassable a cell → IsLike a cell other → IsLike b cell other)
     → (from : Cell) (moves : List Move) (to : Cell) → Leads a from moves to → Leads b from moves to
-leads_kept a b keep from [] to path = (keep from path.0, path.1)
+leads_kept a b keep from [] to path = ((keep from from path.0 (like_itself a from path.0)).passable, path.1)
 leads_kept a b keep from (move ∷ moves) to path =
-    (path.0, legal_near a b from move path.0 (λ c near. keep c) path.1, leads_kept a b keep path.0 moves to path.2)
+    (path.0, legal_near a b from move path.0 (λ c near. keep from c path.1.leaves) path.1, leads_kept a b keep path.0 moves to path.2)
 
 pub laws_of_paths : LawsOfPaths
 laws_of_paths = record {

@@ -9,7 +9,8 @@ pub mod MovesInSets
 pub mod Finding
 pub mod Masks
 pub mod Marks
-pub mod Terrains
+pub mod Landscapes
+pub mod LandMaps
 pub mod CostsOfPaths
 pub mod LawsOfPaths
 pub mod LeastCosts

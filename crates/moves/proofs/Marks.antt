@@ -1,13 +1,24 @@
--- How many of a list's truth values are true.
-use Rattle.std.proofs.Common.{◌≡◌, ℕ, ◌+◌, ◌<◌, ◌≤◌, Bool, false, cond, List, length, get_or, set, count_by}
-use Rattle.std.proofs.lemmas.List.Sums.{sum_by-set, count_by-le-length}
+-- How many cells of a list are passable.
+use Rattle.std.proofs.Common.{◌≡◌, ℕ, ◌+◌, ◌<◌, ◌≤◌, cond, List, [], ◌∷◌, length, get_or, map, set, count_by, refl, sym, ap, ◌∙◌}
+use Rattle.std.proofs.lemmas.List.Sums.{sum_by-cons, sum_by-set, count_by-le-length}
+use Rattle.moves.specs.declared.Terrain.{Terrain}
+use Rattle.moves.specs.declared.Terrain.TheVariants.{Blocked}
+use Rattle.moves.specs.Maps.{is_passable}
 
--- one value is another now
-pub recounted : (marks : List Bool) (place : ℕ) (mark : Bool) → place < length marks
-    → count_by (λ mark. mark) (set marks place mark) + cond {A = ℕ} (get_or marks place false) 1 0
-    ≡ count_by (λ mark. mark) marks + cond {A = ℕ} mark 1 0
-recounted marks place mark inside = sum_by-set (λ mark. cond mark 1 0) marks place mark false inside
+-- one cell is another now
+pub recounted : (cells : List Terrain) (place : ℕ) (terrain : Terrain) → place < length cells
+    → count_by is_passable (set cells place terrain) + cond {A = ℕ} (is_passable (get_or cells place Blocked)) 1 0
+    ≡ count_by is_passable cells + cond {A = ℕ} (is_passable terrain) 1 0
+recounted cells place terrain inside = sum_by-set (λ cell. cond (is_passable cell) 1 0) cells place terrain Blocked inside
 
--- there are no more true ones than there are values
-pub counted : (marks : List Bool) → count_by (λ mark. mark) marks ≤ length marks
-counted marks = count_by-le-length (λ mark. mark) marks
+-- there are no more passable cells than there are cells
+pub counted : (cells : List Terrain) → count_by is_passable cells ≤ length cells
+counted cells = count_by-le-length is_passable cells
+
+-- they are as many as the truth values that say so
+pub count_open : (cells : List Terrain) → count_by is_passable cells ≡ count_by (λ passable. passable) (map is_passable cells)
+count_open [] = refl
+count_open (cell ∷ cells) =
+    sum_by-cons (λ x. cond {A = ℕ} (is_passable x) 1 0) cell cells
+    ∙ (ap (λ n. cond {A = ℕ} (is_passable cell) 1 0 + n) (count_open cells)
+    ∙ sym (sum_by-cons (λ x. cond {A = ℕ} x 1 0) (is_passable cell) (map is_passable cells)))

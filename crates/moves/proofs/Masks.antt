@@ -8,7 +8,7 @@ use Rattle.std.proofs.lemmas.Nat.Bits.{and_pow, bit_at-lt, bit_at_set_same, bit_
 use Rattle.moves.specs.declared.Cell.{Cell}
 use Rattle.moves.specs.declared.Move.{Move}
 use Rattle.moves.specs.declared.Move.TheVariants.{N, NE, E, SE, S, SW, W, NW}
-use Rattle.moves.specs.Maps.{Map, IsPassable}
+use Rattle.moves.specs.Maps.{Map, IsPassable, IsLike}
 use Rattle.moves.specs.Moves.{number_of, is_diagonal, corner, IsTarget, HasLegal}
 use Rattle.moves.specs.MoveMasks.{HasFree, IsFreeMask, IsLegalAmong, IsMoveMask}
 use Rattle.moves.proofs.MoveLaws.{number_below, same_target}
@@ -74,7 +74,7 @@ mask_done P n mask low high below move =
 pub mask_of_blocked : (map : Map) (from : Cell) → (IsPassable map from → ⊥) → IsMoveMask map from 0
 mask_of_blocked map from blocked move = (λ is_set. absurd (is_set refl), λ has. absurd (blocked has.1.leaves))
 
--- a straight move to a passable cell is legal from a passable cell
+-- a straight move to a cell of its class is legal from a passable cell
 straight : (map : Map) (from : Cell) (move : Move) → IsPassable map from → is_diagonal move ≡ false
     → (HasFree map from move ↔ HasLegal map from move)
 straight map from move free even = (
@@ -82,7 +82,7 @@ straight map from move free even = (
   λ legal. (legal.0, legal.1.target, legal.1.enters),
 )
 
--- a diagonal move is, where the moves beside it lead to passable cells as well
+-- a diagonal move is, where the moves beside it lead to cells of its class as well
 diagonal : (map : Map) (from : Cell) (move vertical horizontal : Move) → IsPassable map from → is_diagonal move ≡ true
     → ((to : Cell) → IsTarget from move to → IsTarget from vertical (corner from to) × IsTarget from horizontal (corner to from))
     → (HasFree map from move × HasFree map from vertical × HasFree map from horizontal ↔ HasLegal map from move)
@@ -95,8 +95,8 @@ diagonal map from move vertical horizontal free odd beside = (
           leaves = free;
           enters = has.0.2;
           corners = λ _. (
-            subst (IsPassable map) (same_target from vertical has.1.0 (corner from has.0.0) has.1.1 corners.0) has.1.2,
-            subst (IsPassable map) (same_target from horizontal has.2.0 (corner has.0.0 from) has.2.1 corners.1) has.2.2,
+            subst (IsLike map from) (same_target from vertical has.1.0 (corner from has.0.0) has.1.1 corners.0) has.1.2,
+            subst (IsLike map from) (same_target from horizontal has.2.0 (corner has.0.0 from) has.2.1 corners.1) has.2.2,
           );
         },
       ),
@@ -106,7 +106,7 @@ diagonal map from move vertical horizontal free odd beside = (
       ((legal.0, legal.1.target, legal.1.enters), (corner from legal.0, corners.0, passable.0), (corner legal.0 from, corners.1, passable.1)),
 )
 
--- the mask of the moves to passable cells tells the legal moves
+-- the mask of the moves to cells of its class tells the legal moves
 pub legal_among : (map : Map) (from : Cell) (mask : ℕ) → IsPassable map from → IsFreeMask map from mask → (move : Move)
     → (IsLegalAmong mask move ↔ HasLegal map from move)
 legal_among map from mask free around N = let s = straight map from N free refl in (λ h. s.0 ((around N).0 h), λ h. (around N).1 (s.1 h))

@@ -1,9 +1,9 @@
 -- Laws of single moves.
-use Rattle.std.proofs.Common.{◌≡◌, ◌+◌, ◌<◌, ◌≤◌, refl, arith}
+use Rattle.std.proofs.Common.{◌≡◌, ◌+◌, ◌<◌, ◌≤◌, refl, sym, ◌∙◌, arith}
 use Rattle.moves.specs.declared.Cell.{Cell}
 use Rattle.moves.specs.declared.Move.{Move}
 use Rattle.moves.specs.declared.Move.TheVariants.{N, NE, E, SE, S, SW, W, NW}
-use Rattle.moves.specs.Maps.{Map, IsPassable}
+use Rattle.moves.specs.Maps.{Map, IsPassable, IsLike}
 use Rattle.moves.specs.Moves.{number_of, is_diagonal, opposite, corner, IsTarget, IsLegal}
 
 -- cells are equal where their columns and rows are
@@ -54,13 +54,31 @@ target_back a SW b p = (omega arith, omega arith)
 target_back a W b p = (omega arith, omega arith)
 target_back a NW b p = (omega arith, omega arith)
 
+-- a passable cell is like itself
+pub like_itself : (map : Map) (a : Cell) → IsPassable map a → IsLike map a a
+like_itself map a free = record { passable = free; same = refl }
+
+-- two cells that are like a third are like each other
+pub like_both : (map : Map) (a b c : Cell) → IsLike map a b → IsLike map a c → IsLike map b c
+like_both map a b c p q = record { passable = q.passable; same = q.same ∙ sym p.same }
+
+-- and what is like a cell that is like a third
+pub like_through : (map : Map) (a b c : Cell) → IsLike map a b → IsLike map b c → IsLike map a c
+like_through map a b c p q = record { passable = q.passable; same = q.same ∙ p.same }
+
+-- a passable cell is like one that is like it
+pub like_back : (map : Map) (a b : Cell) → IsPassable map a → IsLike map a b → IsLike map b a
+like_back map a b free p = record { passable = free; same = sym p.same }
+
 -- the way back of a legal move is legal
 pub legal_back : (map : Map) (a : Cell) (move : Move) (b : Cell) → IsLegal map a move b → IsLegal map b (opposite move) a
 legal_back map a move b legal = record {
   target = target_back a move b legal.target;
-  leaves = legal.enters;
-  enters = legal.leaves;
-  corners = λ diagonal. let free = legal.corners (rw (is_diagonal-opposite move) at diagonal) in (free.1, free.0);
+  leaves = legal.enters.passable;
+  enters = like_back map a b legal.leaves legal.enters;
+  corners = λ diagonal.
+      let free = legal.corners (rw (is_diagonal-opposite move) at diagonal) in
+      (like_both map a b (corner b a) legal.enters free.1, like_both map a b (corner a b) legal.enters free.0);
 }
 
 -- the cells are at most one column and one row apart
@@ -81,9 +99,9 @@ target_near a SW b p = record { left = omega arith; right = omega arith; above =
 target_near a W b p = record { left = omega arith; right = omega arith; above = omega arith; below = omega arith }
 target_near a NW b p = record { left = omega arith; right = omega arith; above = omega arith; below = omega arith }
 
--- a legal move is legal in each map where the cells near it that are passable are so as well
+-- a legal move is legal in each map where the cells near it that are of its class are so as well
 pub legal_near : (a b : Map) (from : Cell) (move : Move) (to : Cell)
-    → ((c : Cell) → IsNear from c → IsPassable a c → IsPassable b c) → IsLegal a from move to → IsLegal b from move to
+    → ((c : Cell) → IsNear from c → IsLike a from c → IsLike b from c) → IsLegal a from move to → IsLegal b from move to
 legal_near a b from move to keep legal =
     let near = target_near from move to legal.target in
     let here : IsNear from from = record { left = omega arith; right = omega arith; above = omega arith; below = omega arith } in
@@ -93,7 +111,7 @@ legal_near a b from move to keep legal =
     record { left = near.left; right = near.right; above = omega arith; below = omega arith } in
     record {
       target = legal.target;
-      leaves = keep from here legal.leaves;
+      leaves = (keep from here (like_itself a from legal.leaves)).passable;
       enters = keep to near legal.enters;
       corners = λ d. (keep (corner from to) up (legal.corners d).0, keep (corner to from) aside (legal.corners d).1);
     }

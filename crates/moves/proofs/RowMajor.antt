@@ -8,7 +8,7 @@ use Rattle.std.proofs.lemmas.List.Elements.{All-contains, All-filter, filter_pas
 use Rattle.std.proofs.lemmas.List.FromFn.{length-range_with_len, get_or-range_with_len}
 use Rattle.std.proofs.lemmas.List.Kept.{AllPairs-filter}
 use Rattle.moves.specs.declared.Cell.{Cell}
-use Rattle.moves.specs.Maps.{ComesBefore, place_of, cell_at}
+use Rattle.moves.specs.Maps.{ComesBefore, passable_of, place_of, cell_at}
 use Rattle.moves.proofs.MoveLaws.{same_cell}
 use Rattle.moves.specs.ComponentLaws.{PassableCellsAreListed}
 
@@ -145,20 +145,20 @@ module _ (w n : ℕ) (p : ℕ → Bool) (some : 0 < w) where
 -- the passable cells are listed
 pub passable_cells_listed : PassableCellsAreListed
 passable_cells_listed m limits whole =
-    let p : ℕ → Bool = λ place. get_or m.passable place false in
+    let p : ℕ → Bool = λ place. get_or (passable_of m) place false in
     let some = limits.some_columns in
     record {
       just_these = λ c. (
         λ h.
-            let f = passes_where m.width (length m.passable) p some c h in
-            let below : place_of m.width c < length m.passable = f.place in
+            let f = passes_where m.width (length m.terrain) p some c h in
+            let below : place_of m.width c < length m.terrain = f.place in
             record { inside = record { column = f.column; row = row_inside m.width m.height c (omega arith) }; passable = f.passes },
         λ h.
             let below = place_inside m.width m.height c h.inside.column h.inside.row in
-            contained_where m.width (length m.passable) p some c
+            contained_where m.width (length m.terrain) p some c
             (record { column = h.inside.column; place = omega arith; passes = h.passable }),
       );
-      in_order = in_order_where m.width (length m.passable) p some;
+      in_order = in_order_where m.width (length m.terrain) p some;
     }
 
 -- a cell at an earlier place comes before

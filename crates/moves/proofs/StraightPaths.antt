@@ -5,9 +5,10 @@ use Rattle.std.proofs.lemmas.List.Elements.{All-nil, All-cons}
 use Rattle.moves.specs.declared.Cell.{Cell}
 use Rattle.moves.specs.declared.Move.{Move}
 use Rattle.moves.specs.declared.Move.TheVariants.{N, NE, E, SE, S, SW, W, NW}
-use Rattle.moves.specs.Maps.{Map, IsPassable}
+use Rattle.moves.specs.Maps.{Map, IsPassable, IsLike}
 use Rattle.moves.specs.Moves.{is_diagonal, corner, IsTarget, IsLegal}
 use Rattle.moves.specs.Paths.{Leads}
+use Rattle.moves.proofs.MoveLaws.{like_both}
 use Rattle.moves.specs.StraightPaths.{ReachesStraight, DiagonalsAreReplaceable, StraightMovesReachAll}
 
 -- what a move changes of the row, as a straight move
@@ -70,7 +71,7 @@ halves a NW b t d = record { rise = (omega arith, omega arith); then_aside = (om
 
 -- a straight move cuts no corner
 pub straight_is_legal : (map : Map) (a : Cell) (move : Move) (b : Cell) → is_diagonal move ≡ false → IsTarget a move b
-    → IsPassable map a → IsPassable map b → IsLegal map a move b
+    → IsPassable map a → IsLike map a b → IsLegal map a move b
 straight_is_legal map a move b straight target leaves enters =
     record { target = target; leaves = leaves; enters = enters; corners = λ d. absurd (let e : false ≡ true = cc in false≢true e) }
 
@@ -86,14 +87,15 @@ replaced map a move b legal d =
     let free = legal.corners d in
     record {
       rise = straight_is_legal map a (vertical move) (corner a b) (vertical_is_straight move) h.rise legal.leaves free.0;
-      then_aside = straight_is_legal map (corner a b) (sideways move) b (sideways_is_straight move) h.then_aside free.0 legal.enters;
+      then_aside = straight_is_legal map (corner a b) (sideways move) b (sideways_is_straight move) h.then_aside free.0.passable
+          (like_both map a (corner a b) b free.0 legal.enters);
       aside = straight_is_legal map a (sideways move) (corner b a) (sideways_is_straight move) h.aside legal.leaves free.1;
     }
 
 pub diagonals_replaceable : DiagonalsAreReplaceable
 diagonals_replaceable map from move to legal d =
     let r = replaced map from move to legal d in
-    (vertical move, sideways move, vertical_is_straight move, sideways_is_straight move, (corner from to, r.rise, (to, r.then_aside, (legal.enters, refl))))
+    (vertical move, sideways move, vertical_is_straight move, sideways_is_straight move, (corner from to, r.rise, (to, r.then_aside, (legal.enters.passable, refl))))
 
 -- a path with no diagonal move, and one straight move before it
 longer : (map : Map) (a : Cell) (move : Move) (b to : Cell) → is_diagonal move ≡ false → IsLegal map a move b

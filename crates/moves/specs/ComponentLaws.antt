@@ -3,16 +3,23 @@ use Rattle.std.specs.Prelude.{◌≡◌, ◌↔◌, ◌*◌, List, length, Optio
 use Rattle.root_cost.specs.declared.Cost.{Cost}
 use Rattle.moves.specs.declared.Cell.{Cell}
 use Rattle.moves.specs.declared.Move.{Move}
-use Rattle.moves.specs.Maps.{Map, IsWithinLimits, IsPassable, ComesBefore, passable_cells}
+use Rattle.moves.specs.Maps.{Map, IsWithinLimits, IsPassable, IsLike, ComesBefore, passable_cells}
 use Rattle.moves.specs.Moves.{IsLegal}
 use Rattle.moves.specs.Paths.{IsBest, IsLeastCost}
 use Rattle.moves.specs.FirstSets.{IsFirstMove}
 use Rattle.moves.specs.Components.{IsComponent}
 use Rattle.moves.specs.StraightPaths.{IsConnected}
 
--- the map's passable cells are just these, whatever its sides are
+-- the map's passable cells are just these, all of one class, whatever its sides are
 pub record HasJust (map : Map) (cells : List Cell) : Type 0 where
   pub just_these : (cell : Cell) → IsPassable map cell ↔ Contains cells cell
+  pub one_class : (cell other : Cell) → Contains cells cell → Contains cells other → IsLike map cell other
+
+-- the cells of a component are all land or all water
+abbrev pub ComponentsAreOfOneClass : Type 0
+ComponentsAreOfOneClass =
+    (map : Map) (cells : List Cell) → IsComponent map cells
+    → (cell other : Cell) → Contains cells cell → Contains cells other → IsLike map cell other
 
 -- which moves are legal inside a component depends on its cells alone
 abbrev pub ComponentsKeepMoves : Type 0
@@ -59,4 +66,4 @@ pub record IsListed (map : Map) : Type 0 where
 -- this holds for each map inside the limits that says of each cell whether it is passable
 abbrev pub PassableCellsAreListed : Type 0
 PassableCellsAreListed =
-    (map : Map) → IsWithinLimits map.width map.height → length map.passable ≡ map.width * map.height → IsListed map
+    (map : Map) → IsWithinLimits map.width map.height → length map.terrain ≡ map.width * map.height → IsListed map

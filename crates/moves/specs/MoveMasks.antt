@@ -3,7 +3,7 @@ use Rattle.std.specs.Prelude.{◌≡◌, ℕ, ◌*◌, ◌<◌, ◌≤◌, ◌�
 use Rattle.moves.specs.declared.Cell.{Cell}
 use Rattle.moves.specs.declared.Move.{Move}
 use Rattle.moves.specs.declared.Move.TheVariants.{N, NE, E, SE, S, SW, W, NW}
-use Rattle.moves.specs.Maps.{Map, IsInside, IsPassable, place_of}
+use Rattle.moves.specs.Maps.{Map, IsInside, IsLike, place_of}
 use Rattle.moves.specs.Moves.{number_of, IsTarget, HasLegal}
 
 -- the mask has just the moves that are legal from the cell
@@ -15,16 +15,16 @@ pub record AreMoveMasks (map : Map) (masks : List ℕ) : Type 0 where
   pub whole : length masks ≡ map.width * map.height
   pub each : (cell : Cell) → IsInside map cell → IsMoveMask map cell (slice_index masks (place_of map.width cell))
 
--- the move leads to a passable cell
+-- the move leads to a passable cell of the same class
 abbrev pub HasFree : Map → Cell → Move → Type 0
-HasFree map from move = (to : Cell) × IsTarget from move to × IsPassable map to
+HasFree map from move = (to : Cell) × IsTarget from move to × IsLike map from to
 
--- the mask has just the moves that lead to passable cells
+-- the mask has just the moves that lead to passable cells of the same class
 abbrev pub IsFreeMask : Map → Cell → ℕ → Type 0
 IsFreeMask map cell mask = (move : Move) → (IsBitSet mask (number_of move) ↔ HasFree map cell move)
 
--- From a passable cell such a mask tells the legal moves: a straight move leads to a passable cell, and a diagonal one
--- does so as well as the two straight moves beside it.
+-- From a passable cell such a mask tells the legal moves: a straight move leads to a passable cell of the same class, and
+-- a diagonal one does so as well as the two straight moves beside it.
 abbrev pub IsLegalAmong : ℕ → Move → Type 0
 IsLegalAmong mask N = IsBitSet mask 0
 IsLegalAmong mask NE = IsBitSet mask 1 × IsBitSet mask 0 × IsBitSet mask 2

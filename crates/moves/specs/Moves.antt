@@ -1,9 +1,10 @@
--- Legal moves: eight directions, and no corner is cut. (MovingAI scenario format page)
+-- Legal moves: eight directions, no corner is cut, and none leads from land to water or back. (MovingAI scenario format
+-- page; MovingAI map format page: water can be crossed, but not entered from land)
 use Rattle.std.specs.Prelude.{◌≡◌, ℕ, ◌+◌, Bool, false, true, IsTrue, List, codes}
 use Rattle.moves.specs.declared.Cell.{Cell}
 use Rattle.moves.specs.declared.Move.{Move}
 use Rattle.moves.specs.declared.Move.TheVariants.{N, NE, E, SE, S, SW, W, NW}
-use Rattle.moves.specs.Maps.{Map, IsInside, IsPassable}
+use Rattle.moves.specs.Maps.{Map, IsInside, IsPassable, IsLike}
 
 -- the number of a move: clockwise from north
 abbrev pub number_of : Move → ℕ
@@ -68,16 +69,16 @@ corner a b = record { x = a.x; y = b.y }
 abbrev pub LeadsOutside : Map → Cell → Move → Type 0
 LeadsOutside map from move = (to : Cell) → IsTarget from move to → IsInside map to → ⊥
 
--- the two cells in the column of the one and the row of the other are passable
+-- the two cells in the column of the one and the row of the other are passable, and of the class of `a`
 abbrev pub HasFreeCorners : Map → Cell → Cell → Type 0
-HasFreeCorners map a b = IsPassable map (corner a b) × IsPassable map (corner b a)
+HasFreeCorners map a b = IsLike map a (corner a b) × IsLike map a (corner b a)
 
--- The move from `from` to `to` is legal: both cells are passable and, for a diagonal move,
--- so are the two cells that are orthogonally adjacent to both.
+-- The move from `from` to `to` is legal: both cells are land or both are water and, for a diagonal move,
+-- the two cells that are orthogonally adjacent to both are of that same class.
 pub record IsLegal (map : Map) (from : Cell) (move : Move) (to : Cell) : Type 0 where
   pub target : IsTarget from move to
   pub leaves : IsPassable map from
-  pub enters : IsPassable map to
+  pub enters : IsLike map from to
   pub corners : IsTrue (is_diagonal move) → HasFreeCorners map from to
 
 -- the move is legal from that cell

@@ -1,16 +1,18 @@
--- What paths a map has depends on its passable cells alone.
+-- What paths a map has depends on its passable cells and their classes alone.
 use Rattle.std.specs.Prelude.{◌↔◌, List, Option}
 use Rattle.root_cost.specs.declared.Cost.{Cost}
 use Rattle.moves.specs.declared.Cell.{Cell}
 use Rattle.moves.specs.declared.Move.{Move}
-use Rattle.moves.specs.Maps.{Map, IsPassable}
+use Rattle.moves.specs.Maps.{Map, IsPassable, IsLike}
 use Rattle.moves.specs.Moves.{IsLegal}
 use Rattle.moves.specs.Paths.{Leads, IsBest, IsLeastCost}
 use Rattle.moves.specs.FirstSets.{IsFirstMove}
 
--- the same cells are passable in both maps, whatever their sides are
-abbrev pub SamePassable : Map → Map → Type 0
-SamePassable a b = (cell : Cell) → IsPassable a cell ↔ IsPassable b cell
+-- the same cells are passable in both maps, and the same are of one class, whatever the maps' sides are and
+-- whichever class that is
+pub record HaveSameClasses (a b : Map) : Type 0 where
+  pub passable : (cell : Cell) → IsPassable a cell ↔ IsPassable b cell
+  pub alike : (cell other : Cell) → IsPassable a cell → IsLike a cell other ↔ IsLike b cell other
 
 -- both maps have the same legal moves, paths, best paths, least costs and first moves
 pub record HaveSamePaths (a b : Map) : Type 0 where
@@ -20,6 +22,6 @@ pub record HaveSamePaths (a b : Map) : Type 0 where
   pub costs : (from to : Cell) (cost : Option Cost) → IsLeastCost a from to cost ↔ IsLeastCost b from to cost
   pub first : (from to : Cell) (move : Move) → IsFirstMove a from to move ↔ IsFirstMove b from to move
 
--- maps that have the same passable cells have the same paths
-abbrev pub PassableCellsDecidePaths : Type 0
-PassableCellsDecidePaths = (a b : Map) → SamePassable a b → HaveSamePaths a b
+-- maps that have the same passable cells in the same classes have the same paths
+abbrev pub ClassesDecidePaths : Type 0
+ClassesDecidePaths = (a b : Map) → HaveSameClasses a b → HaveSamePaths a b

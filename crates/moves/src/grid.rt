@@ -1,23 +1,24 @@
 //! The grid of a map's cells, with the legal moves of each cell at hand.
 
 ghost use Rattle.std.specs.Prelude.{◌≡◌, ℕ, ◌+◌, ◌*◌, ◌<◌, ◌≤◌, ◌↔◌, Bool, false, List, IsTrue, IfOk, IfSome, IfNone, length, replicate, count_by};
-ghost use Rattle.moves.specs.Drawings.{IsDrawing, cells_between_marks, cells_drawn};
+ghost use Rattle.moves.specs.Drawings.{IsDrawing, cells_between_marks, cells_drawn, terrain_drawn};
 ghost use Rattle.moves.specs.MoveMasks.{AreMoveMasks, IsMoveMask};
 ghost use Rattle.moves.specs.Moves.{HasLegal, IsTarget, LeadsOutside};
 ghost use Rattle.moves.specs.Neighbours.{AreNeighbours};
-ghost use Rattle.moves.specs.Maps.{Map, IsInside, IsPassable, IsWithinLimits, blocked_map, map_with, passable_count, with_cell};
+ghost use Rattle.moves.specs.Maps.{Map, IsInside, IsPassable, IsWithinLimits, blocked_map, map_of, map_with, passable_count, terrain_of, with_cell, with_terrain};
+ghost use Rattle.moves.specs.declared.Terrain.TheVariants.{Blocked};
 
-use crate::terrain::Terrain;
-use crate::{Cell, Move};
+use crate::landscape::Landscape;
+use crate::{Cell, Move, Terrain};
 use arrayvec::ArrayVec;
 use std::alloc::{AllocError, Global};
 use std::marker::Model;
 
-/// A map of passable and blocked cells: each side from 1 to [`MAX_SIDE`](crate::MAX_SIDE), and no more than
+/// A map of blocked cells, land and water: each side from 1 to [`MAX_SIDE`](crate::MAX_SIDE), and no more than
 /// [`MAX_CELLS`](crate::MAX_CELLS) cells.
 #[derive(Drop)]
 pub struct Grid {
-    terrain: Terrain,
+    landscape: Landscape,
     masks: Vec<u8>,
 }
 
@@ -27,9 +28,9 @@ impl Model for Grid {
 
     ghost Value = { Map };
 
-    ghost view = { λ g. g.terrain };
+    ghost view = { λ g. g.landscape };
 
-    ghost invariant = { λ g. AreMoveMasks g.terrain g.masks.items };
+    ghost invariant = { λ g. AreMoveMasks g.landscape g.masks.items };
 }
 
 impl Grid {
@@ -40,12 +41,13 @@ impl Grid {
     {
         let cells = (width * height) as usize;
         Ok(Grid {
-            terrain: Terrain::blocked(alloc, width, height)?,
+            landscape: Landscape::blocked(alloc, width, height)?,
             masks: vec![in alloc; 0; cells]?,
         })
     }
 
-    /// A grid with these cells, given row by row: `true` for a passable one. Refused, the list is dropped.
+    /// A grid with these cells, given row by row: `true` for land, `false` for a blocked one. Refused, the list is
+    /// dropped.
     pub fn of_cells(
         alloc: Global,
         width: u32,
@@ -56,22 +58,38 @@ impl Grid {
         requires whole { length cells.items ≡ width * height }
         ensures { IfOk result (λ grid. grid ≡ map_with width height cells.items) }
     {
-        let places = cells.len();
-        let terrain = Terrain::of_cells(width, height, cells);
-        let mut masks = vec![in alloc; 0; places]?;
-        terrain.write_masks(0..width, 0..height, masks.as_mut_slice());
-        Ok(Grid { terrain, masks })
+        let terrain = cells.into_iter().map(Terrain::land_if).collect(alloc)?;
+        Grid::of_terrain(alloc, width, height, terrain)
     }
 
-    /// A grid with the cells that are drawn, row by row with `/` between the rows: `.` for a passable cell and any
-    /// other byte for a blocked one. `../@.` has two rows of two cells; the first cell of the second row is blocked.
+    /// A grid with these cells, given row by row. Refused, the list is dropped.
+    pub fn of_terrain(
+        alloc: Global,
+        width: u32,
+        height: u32,
+        terrain: Vec<Terrain>,
+    ) -> Result<Grid, AllocError>
+        requires limits { IsWithinLimits width height }
+        requires whole { length terrain.items ≡ width * height }
+        ensures { IfOk result (λ grid. grid ≡ map_of width height terrain.items) }
+    {
+        let places = terrain.len();
+        let landscape = Landscape::of_terrain(width, height, terrain);
+        let mut masks = vec![in alloc; 0; places]?;
+        landscape.write_masks(0..width, 0..height, masks.as_mut_slice());
+        Ok(Grid { landscape, masks })
+    }
+
+    /// A grid with the cells that are drawn, row by row with `/` between the rows: `.` for land, `W` for water and any
+    /// other byte for a blocked cell. `../@W` has two rows of two cells; the last cell is water, and the one before it
+    /// blocked.
     pub fn of_rows(alloc: Global, width: u32, height: u32, rows: &str) -> Result<Grid, AllocError>
         requires limits { IsWithinLimits width height }
         requires rows { IsDrawing width height rows.now }
-        ensures { IfOk result (λ grid. grid ≡ map_with width height (cells_drawn rows.now)) }
+        ensures { IfOk result (λ grid. grid ≡ map_of width height (cells_drawn rows.now)) }
     {
         let cells = cells_of(alloc, rows)?;
-        Grid::of_cells(alloc, width, height, cells)
+        Grid::of_terrain(alloc, width, height, cells)
     }
 
     /// An equal grid.
@@ -83,7 +101,7 @@ impl Grid {
         ensures { IfOk result (λ copy. copy ≡ self.now) }
     {
         Ok(Grid {
-            terrain: self.terrain.copy()?,
+            landscape: self.landscape.copy()?,
             masks: self.masks.clone()?,
         })
     }
@@ -92,44 +110,60 @@ impl Grid {
     pub fn width(&self) -> u32
         ensures width { result ≡ self.now.width }
         ensures limits { IsWithinLimits self.now.width self.now.height }
-        ensures whole { length self.now.passable ≡ self.now.width * self.now.height }
+        ensures whole { length self.now.terrain ≡ self.now.width * self.now.height }
     {
-        self.terrain.width()
+        self.landscape.width()
     }
 
     /// The number of rows, from 1 to [`MAX_SIDE`](crate::MAX_SIDE).
     pub fn height(&self) -> u32
         ensures height { result ≡ self.now.height }
         ensures limits { IsWithinLimits self.now.width self.now.height }
-        ensures whole { length self.now.passable ≡ self.now.width * self.now.height }
+        ensures whole { length self.now.terrain ≡ self.now.width * self.now.height }
     {
-        self.terrain.height()
+        self.landscape.height()
     }
 
     /// Whether the cell lies inside the map.
     pub fn inside(&self, cell: Cell) -> bool
         ensures { IsTrue result ↔ IsInside self.now cell }
     {
-        self.terrain.inside(cell)
+        self.landscape.inside(cell)
     }
 
-    /// Whether the cell is inside and passable.
+    /// What stands at the cell; outside the map it is blocked.
+    pub fn terrain(&self, cell: Cell) -> Terrain
+        ensures inside { IsInside self.now cell → result ≡ terrain_of self.now cell }
+        ensures outside { (IsInside self.now cell → ⊥) → result ≡ Blocked }
+    {
+        self.landscape.terrain(cell)
+    }
+
+    /// Whether the cell is inside and land or water.
     pub fn passable(&self, cell: Cell) -> bool
         ensures { IsTrue result ↔ IsPassable self.now cell }
     {
-        self.terrain.passable(cell)
+        self.landscape.passable(cell)
     }
 
-    /// Makes one cell passable or blocked. The others stay as they are.
+    /// Makes one cell land or blocked. The others stay as they are.
     pub fn set(&mut self, cell: Cell, passable: bool)
         requires { IsInside self.old cell }
         ensures { self.new ≡ with_cell self.old cell passable }
     {
-        self.terrain.set(cell, passable);
+        self.set_terrain(cell, Terrain::land_if(passable));
+    }
+
+    /// Makes one cell blocked, land or water. The others stay as they are.
+    pub fn set_terrain(&mut self, cell: Cell, terrain: Terrain)
+        requires { IsInside self.old cell }
+        ensures { self.new ≡ with_terrain self.old cell terrain }
+    {
+        self.landscape.set(cell, terrain);
         let (x, y) = (u32::from(cell.x), u32::from(cell.y));
-        let columns = x.saturating_sub(1)..(x + 2).min(self.terrain.width());
-        let rows = y.saturating_sub(1)..(y + 2).min(self.terrain.height());
-        self.terrain
+        let columns = x.saturating_sub(1)..(x + 2).min(self.landscape.width());
+        let rows = y.saturating_sub(1)..(y + 2).min(self.landscape.height());
+        self.landscape
             .write_masks(columns, rows, self.masks.as_mut_slice());
     }
 
@@ -137,7 +171,7 @@ impl Grid {
     pub fn passable_count(&self) -> u32
         ensures { result ≡ passable_count self.now }
     {
-        self.terrain.passable_count()
+        self.landscape.passable_count()
     }
 
     /// The cell that the move leads to; `None` exactly where that is not inside.
@@ -146,16 +180,16 @@ impl Grid {
         ensures inside { IfSome result (λ to. IsTarget cell by to × IsInside self.now to) }
         ensures outside { IfNone result (LeadsOutside self.now cell by) }
     {
-        self.terrain.step(cell, by)
+        self.landscape.step(cell, by)
     }
 
-    /// Whether the move is legal from that cell: both ends are passable and, for a diagonal move, so are the two
-    /// cells that are orthogonally adjacent to both.
+    /// Whether the move is legal from that cell: both ends are land or both are water and, for a diagonal move, the two
+    /// cells that are orthogonally adjacent to both are of that class too.
     pub fn legal(&self, cell: Cell, by: Move) -> bool
         requires { IsInside self.now cell }
         ensures { IsTrue result ↔ HasLegal self.now cell by }
     {
-        self.terrain.legal(cell, by)
+        self.landscape.legal(cell, by)
     }
 
     /// The legal moves from that cell by number, each with the cell that it leads to.
@@ -163,7 +197,7 @@ impl Grid {
         requires { IsInside self.now cell }
         ensures { AreNeighbours self.now cell result.items }
     {
-        self.terrain.neighbours(cell)
+        self.landscape.neighbours(cell)
     }
 
     /// The legal moves of each cell, row by row, as bits: bit i for the move with number i.
@@ -175,11 +209,22 @@ impl Grid {
 }
 
 /// The cells of a drawing, row by row.
-fn cells_of(alloc: Global, rows: &str) -> Result<Vec<bool>, AllocError>
+fn cells_of(alloc: Global, rows: &str) -> Result<Vec<Terrain>, AllocError>
     ensures { IfOk result (λ cells. cells.items ≡ cells_between_marks rows.now) }
 {
     rows.bytes()
         .filter(|byte| *byte != b'/')
-        .map(|byte| byte == b'.')
+        .map(terrain_drawn)
         .collect(alloc)
+}
+
+/// What a byte of a drawing stands for.
+fn terrain_drawn(byte: u8) -> Terrain
+    ensures { result ≡ terrain_drawn byte }
+{
+    match byte {
+        b'.' => Terrain::Land,
+        b'W' => Terrain::Water,
+        _ => Terrain::Blocked,
+    }
 }

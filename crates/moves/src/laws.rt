@@ -5,9 +5,9 @@ ghost use Rattle.std.specs.Prelude.{◌≡◌, ◌∷◌, [], map};
 ghost use Rattle.moves.specs.Moves.{number_of};
 ghost use Rattle.moves.specs.MoveSets.{HasAll, IsEmpty, SetsAreTheirMoves};
 ghost use Rattle.moves.specs.PathLaws.{BestPathsExist, LawsOfPaths};
-ghost use Rattle.moves.specs.SamePaths.{PassableCellsDecidePaths};
+ghost use Rattle.moves.specs.SamePaths.{ClassesDecidePaths};
 ghost use Rattle.moves.specs.StraightPaths.{DiagonalsAreReplaceable, StraightMovesReachAll};
-ghost use Rattle.moves.specs.ComponentLaws.{ComponentsKeepMoves, ComponentsKeepBestPaths, ComponentsKeepCosts, ComponentsKeepFirstSets, ComponentsAreConnected, ComponentsStayComponents, PassableCellsAreListed};
+ghost use Rattle.moves.specs.ComponentLaws.{ComponentsAreOfOneClass, ComponentsKeepMoves, ComponentsKeepBestPaths, ComponentsKeepCosts, ComponentsKeepFirstSets, ComponentsAreConnected, ComponentsStayComponents, PassableCellsAreListed};
 ghost use Rattle.moves.specs.CostTables.{CostTablesAreLeast};
 ghost use Rattle.moves.specs.FirstSets.{FirstMovesAreLocal, FirstMovesExist};
 
@@ -61,10 +61,10 @@ pub fn best_paths_exist()
     ensures first { FirstMovesExist }
 {}
 
-/// Maps that have the same passable cells, of whatever sides, have the same legal moves, the same paths, and the same
-/// best paths, least costs and first moves.
-pub fn passable_cells_decide_paths()
-    ensures { PassableCellsDecidePaths }
+/// Maps that have the same passable cells in the same classes, of whatever sides, have the same legal moves, the same
+/// paths, and the same best paths, least costs and first moves.
+pub fn classes_decide_paths()
+    ensures { ClassesDecidePaths }
 {}
 
 /// Each legal diagonal move can be replaced by two legal straight moves, so components are those by straight moves.
@@ -74,8 +74,10 @@ pub fn straight_moves_reach_all()
     ensures inside { ComponentsAreConnected }
 {}
 
-/// Inside a component its cells alone decide which moves are legal, which paths are best and what they cost.
+/// The cells of a component are all land or all water, and inside it they alone decide which moves are legal, which paths
+/// are best and what they cost, whichever class it is.
 pub fn components_keep_paths()
+    ensures class { ComponentsAreOfOneClass }
     ensures component { ComponentsStayComponents }
     ensures moves { ComponentsKeepMoves }
     ensures best { ComponentsKeepBestPaths }

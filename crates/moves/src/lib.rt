@@ -3,14 +3,14 @@
 #![tactic(auto)]
 
 ghost use Rattle.std.specs.Prelude.{◌≡◌, ℕ, ◌<◌, ◌≤◌, ◌↔◌, IsTrue, MatchOption};
-ghost use Rattle.moves.specs.Maps.{place_of};
+ghost use Rattle.moves.specs.Maps.{is_passable, land_if, place_of};
 ghost use Rattle.moves.specs.Moves.{IsTarget, number_of, is_diagonal};
 
 pub mod bounds;
 pub mod grid;
+mod landscape;
 pub mod laws;
 pub mod move_set;
-mod terrain;
 
 pub use bounds::Bounds;
 pub use grid::Grid;
@@ -60,6 +60,41 @@ impl Cell {
         Cell {
             x: self.x + right - 1,
             y: self.y + down - 1,
+        }
+    }
+}
+
+/// What stands at a cell. Land and water are passable, and no move leads from the one to the other.
+/// (MovingAI map format page.)
+#[derive(Clone, Copy, Debug, Default, PartialEq, Eq)]
+pub enum Terrain {
+    /// No move enters or leaves the cell.
+    #[default]
+    Blocked,
+    /// Moves lead to and from land.
+    Land,
+    /// Moves lead to and from water.
+    Water,
+}
+
+impl Terrain {
+    /// Whether it is land or water.
+    #[inline]
+    pub fn is_passable(self) -> bool
+        ensures { result ≡ is_passable self }
+    {
+        !matches!(self, Terrain::Blocked)
+    }
+
+    /// Land for `true`, blocked for `false`.
+    #[inline]
+    pub fn land_if(passable: bool) -> Terrain
+        ensures { result ≡ land_if passable }
+    {
+        if passable {
+            Terrain::Land
+        } else {
+            Terrain::Blocked
         }
     }
 }

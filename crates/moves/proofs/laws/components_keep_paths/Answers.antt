@@ -1,5 +1,8 @@
-use Rattle.moves.proofs.ComponentLaws.{components_stay_components, components_keep_moves, components_keep_best_paths, components_keep_costs, components_keep_first_sets}
+use Rattle.moves.proofs.ComponentLaws.{components_are_of_one_class, components_stay_components, components_keep_moves, components_keep_best_paths, components_keep_costs, components_keep_first_sets}
 use Rattle.moves.proofs.laws.components_keep_paths.Goals as goal
+
+pub returns-clause-class : goal.returns-clause-class
+returns-clause-class c = components_are_of_one_class
 
 pub returns-clause-component : goal.returns-clause-component
 returns-clause-component c = components_stay_components

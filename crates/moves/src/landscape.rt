@@ -2,80 +2,81 @@
 
 ghost use Rattle.std.specs.Prelude.{◌≡◌, ℕ, ◌+◌, ◌*◌, ◌<◌, ◌≤◌, ◌↔◌, Bool, false, List, IsTrue, IsBitSet, IfOk, IfSome, IfNone, length, replicate, count_by, slice_set};
 ghost use Rattle.moves.specs.declared.TheConstants.{MAX_CELLS};
-ghost use Rattle.moves.specs.Maps.{Map, IsWithinLimits, IsInside, IsPassable, blocked_map, map_with, with_cell, passable_count, place_of};
+ghost use Rattle.moves.specs.Maps.{Map, IsWithinLimits, IsInside, IsPassable, IsLike, blocked_map, is_passable, map_of, with_terrain, passable_count, place_of, terrain_of};
+ghost use Rattle.moves.specs.declared.Terrain.TheVariants.{Blocked};
 ghost use Rattle.moves.specs.MoveMasks.{HasFree, IsFreeMask, IsLegalAmong, IsMoveMask, WritesMasks};
 ghost use Rattle.moves.specs.Neighbours.{AreNeighbours, NoneIsNumbered};
 ghost use Rattle.moves.specs.declared.Cell.{Cell};
 ghost use Rattle.moves.specs.declared.Move.{Move};
 ghost use Rattle.moves.specs.Moves.{number_of, is_diagonal, HasFreeCorners, IsTarget, IsLegal, HasLegal, LeadsOutside};
 
-use crate::{Cell, MAX_CELLS, MAX_SIDE, Move, place};
+use crate::{Cell, MAX_CELLS, MAX_SIDE, Move, Terrain, place};
 use arrayvec::ArrayVec;
 use std::alloc::{AllocError, Global};
 use std::marker::Model;
 use std::ops::Range;
 
-/// A map of passable and blocked cells: each side from 1 to [`MAX_SIDE`](crate::MAX_SIDE), and no more than
+/// A map of blocked cells, land and water: each side from 1 to [`MAX_SIDE`](crate::MAX_SIDE), and no more than
 /// [`MAX_CELLS`](crate::MAX_CELLS) cells.
 #[derive(Drop)]
-pub struct Terrain {
+pub struct Landscape {
     width: u32,
     height: u32,
-    passable: Vec<bool>,
+    terrain: Vec<Terrain>,
     /// How many cells are passable.
     count: u32,
 }
 
-impl Model for Terrain {
+impl Model for Landscape {
     ghost use Rattle.std.specs.Prelude.{◌≡◌, ◌*◌, vec_len, count_by};
-    ghost use Rattle.moves.specs.Maps.{Map, IsWithinLimits};
+    ghost use Rattle.moves.specs.Maps.{Map, IsWithinLimits, is_passable};
 
     ghost Value = { Map };
 
-    ghost view = { λ g. record { width = g.width; height = g.height; passable = g.passable.items } };
+    ghost view = { λ g. record { width = g.width; height = g.height; terrain = g.terrain.items } };
 
-    ghost invariant = { λ g. IsWithinLimits g.width g.height × (vec_len g.passable ≡ g.width * g.height)
-        × (g.count ≡ count_by (λ passable. passable) g.passable.items) };
+    ghost invariant = { λ g. IsWithinLimits g.width g.height × (vec_len g.terrain ≡ g.width * g.height)
+        × (g.count ≡ count_by is_passable g.terrain.items) };
 }
 
-impl Terrain {
+impl Landscape {
     /// A grid of blocked cells.
-    pub fn blocked(alloc: Global, width: u32, height: u32) -> Result<Terrain, AllocError>
+    pub fn blocked(alloc: Global, width: u32, height: u32) -> Result<Landscape, AllocError>
         requires { IsWithinLimits width height }
-        ensures { IfOk result (λ terrain. terrain ≡ blocked_map width height) }
+        ensures { IfOk result (λ landscape. landscape ≡ blocked_map width height) }
     {
         let cells = (width * height) as usize;
-        Ok(Terrain {
+        Ok(Landscape {
             width,
             height,
-            passable: vec![in alloc; false; cells]?,
+            terrain: vec![in alloc; Terrain::Blocked; cells]?,
             count: 0,
         })
     }
 
-    /// A grid with these cells, given row by row: `true` for a passable one.
-    pub fn of_cells(width: u32, height: u32, cells: Vec<bool>) -> Terrain
+    /// A grid with these cells, given row by row.
+    pub fn of_terrain(width: u32, height: u32, terrain: Vec<Terrain>) -> Landscape
         requires limits { IsWithinLimits width height }
-        requires whole { length cells.items ≡ width * height }
-        ensures { result ≡ map_with width height cells.items }
+        requires whole { length terrain.items ≡ width * height }
+        ensures { result ≡ map_of width height terrain.items }
     {
-        let count = marked(&cells);
-        Terrain {
+        let count = count_passable(&terrain);
+        Landscape {
             width,
             height,
-            passable: cells,
+            terrain,
             count,
         }
     }
 
     /// An equal map.
-    pub fn copy(&self) -> Result<Terrain, AllocError>
+    pub fn copy(&self) -> Result<Landscape, AllocError>
         ensures { IfOk result (λ copy. copy ≡ self.now) }
     {
-        Ok(Terrain {
+        Ok(Landscape {
             width: self.width,
             height: self.height,
-            passable: self.passable.clone()?,
+            terrain: self.terrain.clone()?,
             count: self.count,
         })
     }
@@ -84,7 +85,7 @@ impl Terrain {
     pub fn width(&self) -> u32
         ensures width { result ≡ self.now.width }
         ensures limits { IsWithinLimits self.now.width self.now.height }
-        ensures whole { length self.now.passable ≡ self.now.width * self.now.height }
+        ensures whole { length self.now.terrain ≡ self.now.width * self.now.height }
     {
         self.width
     }
@@ -93,7 +94,7 @@ impl Terrain {
     pub fn height(&self) -> u32
         ensures height { result ≡ self.now.height }
         ensures limits { IsWithinLimits self.now.width self.now.height }
-        ensures whole { length self.now.passable ≡ self.now.width * self.now.height }
+        ensures whole { length self.now.terrain ≡ self.now.width * self.now.height }
     {
         self.height
     }
@@ -105,23 +106,44 @@ impl Terrain {
         u32::from(cell.x) < self.width && u32::from(cell.y) < self.height
     }
 
-    /// Whether the cell is inside and passable.
+    /// What stands at the cell; outside the map it is blocked.
+    pub fn terrain(&self, cell: Cell) -> Terrain
+        ensures inside { IsInside self.now cell → result ≡ terrain_of self.now cell }
+        ensures outside { (IsInside self.now cell → ⊥) → result ≡ Blocked }
+    {
+        if self.inside(cell) {
+            self.terrain[self.place(cell)]
+        } else {
+            Terrain::Blocked
+        }
+    }
+
+    /// Whether the cell is inside and land or water.
     pub fn passable(&self, cell: Cell) -> bool
         ensures { IsTrue result ↔ IsPassable self.now cell }
     {
-        self.inside(cell) && self.passable[self.place(cell)]
+        self.terrain(cell).is_passable()
     }
 
-    /// Makes one cell passable or blocked. The others stay as they are.
-    pub fn set(&mut self, cell: Cell, passable: bool)
+    /// Whether the other cell is passable and of the same class.
+    fn is_like(&self, cell: Cell, other: Cell) -> bool
+        requires { IsPassable self.now cell }
+        ensures { IsTrue result ↔ IsLike self.now cell other }
+    {
+        self.terrain(other) == self.terrain(cell)
+    }
+
+    /// Makes one cell blocked, land or water. The others stay as they are.
+    pub fn set(&mut self, cell: Cell, terrain: Terrain)
         requires { IsInside self.old cell }
-        ensures { self.new ≡ with_cell self.old cell passable }
+        ensures { self.new ≡ with_terrain self.old cell terrain }
     {
         let place = self.place(cell);
-        self.count = change_mark(self.passable.as_mut_slice(), place, passable, self.count);
+        self.count = change_terrain(self.terrain.as_mut_slice(), place, terrain, self.count);
     }
 
     /// How many cells are passable.
+    #[tactic(auto, using(crate::proofs::Marks::count_open))]
     pub fn passable_count(&self) -> u32
         ensures { result ≡ passable_count self.now }
     {
@@ -139,8 +161,8 @@ impl Terrain {
         if self.inside(to) { Some(to) } else { None }
     }
 
-    /// Whether the move is legal from that cell: both ends are passable and, for a diagonal move, so are the two
-    /// cells that are orthogonally adjacent to both.
+    /// Whether the move is legal from that cell: both ends are land or both are water and, for a diagonal move, the two
+    /// cells that are orthogonally adjacent to both are of that class too.
     pub fn legal(&self, cell: Cell, by: Move) -> bool
         requires { IsInside self.now cell }
         ensures { IsTrue result ↔ HasLegal self.now cell by }
@@ -188,15 +210,17 @@ impl Terrain {
         ensures { IsTrue result ↔ IsLegal self.now cell by to }
     {
         self.passable(cell)
-            && self.passable(to)
+            && self.is_like(cell, to)
             && (!by.is_diagonal() || self.corners_are_free(cell, to))
     }
 
-    /// Whether both cells in the column of the one and the row of the other are passable.
+    /// Whether both cells in the column of the one and the row of the other are of the class of `from`.
     fn corners_are_free(&self, from: Cell, to: Cell) -> bool
+        requires { IsPassable self.now from }
         ensures { IsTrue result ↔ HasFreeCorners self.now from to }
     {
-        self.passable(Cell { x: from.x, y: to.y }) && self.passable(Cell { x: to.x, y: from.y })
+        self.is_like(from, Cell { x: from.x, y: to.y })
+            && self.is_like(from, Cell { x: to.x, y: from.y })
     }
 
     /// The legal moves from that cell as bits.
@@ -217,9 +241,9 @@ impl Terrain {
         mask
     }
 
-    /// The moves that lead to passable cells, as bits.
+    /// The moves that lead to passable cells of the same class, as bits.
     fn free_mask(&self, cell: Cell) -> u8
-        requires { IsInside self.now cell }
+        requires { IsPassable self.now cell }
         ensures { IsFreeMask self.now cell result }
     {
         let mut mask = 0u8;
@@ -231,9 +255,9 @@ impl Terrain {
         mask
     }
 
-    /// Whether the move with that number leads to a passable cell.
+    /// Whether the move with that number leads to a passable cell of the same class.
     fn is_free(&self, cell: Cell, number: u8) -> bool
-        requires inside { IsInside self.now cell }
+        requires passable { IsPassable self.now cell }
         requires number { number < 8 }
         ensures { (move : Move) → number_of move ≡ number
             → (IsTrue result ↔ HasFree self.now cell move) }
@@ -244,7 +268,7 @@ impl Terrain {
         };
         match target(cell, by) {
             None => false,
-            Some(to) => self.passable(to),
+            Some(to) => self.is_like(cell, to),
         }
     }
 
@@ -282,36 +306,36 @@ impl Terrain {
     fn place(&self, cell: Cell) -> usize
         requires { IsInside self.now cell }
         ensures place { result ≡ place_of self.now.width cell }
-        ensures inside { result < length self.now.passable }
+        ensures inside { result < length self.now.terrain }
     {
         place(self.width, cell)
     }
 }
 
-/// How many of these are true.
-fn marked(marks: &[bool]) -> u32
-    requires { length marks.now ≤ MAX_CELLS }
-    ensures { result ≡ count_by (λ mark. mark) marks.now }
+/// How many of these are passable.
+fn count_passable(terrain: &[Terrain]) -> u32
+    requires { length terrain.now ≤ MAX_CELLS }
+    ensures { result ≡ count_by is_passable terrain.now }
 {
-    marks.iter().filter(|mark| **mark).count() as u32
+    terrain.iter().filter(|cell| cell.is_passable()).count() as u32
 }
 
-/// Writes one truth value of a list of which so many are true, and gives how many are true then.
+/// Writes one cell of a list of which so many are passable, and gives how many are passable then.
 #[tactic(auto, using(crate::proofs::Marks::recounted, crate::proofs::Marks::counted))]
-fn change_mark(marks: &mut [bool], place: usize, mark: bool, count: u32) -> u32
-    requires limit { length marks.old ≤ MAX_CELLS }
-    requires inside { place < length marks.old }
-    requires count { count ≡ count_by (λ mark. mark) marks.old }
-    ensures marks { marks.new ≡ slice_set marks.old place mark }
-    ensures count { result ≡ count_by (λ mark. mark) marks.new }
+fn change_terrain(cells: &mut [Terrain], place: usize, terrain: Terrain, count: u32) -> u32
+    requires limit { length cells.old ≤ MAX_CELLS }
+    requires inside { place < length cells.old }
+    requires count { count ≡ count_by is_passable cells.old }
+    ensures cells { cells.new ≡ slice_set cells.old place terrain }
+    ensures count { result ≡ count_by is_passable cells.new }
 {
-    let others = count - u32::from(marks[place]);
-    marks[place] = mark;
-    others + u32::from(mark)
+    let others = count - u32::from(cells[place].is_passable());
+    cells[place] = terrain;
+    others + u32::from(terrain.is_passable())
 }
 
 /// Whether the move with that number is legal from a passable cell, where the mask has the moves that lead to
-/// passable cells.
+/// passable cells of its class.
 fn is_legal_among(mask: u8, number: u8) -> bool
     requires { number < 8 }
     ensures { (move : Move) → number_of move ≡ number

@@ -3,8 +3,8 @@ use Rattle.std.proofs.Common.{sym, ◌∙◌}
 use Rattle.std.proofs.lemmas.Bool.{false≢true}
 use Rattle.moves.specs.Moves.{HasLegal}
 use Rattle.moves.proofs.Masks.{mask_none, mask_yes, mask_no, mask_done, legal_among}
-use Rattle.moves.proofs.terrain.Terrain.mask.Goals as goal
-use Rattle.moves.proofs.terrain.Terrain.mask.Goals.{then-is_legal_among, else-is_legal_among}
+use Rattle.moves.proofs.landscape.Landscape.mask.Goals as goal
+use Rattle.moves.proofs.landscape.Landscape.mask.Goals.{then-is_legal_among, else-is_legal_among}
 
 pub loop-number-init : goal.loop-number-init
 loop-number-init c = mask_none _

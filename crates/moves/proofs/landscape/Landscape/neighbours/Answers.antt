@@ -1,7 +1,7 @@
 -- One number more was asked.
 use Rattle.moves.proofs.Finding.{found_push, found_no_more}
-use Rattle.moves.proofs.terrain.Terrain.neighbours.Goals as goal
-use Rattle.moves.proofs.terrain.Terrain.neighbours.Goals.{in-Some, in_default}
+use Rattle.moves.proofs.landscape.Landscape.neighbours.Goals as goal
+use Rattle.moves.proofs.landscape.Landscape.neighbours.Goals.{in-Some, in_default}
 
 pub loop-number-preserved : goal.loop-number-preserved
 loop-number-preserved c = elim c.match-numbered.branch [

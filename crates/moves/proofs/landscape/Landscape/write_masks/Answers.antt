@@ -1,8 +1,8 @@
 -- One row more was written, and at the end all were.
 use Rattle.std.proofs.Common.{◌≡◌, subst, arith}
 use Rattle.moves.specs.MoveMasks.{WritesMasks}
-use Rattle.moves.proofs.Terrains.{writes_no_rows, writes_row}
-use Rattle.moves.proofs.terrain.Terrain.write_masks.Goals as goal
+use Rattle.moves.proofs.Landscapes.{writes_no_rows, writes_row}
+use Rattle.moves.proofs.landscape.Landscape.write_masks.Goals as goal
 
 pub loop-y-init : goal.loop-y-init
 loop-y-init c = writes_no_rows _ _ _ _ _

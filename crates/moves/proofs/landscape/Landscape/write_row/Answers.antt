@@ -1,8 +1,8 @@
 -- One cell more was written, and at the end all were.
 use Rattle.std.proofs.Common.{◌≡◌, ◌+◌, subst, arith}
 use Rattle.moves.specs.MoveMasks.{WritesMasks}
-use Rattle.moves.proofs.Terrains.{writes_cell}
-use Rattle.moves.proofs.terrain.Terrain.write_row.Goals as goal
+use Rattle.moves.proofs.Landscapes.{writes_cell}
+use Rattle.moves.proofs.landscape.Landscape.write_row.Goals as goal
 
 pub loop-x-preserved : goal.loop-x-preserved
 loop-x-preserved c =

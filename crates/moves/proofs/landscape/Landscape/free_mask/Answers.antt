@@ -3,8 +3,8 @@ use Rattle.std.proofs.Common.{sym, ◌∙◌}
 use Rattle.std.proofs.lemmas.Bool.{false≢true}
 use Rattle.moves.specs.MoveMasks.{HasFree}
 use Rattle.moves.proofs.Masks.{mask_none, mask_yes, mask_no, mask_done}
-use Rattle.moves.proofs.terrain.Terrain.free_mask.Goals as goal
-use Rattle.moves.proofs.terrain.Terrain.free_mask.Goals.{then-is_free, else-is_free}
+use Rattle.moves.proofs.landscape.Landscape.free_mask.Goals as goal
+use Rattle.moves.proofs.landscape.Landscape.free_mask.Goals.{then-is_free, else-is_free}
 
 pub loop-number-init : goal.loop-number-init
 loop-number-init c = mask_none _

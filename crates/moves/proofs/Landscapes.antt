@@ -1,12 +1,14 @@
 -- Places, one changed cell, and masks written cell by cell.
-use Rattle.std.proofs.Common.{◌≡◌, ◌≢◌, ℕ, ◌+◌, ◌-◌, ◌*◌, ◌<◌, ◌≤◌, Bool, false, List, ◌++◌, length, get_or, set, take, inl, inr, ◌⊎◌, min, arith, subst, sym, refl, ◌∙◌}
+use Rattle.std.proofs.Common.{◌≡◌, ◌≢◌, ℕ, ◌+◌, ◌-◌, ◌*◌, ◌<◌, ◌≤◌, false, List, ◌++◌, length, get_or, set, take, inl, inr, ◌⊎◌, min, arith, subst, sym, ap, refl, ◌∙◌}
 use Rattle.std.proofs.lemmas.Bool.{cases_lt}
 use Rattle.std.proofs.lemmas.Nat.{same_from_place, mul-add-lt}
-use Rattle.std.proofs.lemmas.List.{get_or-set_other, length-set, take-append-le, take_all}
+use Rattle.std.proofs.lemmas.List.{get_or-map, get_or-set_other, length-set, map-set, take-append-le, take_all}
 use Rattle.std.proofs.lemmas.Grind.{get_or-set_at}
 use Rattle.moves.specs.declared.Cell.{Cell}
 use Rattle.moves.specs.declared.Move.{Move}
-use Rattle.moves.specs.Maps.{Map, IsInside, IsPassable, place_of, with_cell}
+use Rattle.moves.specs.declared.Terrain.{Terrain}
+use Rattle.moves.specs.declared.Terrain.TheVariants.{Blocked}
+use Rattle.moves.specs.Maps.{Map, IsInside, IsPassable, IsLike, is_passable, passable_of, place_of, terrain_of, with_terrain}
 use Rattle.moves.specs.Moves.{HasLegal}
 use Rattle.moves.specs.MoveMasks.{AreMoveMasks, IsMoveMask, IsWithin, WritesMasks}
 use Rattle.moves.proofs.MoveLaws.{same_cell, IsNear, legal_near}
@@ -21,44 +23,87 @@ same_from_places map a b ina inb same =
 pub place_below : (map : Map) (cell : Cell) → IsInside map cell → place_of map.width cell < map.width * map.height
 place_below map cell inside = mul-add-lt cell.y map.width cell.x map.height inside.row inside.column
 
+-- at another cell stands what stood there
+pub terrain_after : (map : Map) (changed other : Cell) (terrain : Terrain) → IsInside map changed → IsInside map other → other ≢ changed
+    → terrain_of (with_terrain map changed terrain) other ≡ terrain_of map other
+terrain_after map changed other terrain inside here apart =
+    get_or-set_other map.terrain (place_of map.width changed) (place_of map.width other) terrain Blocked
+    (λ same. apart (same_from_places map other changed here inside same))
+
+-- a cell is passable where land or water stands there
+pub passable_by_terrain : (map : Map) (cell : Cell) → length map.terrain ≡ map.width * map.height → IsInside map cell
+    → get_or (passable_of map) (place_of map.width cell) false ≡ is_passable (terrain_of map cell)
+passable_by_terrain map cell whole inside =
+    get_or-map is_passable map.terrain (place_of map.width cell) Blocked false (omega (arith, place_below map cell inside, whole))
+
+-- what is read at another place of a list with one cell set
+read_set : (map : Map) (changed other : Cell) (terrain : Terrain) → (place_of map.width other ≡ place_of map.width changed → ⊥)
+    → get_or (passable_of (with_terrain map changed terrain)) (place_of map.width other) false ≡ get_or (passable_of map) (place_of map.width other) false
+read_set map changed other terrain apart =
+    ap (λ l. get_or l (place_of map.width other) false) (map-set is_passable map.terrain (place_of map.width changed) terrain)
+    ∙ get_or-set_other (passable_of map) (place_of map.width changed) (place_of map.width other) (is_passable terrain) false apart
+
 -- another cell is passable where it was
-pub passable_after : (map : Map) (changed other : Cell) (passable : Bool) → IsInside map changed → other ≢ changed
-    → IsPassable map other → IsPassable (with_cell map changed passable) other
-passable_after map changed other passable inside apart free = record {
+pub passable_after : (map : Map) (changed other : Cell) (terrain : Terrain) → IsInside map changed → other ≢ changed
+    → IsPassable map other → IsPassable (with_terrain map changed terrain) other
+passable_after map changed other terrain inside apart free = record {
   inside = record { column = free.inside.column; row = free.inside.row };
-  passable = get_or-set_other map.passable (place_of map.width changed) (place_of map.width other) passable false
-      (λ same. apart (same_from_places map other changed free.inside inside same)) ∙ free.passable;
+  passable = read_set map changed other terrain (λ same. apart (same_from_places map other changed free.inside inside same)) ∙ free.passable;
 }
 
-pub passable_before : (map : Map) (changed other : Cell) (passable : Bool) → IsInside map changed → other ≢ changed
-    → IsPassable (with_cell map changed passable) other → IsPassable map other
-passable_before map changed other passable inside apart free =
+pub passable_before : (map : Map) (changed other : Cell) (terrain : Terrain) → IsInside map changed → other ≢ changed
+    → IsPassable (with_terrain map changed terrain) other → IsPassable map other
+passable_before map changed other terrain inside apart free =
     let here : IsInside map other = record { column = free.inside.column; row = free.inside.row } in
     record {
       inside = here;
-      passable = sym (get_or-set_other map.passable (place_of map.width changed) (place_of map.width other) passable false
-          (λ same. apart (same_from_places map other changed here inside same))) ∙ free.passable;
+      passable = sym (read_set map changed other terrain (λ same. apart (same_from_places map other changed here inside same))) ∙ free.passable;
     }
+
+-- two other cells are of one class where they were
+pub like_after : (map : Map) (changed cell other : Cell) (terrain : Terrain) → IsInside map changed → IsInside map cell
+    → cell ≢ changed → other ≢ changed → IsLike map cell other → IsLike (with_terrain map changed terrain) cell other
+like_after map changed cell other terrain inside here apart_cell apart like = record {
+  passable = passable_after map changed other terrain inside apart like.passable;
+  same = terrain_after map changed other terrain inside like.passable.inside apart
+      ∙ (like.same ∙ sym (terrain_after map changed cell terrain inside here apart_cell));
+}
+
+pub like_before : (map : Map) (changed cell other : Cell) (terrain : Terrain) → IsInside map changed → IsInside map cell
+    → cell ≢ changed → other ≢ changed → IsLike (with_terrain map changed terrain) cell other → IsLike map cell other
+like_before map changed cell other terrain inside here apart_cell apart like =
+    let free = passable_before map changed other terrain inside apart like.passable in
+    record {
+      passable = free;
+      same = sym (terrain_after map changed other terrain inside free.inside apart)
+          ∙ (like.same ∙ terrain_after map changed cell terrain inside here apart_cell);
+    }
+
+near_itself : (a : Cell) → IsNear a a
+near_itself a = record { left = omega arith; right = omega arith; above = omega arith; below = omega arith }
 
 -- a cell that is near is not one that is not
 apart_if_near : (a b c : Cell) → IsNear a b → (IsNear a c → ⊥) → b ≢ c
 apart_if_near a b c near far same = far (subst (IsNear a) same near)
 
 -- each move is as legal as before from a cell that is not near the changed one
-pub legal_after : (map : Map) (changed from : Cell) (passable : Bool) (move : Move) → IsInside map changed → (IsNear from changed → ⊥)
-    → HasLegal map from move → HasLegal (with_cell map changed passable) from move
-legal_after map changed from passable move inside far (to, legal) = (
+pub legal_after : (map : Map) (changed from : Cell) (terrain : Terrain) (move : Move) → IsInside map changed → (IsNear from changed → ⊥)
+    → HasLegal map from move → HasLegal (with_terrain map changed terrain) from move
+legal_after map changed from terrain move inside far (to, legal) = (
   to,
-  legal_near map (with_cell map changed passable) from move to
-      (λ c near. passable_after map changed c passable inside (apart_if_near from c changed near far)) legal,
+  legal_near map (with_terrain map changed terrain) from move to
+      (λ c near. like_after map changed from c terrain inside legal.leaves.inside (apart_if_near from from changed (near_itself from) far)
+      (apart_if_near from c changed near far)) legal,
 )
 
-pub legal_before : (map : Map) (changed from : Cell) (passable : Bool) (move : Move) → IsInside map changed → (IsNear from changed → ⊥)
-    → HasLegal (with_cell map changed passable) from move → HasLegal map from move
-legal_before map changed from passable move inside far (to, legal) = (
+pub legal_before : (map : Map) (changed from : Cell) (terrain : Terrain) (move : Move) → IsInside map changed → (IsNear from changed → ⊥)
+    → HasLegal (with_terrain map changed terrain) from move → HasLegal map from move
+legal_before map changed from terrain move inside far (to, legal) = (
   to,
-  legal_near (with_cell map changed passable) map from move to
-      (λ c near. passable_before map changed c passable inside (apart_if_near from c changed near far)) legal,
+  legal_near (with_terrain map changed terrain) map from move to
+      (λ c near. like_before map changed from c terrain inside
+      (record { column = legal.leaves.inside.column; row = legal.leaves.inside.row }) (apart_if_near from from changed (near_itself from) far)
+      (apart_if_near from c changed near far)) legal,
 )
 
 -- no cell lies in no columns
@@ -170,10 +215,10 @@ within_or_not left right top bottom cell =
     ]
 
 -- the masks round a changed cell were renewed
-pub masks_renewed : (map : Map) (changed : Cell) (passable : Bool) (old new : List ℕ) → IsInside map changed → AreMoveMasks map old
-    → WritesMasks (with_cell map changed passable) (changed.x - 1) (min (changed.x + 2) map.width) (changed.y - 1) (min (changed.y + 2) map.height) old new
-    → AreMoveMasks (with_cell map changed passable) new
-masks_renewed map changed passable old new inside before written = record {
+pub masks_renewed : (map : Map) (changed : Cell) (terrain : Terrain) (old new : List ℕ) → IsInside map changed → AreMoveMasks map old
+    → WritesMasks (with_terrain map changed terrain) (changed.x - 1) (min (changed.x + 2) map.width) (changed.y - 1) (min (changed.y + 2) map.height) old new
+    → AreMoveMasks (with_terrain map changed terrain) new
+masks_renewed map changed terrain old new inside before written = record {
   whole = written.whole ∙ before.whole;
   each = λ cell in_cell. elim (within_or_not (changed.x - 1) (min (changed.x + 2) map.width) (changed.y - 1) (min (changed.y + 2) map.height) cell) [
     | inl here ↦ written.within cell here
@@ -186,8 +231,8 @@ masks_renewed map changed passable old new inside before written = record {
           to_bottom = omega (arith, near.above, in_cell.row);
         }) in
         rw (written.beyond cell in_cell away) (λ move. (
-          λ is_set. legal_after map changed cell passable move inside far ((before.each cell was move).0 is_set),
-          λ has. (before.each cell was move).1 (legal_before map changed cell passable move inside far has),
+          λ is_set. legal_after map changed cell terrain move inside far ((before.each cell was move).0 is_set),
+          λ has. (before.each cell was move).1 (legal_before map changed cell terrain move inside far has),
         ))
   ];
 }
@@ -197,9 +242,9 @@ lent_back : (n : ℕ) (new rest : List ℕ) → n ≡ length new → take n (new
 lent_back n new rest e = take-append-le n new rest (omega arith) ∙ take_all n new (omega arith)
 
 -- the same in the code's own terms
-pub masks_renewed_at : (map after : Map) (changed : Cell) (passable : Bool) (left right top bottom n : ℕ) (old lent new rest : List ℕ)
-    → after ≡ with_cell map changed passable → left ≡ changed.x - 1 → right ≡ min (changed.x + 2) map.width → top ≡ changed.y - 1
+pub masks_renewed_at : (map after : Map) (changed : Cell) (terrain : Terrain) (left right top bottom n : ℕ) (old lent new rest : List ℕ)
+    → after ≡ with_terrain map changed terrain → left ≡ changed.x - 1 → right ≡ min (changed.x + 2) map.width → top ≡ changed.y - 1
     → bottom ≡ min (changed.y + 2) map.height → lent ≡ old → n ≡ length new → IsInside map changed → AreMoveMasks map old
     → WritesMasks after left right top bottom lent new → AreMoveMasks after (take n (new ++ rest))
-masks_renewed_at map after changed passable left right top bottom n old lent new rest ea el er et eb eo en inside before written =
-    rw (lent_back n new rest en, ea) (masks_renewed map changed passable old new inside before (rw (ea, el, er, et, eb, eo) at written))
+masks_renewed_at map after changed terrain left right top bottom n old lent new rest ea el er et eb eo en inside before written =
+    rw (lent_back n new rest en, ea) (masks_renewed map changed terrain old new inside before (rw (ea, el, er, et, eb, eo) at written))

@@ -1,8 +1,8 @@
 -- The masks round the cell were renewed.
 use Rattle.std.proofs.Common.{length, ap, subst, sym, arith}
 use Rattle.moves.specs.Maps.{IsInside}
-use Rattle.moves.proofs.Terrains.{masks_renewed_at}
-use Rattle.moves.proofs.grid.Grid.set.Goals as goal
+use Rattle.moves.proofs.Landscapes.{masks_renewed_at}
+use Rattle.moves.proofs.grid.Grid.set_terrain.Goals as goal
 
 pub invariant_of-self : goal.invariant_of-self
 invariant_of-self c =
