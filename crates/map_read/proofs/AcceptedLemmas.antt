@@ -1,11 +1,12 @@
 -- A text is accepted exactly where it stands for a map.
-use Rattle.std.proofs.Common.{◌≡◌, ℕ, zero, suc, ◌+◌, ◌≤◌, Bool, true, false, cond, eqb, ltb, List, [], ◌∷◌, ◌++◌, length, take, drop, Option, Some, None, Result, Ok, refl, sym, ap, subst, ◌∙◌, ◌⊎◌, append_assoc, arith, inl, inr}
+use Rattle.std.proofs.Common.{◌≡◌, ℕ, zero, suc, ◌+◌, ◌≤◌, true, eqb, List, [], ◌∷◌, ◌++◌, length, take, drop, Option, Some, None, Result, Ok, refl, sym, ap, subst, ◌∙◌, ◌⊎◌, append_assoc, arith, inl, inr}
 use Rattle.std.specs.Prelude.{codes, IsTrue}
 use Rattle.std.specs.List.{AllByRecursion}
-use Rattle.std.proofs.lemmas.Bool.{cases_Bool, eqb-true, eq-eqb, lt-ltb}
+use Rattle.std.proofs.lemmas.Bool.{cases_Bool, eqb-true, eq-eqb}
 use Rattle.std.proofs.lemmas.List.{append-nil, take_at, drop_at, take-append-drop, drop-drop}
-use Rattle.std.proofs.lemmas.List.Sums.{sum_by-append, sum_by_push}
+use Rattle.moves.specs.declared.Terrain.{Terrain}
 use Rattle.moves.specs.Maps.{Map, IsWithinLimits}
+use Rattle.moves.proofs.Marks.{count_open}
 use Rattle.text_lines.specs.Judging.{◌>>=◌, wanted, checked}
 use Rattle.text_lines.specs.Lines.{lines_of}
 use Rattle.text_lines.specs.Words.{has_words, is_blank, without_gaps_at_end}
@@ -13,10 +14,10 @@ use Rattle.text_lines.proofs.JudgingLemmas.{bind_ok, checked_ok, wanted_ok}
 use Rattle.text_lines.proofs.WordTests.{words_from_test, test_from_words}
 use Rattle.map_read.specs.declared.fault.MapFault.{MapFault}
 use Rattle.map_read.specs.declared.fault.MapFault.TheVariants.{Header, Size, RowLength}
-use Rattle.map_read.specs.MapText.{other_side, judged_sides, sides_given, sides_from, is_side_length, are_map_sides, line_at, header_in, is_passable_byte, is_blocked_byte, cell_of, free_in, cells_in, row_in, rows_in, extra_in, ended, map_of}
+use Rattle.map_read.specs.MapText.{other_side, judged_sides, sides_given, sides_from, is_side_length, are_map_sides, line_at, header_in, cell_of, free_in, cells_in, row_in, rows_in, extra_in, ended, map_of}
 use Rattle.map_read.specs.Accepted.{StandFor, IsRow, AreRows, AreSides, IsHeader, IsMapText, AcceptsExactlyMapTexts}
 use Rattle.map_read.proofs.SideLemmas.{sides_within, within_sides, width_within, height_within, one_name, header_yes}
-use Rattle.map_read.proofs.RowLemmas.{cell_is, cell_free, cell_wall}
+use Rattle.map_read.proofs.RowLemmas.{IsCell, cell_is, cell_back, count_push, count_joined}
 use Rattle.map_read.proofs.MapLemmas.{map_whole}
 
 ended_ok : (n m : Map) (o : Option ℕ) → ended n o ≡ Ok m → (o ≡ None) × (n ≡ m)
@@ -80,16 +81,7 @@ sides_back second third w h within given = elim given [
 
 -- ---- the rows
 
-blocked_not_passable : (byte : ℕ) → is_blocked_byte byte ≡ true → is_passable_byte byte ≡ false
-blocked_not_passable byte e = elim (cases_Bool (eqb byte 64)) [
-  | inl at ↦ rw (eqb-true byte 64 at) refl
-  | inr not_at ↦ elim (cases_Bool (eqb byte 79)) [
-    | inl o ↦ rw (eqb-true byte 79 o) refl
-    | inr not_o ↦ let t : eqb byte 84 ≡ true = rw (not_at, not_o) at e in rw (eqb-true byte 84 t) refl
-  ]
-]
-
-pub stand_length : (bytes : List ℕ) (cells : List Bool) → StandFor bytes cells → length bytes ≡ length cells
+pub stand_length : (bytes : List ℕ) (cells : List Terrain) → StandFor bytes cells → length bytes ≡ length cells
 unfolding StandFor
 stand_length [] [] stand = refl
 stand_length [] (cell ∷ cells) stand = absurd stand
@@ -97,28 +89,27 @@ stand_length (byte ∷ bytes) [] stand = absurd stand
 stand_length (byte ∷ bytes) (cell ∷ cells) stand = ap suc (stand_length bytes cells stand.1)
 
 -- cells that were read, after those before
-pub record HasRead (before all : List Bool) (Fits : List Bool → Type 0) : Type 0 where
-  pub cells : List Bool
+pub record HasRead (before all : List Terrain) (Fits : List Terrain → Type 0) : Type 0 where
+  pub cells : List Terrain
   pub joined : all ≡ before ++ cells
   pub fits : Fits cells
   pub few : free_in all ≤ 32768
 
-pub cells_are : (y x : ℕ) (before : List Bool) (row : List ℕ) (all : List Bool) → free_in before ≤ 32768 → cells_in y x before row ≡ Ok all
+pub cells_are : (y x : ℕ) (before : List Terrain) (row : List ℕ) (all : List Terrain) → free_in before ≤ 32768 → cells_in y x before row ≡ Ok all
     → HasRead before all (λ cells. StandFor row cells)
 unfolding cells_in StandFor
 cells_are y x before [] all few e =
     let same : before ≡ all = cc in
-    record { cells = []; joined = sym same ∙ sym (append-nil before); fits = tt; few = subst (λ (cs : List Bool). free_in cs ≤ 32768) same few }
+    record { cells = []; joined = sym same ∙ sym (append-nil before); fits = tt; few = subst (λ (cs : List Terrain). free_in cs ≤ 32768) same few }
 cells_are y x before (byte ∷ row) all few e =
-    let a = bind_ok (cell_of x y byte (free_in before)) (λ passable. cells_in y (x + 1) (before ++ passable ∷ []) row) all e in
-    let p = a.0 in
-    let cell = cell_is x y byte (free_in before) p few a.1 in
-    let count = sum_by_push (λ (b : Bool). cond b 1 0) before p in
-    let rest = cells_are y (x + 1) (before ++ p ∷ []) row all (omega (arith, cell.limit, count)) a.2 in
+    let a = bind_ok (cell_of x y byte (free_in before)) (λ terrain. cells_in y (x + 1) (before ++ terrain ∷ []) row) all e in
+    let cell = a.0 in
+    let is = cell_is x y byte (free_in before) cell few a.1 in
+    let rest = cells_are y (x + 1) (before ++ cell ∷ []) row all (omega (arith, is.limit, count_push before cell)) a.2 in
     record {
-      cells = p ∷ rest.cells;
-      joined = rest.joined ∙ append_assoc before (p ∷ []) rest.cells;
-      fits = (cell.stands, rest.fits);
+      cells = cell ∷ rest.cells;
+      joined = rest.joined ∙ append_assoc before (cell ∷ []) rest.cells;
+      fits = (is.stands, rest.fits);
       few = rest.few;
     }
 
@@ -128,12 +119,12 @@ row_is width y line row e =
     let a = checked_ok (eqb (length (without_gaps_at_end line)) width) (without_gaps_at_end line) row (RowLength (5 + y) width (length (without_gaps_at_end line))) e in
     (a.1, sym (ap (λ (r : List ℕ). length r) a.1) ∙ eqb-true (length (without_gaps_at_end line)) width a.0)
 
-pub rows_are : (width y rows : ℕ) (before : List Bool) (lines : List (List ℕ)) (all : List Bool) → free_in before ≤ 32768 → rows_in width y rows before lines ≡ Ok all
+pub rows_are : (width y rows : ℕ) (before : List Terrain) (lines : List (List ℕ)) (all : List Terrain) → free_in before ≤ 32768 → rows_in width y rows before lines ≡ Ok all
     → HasRead before all (λ cells. AreRows width rows cells lines)
 unfolding rows_in AreRows
 rows_are width y zero before lines all few e =
     let same : before ≡ all = cc in
-    record { cells = []; joined = sym same ∙ sym (append-nil before); fits = refl; few = subst (λ (cs : List Bool). free_in cs ≤ 32768) same few }
+    record { cells = []; joined = sym same ∙ sym (append-nil before); fits = refl; few = subst (λ (cs : List Terrain). free_in cs ≤ 32768) same few }
 rows_are width y (suc rows) before [] all few e = absurd cc
 rows_are width y (suc rows) before (line ∷ lines) all few e =
     let a = bind_ok (row_in width y line) (λ row. cells_in y 0 before row >>= λ cells. rows_in width (y + 1) rows cells lines) all e in
@@ -147,53 +138,47 @@ rows_are width y (suc rows) before (line ∷ lines) all few e =
     let back : drop width (first.cells ++ rest.cells) ≡ rest.cells = drop_at first.cells rest.cells width wide in
     record {
       cells = first.cells ++ rest.cells;
-      joined = rest.joined ∙ ap (λ (cs : List Bool). cs ++ rest.cells) first.joined ∙ append_assoc before first.cells rest.cells;
+      joined = rest.joined ∙ ap (λ (cs : List Terrain). cs ++ rest.cells) first.joined ∙ append_assoc before first.cells rest.cells;
       fits = (rw front (record { wide = wide; bytes = bytes }), rw back rest.fits);
       few = rest.few;
     }
 
-cells_back : (y x : ℕ) (before : List Bool) (row : List ℕ) (cells : List Bool) → StandFor row cells → free_in (before ++ cells) ≤ 32768
+cells_back : (y x : ℕ) (before : List Terrain) (row : List ℕ) (cells : List Terrain) → StandFor row cells → free_in (before ++ cells) ≤ 32768
     → cells_in y x before row ≡ Ok (before ++ cells)
 unfolding cells_in StandFor
-cells_back y x before [] [] stand few = ap (λ (cs : List Bool). Ok cs) (sym (append-nil before))
-cells_back y x before [] (p ∷ cells) stand few = absurd stand
+cells_back y x before [] [] stand few = ap (λ (cs : List Terrain). Ok cs) (sym (append-nil before))
+cells_back y x before [] (cell ∷ cells) stand few = absurd stand
 cells_back y x before (byte ∷ row) [] stand few = absurd stand
-cells_back y x before (byte ∷ row) (true ∷ cells) stand few =
-    let parts : (before ++ true ∷ []) ++ cells ≡ before ++ true ∷ cells = append_assoc before (true ∷ []) cells in
-    let same = ap (λ (cs : List Bool). free_in cs) parts in
-    let count = sum_by-append (λ (b : Bool). cond b 1 0) (before ++ true ∷ []) cells in
-    let one = sum_by_push (λ (b : Bool). cond b 1 0) before true in
-    let room : ltb (free_in before) 32768 ≡ true = lt-ltb (free_in before) 32768 (omega (arith, few, count, one, same)) in
-    let cell : cell_of x y byte (free_in before) ≡ Ok true = cell_free x y byte (free_in before) stand.0 ∙ rw room refl in
-    let rest = cells_back y (x + 1) (before ++ true ∷ []) row cells stand.1 (omega (arith, few, same)) in
-    rw cell (rest ∙ ap (λ (cs : List Bool). Ok cs) parts)
-cells_back y x before (byte ∷ row) (false ∷ cells) stand few =
-    let parts : (before ++ false ∷ []) ++ cells ≡ before ++ false ∷ cells = append_assoc before (false ∷ []) cells in
-    let same = ap (λ (cs : List Bool). free_in cs) parts in
-    let cell : cell_of x y byte (free_in before) ≡ Ok false = cell_wall x y byte (free_in before) (blocked_not_passable byte stand.0) stand.0 in
-    let rest = cells_back y (x + 1) (before ++ false ∷ []) row cells stand.1 (omega (arith, few, same)) in
-    rw cell (rest ∙ ap (λ (cs : List Bool). Ok cs) parts)
+cells_back y x before (byte ∷ row) (cell ∷ cells) stand few =
+    let parts : (before ++ cell ∷ []) ++ cells ≡ before ++ cell ∷ cells = append_assoc before (cell ∷ []) cells in
+    let same = ap (λ (cs : List Terrain). free_in cs) parts in
+    let count = count_joined (before ++ cell ∷ []) cells in
+    let one = count_push before cell in
+    let is : IsCell byte (free_in before) cell = record { stands = stand.0; limit = omega (arith, few, count, one, same) } in
+    let first : cell_of x y byte (free_in before) ≡ Ok cell = cell_back x y byte (free_in before) cell is in
+    let rest = cells_back y (x + 1) (before ++ cell ∷ []) row cells stand.1 (omega (arith, few, same)) in
+    rw first (rest ∙ ap (λ (cs : List Terrain). Ok cs) parts)
 
-row_back : (width y : ℕ) (cells : List Bool) (line : List ℕ) → IsRow width cells line → row_in width y line ≡ Ok (without_gaps_at_end line)
+row_back : (width y : ℕ) (cells : List Terrain) (line : List ℕ) → IsRow width cells line → row_in width y line ≡ Ok (without_gaps_at_end line)
 unfolding row_in
 row_back width y cells line is =
     let wide : length (without_gaps_at_end line) ≡ width = stand_length (without_gaps_at_end line) cells is.bytes ∙ is.wide in
     rw (eq-eqb (length (without_gaps_at_end line)) width wide) refl
 
-rows_back : (width y rows : ℕ) (before cells : List Bool) (lines : List (List ℕ)) → AreRows width rows cells lines → free_in (before ++ cells) ≤ 32768
+rows_back : (width y rows : ℕ) (before cells : List Terrain) (lines : List (List ℕ)) → AreRows width rows cells lines → free_in (before ++ cells) ≤ 32768
     → rows_in width y rows before lines ≡ Ok (before ++ cells)
 unfolding rows_in AreRows
-rows_back width y zero before cells lines none few = ap (λ (cs : List Bool). Ok cs) (sym (append-nil before) ∙ ap (λ (cs : List Bool). before ++ cs) (sym none))
+rows_back width y zero before cells lines none few = ap (λ (cs : List Terrain). Ok cs) (sym (append-nil before) ∙ ap (λ (cs : List Terrain). before ++ cs) (sym none))
 rows_back width y (suc rows) before cells [] are few = absurd are
 rows_back width y (suc rows) before cells (line ∷ lines) are few =
     let whole : (before ++ take width cells) ++ drop width cells ≡ before ++ cells =
-    append_assoc before (take width cells) (drop width cells) ∙ ap (λ (cs : List Bool). before ++ cs) (take-append-drop width cells) in
-    let same = ap (λ (cs : List Bool). free_in cs) whole in
-    let count = sum_by-append (λ (b : Bool). cond b 1 0) (before ++ take width cells) (drop width cells) in
+    append_assoc before (take width cells) (drop width cells) ∙ ap (λ (cs : List Terrain). before ++ cs) (take-append-drop width cells) in
+    let same = ap (λ (cs : List Terrain). free_in cs) whole in
+    let count = count_joined (before ++ take width cells) (drop width cells) in
     let row = row_back width y (take width cells) line are.0 in
     let filled = cells_back y 0 before (without_gaps_at_end line) (take width cells) are.0.bytes (omega (arith, few, same, count)) in
     let rest = rows_back width (y + 1) rows (before ++ take width cells) (drop width cells) lines are.1 (omega (arith, few, same)) in
-    rw (row, filled) (rest ∙ ap (λ (cs : List Bool). Ok cs) whole)
+    rw (row, filled) (rest ∙ ap (λ (cs : List Terrain). Ok cs) whole)
 
 -- ---- the lines after the rows
 
@@ -239,7 +224,7 @@ text_is : (text : List ℕ) (m : Map) → map_of text ≡ Ok m → IsMapText tex
 unfolding map_of
 text_is text m e =
     let lines = lines_of text in
-    let made : ℕ × ℕ → List Bool → Map = λ s cells. record { width = s.0; height = s.1; passable = cells } in
+    let made : ℕ × ℕ → List Terrain → Map = λ s cells. record { width = s.0; height = s.1; terrain = cells } in
     let a = bind_ok (header_in lines)
     (λ s. rows_in s.0 0 s.1 [] (drop 4 lines) >>= λ cells. ended (made s cells) (extra_in (5 + s.1) (drop (4 + s.1) lines))) m e in
     let s = a.0 in
@@ -248,8 +233,8 @@ text_is text m e =
     let rows = rows_are s.0 0 s.1 [] (drop 4 lines) b.0 (omega arith) b.1 in
     let is : IsMapText text (made s b.0) = record {
       header = header_is lines s a.1;
-      rows = subst (λ (cells : List Bool). AreRows s.0 s.1 cells (drop 4 lines)) (sym rows.joined) rows.fits;
-      few = rows.few;
+      rows = subst (λ (cells : List Terrain). AreRows s.0 s.1 cells (drop 4 lines)) (sym rows.joined) rows.fits;
+      few = subst (λ (n : ℕ). n ≤ 32768) (count_open b.0) rows.few;
       after = after_are (5 + s.1) (drop (4 + s.1) lines) end.0;
     } in
     subst (λ (n : Map). IsMapText text n) end.1 is
@@ -258,10 +243,11 @@ text_back : (text : List ℕ) (m : Map) → IsMapText text m → map_of text ≡
 text_back text m is =
     let lines = lines_of text in
     let header = header_back lines m.width m.height is.header in
-    let rows = rows_back m.width 0 m.height [] m.passable (drop 4 lines) is.rows is.few in
+    let few : free_in m.terrain ≤ 32768 = subst (λ (n : ℕ). n ≤ 32768) (sym (count_open m.terrain)) is.few in
+    let rows = rows_back m.width 0 m.height [] m.terrain (drop 4 lines) is.rows few in
     let rest = drop-drop m.height 4 lines in
     let end = ap (extra_in (5 + m.height)) rest ∙ after_back (5 + m.height) (drop (4 + m.height) lines) is.after in
-    map_whole text lines (drop 4 lines) refl refl m.width m.height header m.passable (drop m.height (drop 4 lines)) rows refl end
+    map_whole text lines (drop 4 lines) refl refl m.width m.height header m.terrain (drop m.height (drop 4 lines)) rows refl end
 
 pub accepts_map_texts : AcceptsExactlyMapTexts
 accepts_map_texts text m = (text_is text m, text_back text m)

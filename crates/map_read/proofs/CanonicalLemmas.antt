@@ -1,33 +1,33 @@
 -- Reading the canonical text of a map gives that map.
-use Rattle.std.proofs.Common.{◌≡◌, ℕ, zero, suc, ◌+◌, ◌*◌, ◌^◌, ◌<◌, ◌≤◌, Bool, true, false, cond, eqb, ltb, List, [], ◌∷◌, ◌++◌, length, take, drop, All, Some, Ok, refl, sym, ap, ◌∙◌, append_assoc, arith, inl}
-use Rattle.std.specs.Prelude.{map, codes}
-use Rattle.std.specs.List.{slice_split}
+use Rattle.std.proofs.Common.{◌≡◌, ℕ, zero, suc, ◌+◌, ◌*◌, ◌^◌, ◌<◌, false, true, ltb, List, [], ◌∷◌, ◌++◌, length, take, drop, All, Some, refl, sym, ap, subst, ◌∙◌, arith, inl}
+use Rattle.std.specs.Prelude.{map, codes, IsTrue}
+use Rattle.std.specs.List.{AllByRecursion, slice_split}
 use Rattle.std.specs.Fmt.{decimal}
-use Rattle.std.proofs.lemmas.Bool.{lt-ltb, eq-eqb}
-use Rattle.std.proofs.lemmas.List.{append-nil, length-map, length-take, length-drop, take-append-drop, drop_all, nil_from_length}
-use Rattle.std.proofs.lemmas.List.Sums.{sum_by-append, sum_by_push}
+use Rattle.std.proofs.lemmas.Bool.{lt-ltb}
+use Rattle.std.proofs.lemmas.List.{length-take, length-drop, drop_all, drop-drop, nil_from_length}
 use Rattle.std.proofs.lemmas.List.Splits.{slice_split_none}
 use Rattle.std.proofs.lemmas.Fmt.{decimal_nonempty}
-use Rattle.moves.specs.Maps.{Map, IsWithinLimits}
+use Rattle.moves.specs.declared.Terrain.{Terrain}
+use Rattle.moves.specs.declared.Terrain.TheVariants.{Blocked, Land, Water}
+use Rattle.moves.specs.Maps.{Map, IsWithinLimits, IsSearchable}
 use Rattle.text_lines.specs.Lines.{lines_of}
-use Rattle.text_lines.specs.Words.{is_gap, words_of, has_words, without_gaps_at_end}
+use Rattle.text_lines.specs.Words.{is_gap, is_blank, words_of, has_words, without_gaps_at_end}
 use Rattle.text_lines.proofs.LineLemmas.{AreKept, IsPrinted, lines_with_feeds, printed_is_kept, printed_append, printed_digits}
 use Rattle.text_lines.proofs.NumberLemmas.{digits_of_decimal, number_in_decimal, no_gap_in_digits}
 use Rattle.text_lines.proofs.WordTests.{words_from_test}
-use Rattle.map_read.specs.Accepted.{IsHeader}
-use Rattle.map_read.specs.MapText.{number_named, free_in, cells_in, cell_of, row_in, rows_in, extra_in, glyph, row_texts, line_texts, text_of, CanonicalTextReadsBack}
-use Rattle.map_read.proofs.AcceptedLemmas.{header_back}
-use Rattle.map_read.proofs.RowLemmas.{cell_free, cell_wall, extra_none}
-use Rattle.map_read.proofs.MapLemmas.{map_whole}
+use Rattle.map_read.specs.Accepted.{StandFor, AreRows, IsHeader, IsMapText}
+use Rattle.map_read.specs.MapText.{number_named, terrain_for, glyph, row_texts, line_texts, text_of, CanonicalTextReadsBack}
+use Rattle.map_read.proofs.AcceptedLemmas.{accepts_map_texts}
 
 -- ---- lines
 
-printed_cells : (cells : List Bool) → IsPrinted (map glyph cells)
+printed_cells : (cells : List Terrain) → IsPrinted (map glyph cells)
 printed_cells [] = refl
-printed_cells (true ∷ cells) = printed_cells cells
-printed_cells (false ∷ cells) = printed_cells cells
+printed_cells (Blocked ∷ cells) = printed_cells cells
+printed_cells (Land ∷ cells) = printed_cells cells
+printed_cells (Water ∷ cells) = printed_cells cells
 
-kept_rows : (width rows : ℕ) (cells : List Bool) → AreKept (row_texts width rows cells)
+kept_rows : (width rows : ℕ) (cells : List Terrain) → AreKept (row_texts width rows cells)
 unfolding row_texts AreKept
 kept_rows width zero cells = tt
 kept_rows width (suc rows) cells =
@@ -46,58 +46,35 @@ named_in n small =
 
 -- ---- cells
 
-one_cell : (before : List Bool) (passable : Bool) (cells : List Bool) → free_in ((before ++ passable ∷ []) ++ cells) ≡ free_in before + cond passable 1 0 + free_in cells
-one_cell before passable cells =
-    sum_by-append (λ (p : Bool). cond p 1 0) (before ++ passable ∷ []) cells ∙ ap (λ (n : ℕ). n + free_in cells) (sum_by_push (λ (p : Bool). cond p 1 0) before passable)
+stands_back : (cell : Terrain) → terrain_for (glyph cell) ≡ Some cell
+unfolding terrain_for
+stands_back Blocked = refl
+stands_back Land = refl
+stands_back Water = refl
 
-canonical_cells : (y x : ℕ) (before cells : List Bool) → free_in (before ++ cells) ≤ 32768 → cells_in y x before (map glyph cells) ≡ Ok (before ++ cells)
-unfolding cells_in
-canonical_cells y x before [] few = ap (λ (cs : List Bool). Ok cs) (sym (append-nil before))
-canonical_cells y x before (true ∷ cells) few =
-    let parts : (before ++ true ∷ []) ++ cells ≡ before ++ true ∷ cells = append_assoc before (true ∷ []) cells in
-    let count = one_cell before true cells in
-    let same = ap (λ (cs : List Bool). free_in cs) parts in
-    let room : ltb (free_in before) 32768 ≡ true = lt-ltb (free_in before) 32768 (omega (arith, few, count, same)) in
-    let cell : cell_of x y 46 (free_in before) ≡ Ok true = cell_free x y 46 (free_in before) refl ∙ rw room refl in
-    let rest = canonical_cells y (x + 1) (before ++ true ∷ []) cells (omega (arith, few, same)) in
-    rw cell (rest ∙ ap (λ (cs : List Bool). Ok cs) parts)
-canonical_cells y x before (false ∷ cells) few =
-    let parts : (before ++ false ∷ []) ++ cells ≡ before ++ false ∷ cells = append_assoc before (false ∷ []) cells in
-    let same = ap (λ (cs : List Bool). free_in cs) parts in
-    let cell : cell_of x y 64 (free_in before) ≡ Ok false = cell_wall x y 64 (free_in before) refl refl in
-    let rest = canonical_cells y (x + 1) (before ++ false ∷ []) cells (omega (arith, few, same)) in
-    rw cell (rest ∙ ap (λ (cs : List Bool). Ok cs) parts)
+canonical_stands : (cells : List Terrain) → StandFor (map glyph cells) cells
+unfolding StandFor
+canonical_stands [] = tt
+canonical_stands (cell ∷ cells) = (stands_back cell, canonical_stands cells)
 
-no_gaps_to_drop : (cells : List Bool) → without_gaps_at_end (map glyph cells) ≡ map glyph cells
+no_gaps_to_drop : (cells : List Terrain) → without_gaps_at_end (map glyph cells) ≡ map glyph cells
 unfolding without_gaps_at_end
 no_gaps_to_drop [] = refl
-no_gaps_to_drop (true ∷ cells) = ap (λ (line : List ℕ). 46 ∷ line) (no_gaps_to_drop cells)
-no_gaps_to_drop (false ∷ cells) = ap (λ (line : List ℕ). 64 ∷ line) (no_gaps_to_drop cells)
+no_gaps_to_drop (Blocked ∷ cells) = ap (λ (line : List ℕ). 64 ∷ line) (no_gaps_to_drop cells)
+no_gaps_to_drop (Land ∷ cells) = ap (λ (line : List ℕ). 46 ∷ line) (no_gaps_to_drop cells)
+no_gaps_to_drop (Water ∷ cells) = ap (λ (line : List ℕ). 87 ∷ line) (no_gaps_to_drop cells)
 
-canonical_row : (width y : ℕ) (cells : List Bool) → length cells ≡ width → row_in width y (map glyph cells) ≡ Ok (map glyph cells)
-unfolding row_in
-canonical_row width y cells len =
-    let long : eqb (length (map glyph cells)) width ≡ true = eq-eqb _ _ (length-map cells glyph ∙ len) in
-    rw (no_gaps_to_drop cells, long) refl
+canonical_rows : (width rows : ℕ) (cells : List Terrain) → length cells ≡ width * rows → AreRows width rows cells (row_texts width rows cells)
+unfolding AreRows row_texts
+canonical_rows width zero cells len = nil_from_length cells (omega (arith, len))
+canonical_rows width (suc rows) cells len =
+    let row = take width cells in
+    let wide : length row ≡ width = omega (arith, length-take width cells, len) in
+    let bytes : StandFor (without_gaps_at_end (map glyph row)) row = rw (no_gaps_to_drop row) (canonical_stands row) in
+    let rest : length (drop width cells) ≡ width * rows = omega (arith, length-drop width cells, len) in
+    (record { wide = wide; bytes = bytes }, canonical_rows width rows (drop width cells) rest)
 
-canonical_rows : (width y rows : ℕ) (before cells : List Bool) → length cells ≡ width * rows → free_in (before ++ cells) ≤ 32768
-    → rows_in width y rows before (row_texts width rows cells) ≡ Ok (before ++ cells)
-unfolding rows_in row_texts
-canonical_rows width y zero before cells len few =
-    let none : cells ≡ [] = nil_from_length cells (omega (arith, len)) in
-    ap (λ (cs : List Bool). Ok cs) (sym (append-nil before) ∙ ap (λ (cs : List Bool). before ++ cs) (sym none))
-canonical_rows width y (suc rows) before cells len few =
-    let first : length (take width cells) ≡ width = omega (arith, length-take width cells, len) in
-    let whole : (before ++ take width cells) ++ drop width cells ≡ before ++ cells =
-    append_assoc before (take width cells) (drop width cells) ∙ ap (λ (cs : List Bool). before ++ cs) (take-append-drop width cells) in
-    let same = ap (λ (cs : List Bool). free_in cs) whole in
-    let count = sum_by-append (λ (p : Bool). cond p 1 0) (before ++ take width cells) (drop width cells) in
-    let row = canonical_row width y (take width cells) first in
-    let filled = canonical_cells y 0 before (take width cells) (omega (arith, few, same, count)) in
-    let rest = canonical_rows width (y + 1) rows (before ++ take width cells) (drop width cells) (omega (arith, length-drop width cells, len)) (omega (arith, few, same)) in
-    rw (row, filled) (rest ∙ ap (λ (cs : List Bool). Ok cs) whole)
-
-length_row_texts : (width rows : ℕ) (cells : List Bool) → length (row_texts width rows cells) ≡ rows
+length_row_texts : (width rows : ℕ) (cells : List Terrain) → length (row_texts width rows cells) ≡ rows
 unfolding row_texts
 length_row_texts width zero cells = refl
 length_row_texts width (suc rows) cells = ap suc (length_row_texts width rows (drop width cells))
@@ -115,7 +92,7 @@ canonical_lines m within =
         printed_is_kept (codes "height " ++ decimal m.height) (printed_append (codes "height ") (decimal m.height) refl h),
         (
           printed_is_kept (codes "width " ++ decimal m.width) (printed_append (codes "width ") (decimal m.width) refl w),
-          (printed_is_kept (codes "map") refl, kept_rows m.width m.height m.passable),
+          (printed_is_kept (codes "map") refl, kept_rows m.width m.height m.terrain),
         ),
       ),
     )
@@ -137,10 +114,18 @@ canonical_header m within =
       mark = words_from_test _ _ map_line_is;
     }
 
+canonical_text : (m : Map) → IsWithinLimits m.width m.height → length m.terrain ≡ m.width * m.height → IsSearchable m → IsMapText (text_of m) m
+canonical_text m within whole few =
+    let lines = sym (canonical_lines m within) in
+    let rows = row_texts m.width m.height m.terrain in
+    let none : drop (4 + m.height) (line_texts m) ≡ [] =
+    sym (drop-drop m.height 4 (line_texts m)) ∙ drop_all m.height rows (omega (arith, length_row_texts m.width m.height m.terrain)) in
+    record {
+      header = subst (λ (ls : List (List ℕ)). IsHeader ls m.width m.height) lines (canonical_header m within);
+      rows = subst (λ (ls : List (List ℕ)). AreRows m.width m.height m.terrain (drop 4 ls)) lines (canonical_rows m.width m.height m.terrain whole);
+      few = few;
+      after = subst (λ (ls : List (List ℕ)). AllByRecursion (λ line. IsTrue (is_blank line)) (drop (4 + m.height) ls)) lines (rw none tt);
+    }
+
 pub canonical_reads_back : CanonicalTextReadsBack
-canonical_reads_back m within whole few =
-    let rows = canonical_rows m.width 0 m.height [] m.passable whole few in
-    let left : drop m.height (row_texts m.width m.height m.passable) ≡ [] = drop_all m.height (row_texts m.width m.height m.passable) (omega (arith, length_row_texts m.width m.height m.passable)) in
-    let end = ap (extra_in (5 + m.height)) left ∙ extra_none (5 + m.height) in
-    map_whole (text_of m) (line_texts m) (row_texts m.width m.height m.passable) (sym (canonical_lines m within)) refl
-    m.width m.height (header_back (line_texts m) m.width m.height (canonical_header m within)) m.passable (drop m.height (row_texts m.width m.height m.passable)) rows refl end
+canonical_reads_back m within whole few = (accepts_map_texts (text_of m) m).1 (canonical_text m within whole few)

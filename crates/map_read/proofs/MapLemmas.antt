@@ -1,6 +1,7 @@
 -- What a text stands for, from what its parts give.
-use Rattle.std.proofs.Common.{◌≡◌, ℕ, ◌+◌, Bool, List, [], drop, Some, None, Ok, Err, refl, sym, ap, ◌∙◌}
+use Rattle.std.proofs.Common.{◌≡◌, ℕ, ◌+◌, List, [], drop, Some, None, Ok, Err, refl, sym, ap, ◌∙◌}
 use Rattle.std.proofs.lemmas.List.{drop-drop}
+use Rattle.moves.specs.declared.Terrain.{Terrain}
 use Rattle.map_read.specs.declared.fault.MapFault.{MapFault}
 use Rattle.map_read.specs.declared.fault.MapFault.TheVariants.{Extra}
 use Rattle.text_lines.specs.Lines.{lines_of}
@@ -26,7 +27,7 @@ module _ (text : List ℕ) (lines after : List (List ℕ)) (lines-is : lines ≡
         let bad' : rows_in width 0 height [] (drop 4 (lines_of text)) ≡ Err fault = ap (rows_in width 0 height []) (sym after_lines) ∙ bad in
         rw (good_header, bad') refl
 
-    module _ (cells : List Bool) (rest : List (List ℕ)) (rows : rows_in width 0 height [] after ≡ Ok cells) (rest-is : rest ≡ drop height after) where
+    module _ (cells : List Terrain) (rest : List (List ℕ)) (rows : rows_in width 0 height [] after ≡ Ok cells) (rest-is : rest ≡ drop height after) where
       good_rows : rows_in width 0 height [] (drop 4 (lines_of text)) ≡ Ok cells
       good_rows = ap (rows_in width 0 height []) (sym after_lines) ∙ rows
 
@@ -39,7 +40,7 @@ module _ (text : List ℕ) (lines after : List (List ℕ)) (lines-is : lines ≡
           let extra' : extra_in (5 + height) (drop (4 + height) (lines_of text)) ≡ Some line = ap (extra_in (5 + height)) (sym rest_lines) ∙ extra in
           rw (good_header, good_rows, extra') refl
 
-      pub map_whole : extra_in (5 + height) rest ≡ None → map_of text ≡ Ok (record { width = width; height = height; passable = cells })
+      pub map_whole : extra_in (5 + height) rest ≡ None → map_of text ≡ Ok (record { width = width; height = height; terrain = cells })
       unfolding map_of
       map_whole none =
           let none' : extra_in (5 + height) (drop (4 + height) (lines_of text)) ≡ None = ap (extra_in (5 + height)) (sym rest_lines) ∙ none in

@@ -1,10 +1,11 @@
 -- A refusal names the first fault.
-use Rattle.std.proofs.Common.{◌≡◌, ◌≢◌, ℕ, zero, suc, ◌+◌, ◌-◌, ◌*◌, ◌<◌, ◌≤◌, Bool, true, false, cond, eqb, ltb, leb, ◌&&◌, List, [], ◌∷◌, ◌++◌, length, get_or, take, drop, Option, Some, None, Ok, Err, refl, sym, ap, subst, ◌∙◌, ◌⊎◌, append_assoc, arith, inl, inr}
+use Rattle.std.proofs.Common.{◌≡◌, ◌≢◌, ℕ, zero, suc, ◌+◌, ◌-◌, ◌*◌, ◌<◌, ◌≤◌, true, false, eqb, leb, ◌&&◌, List, [], ◌∷◌, ◌++◌, length, get_or, take, drop, Option, Some, None, Ok, Err, refl, sym, ap, subst, ◌∙◌, ◌⊎◌, append_assoc, arith, inl, inr}
 use Rattle.std.specs.Prelude.{codes, IsTrue}
 use Rattle.std.specs.List.{AllByRecursion}
 use Rattle.std.proofs.lemmas.Bool.{cases_Bool, cases_lt, eqb-false, ltb-false, and_from, le-leb, false≢true}
 use Rattle.std.proofs.lemmas.List.{append-nil, drop_all, drop-drop, length-drop, length-append, length-take, get_or-drop, get_or-append_right, take_at, take_all, take-append-le, drop-append-le}
-use Rattle.std.proofs.lemmas.List.Sums.{sum_by_push}
+use Rattle.moves.specs.declared.Terrain.{Terrain}
+use Rattle.moves.specs.declared.Terrain.TheVariants.{Blocked, Land, Water}
 use Rattle.moves.specs.Maps.{Map}
 use Rattle.text_lines.specs.Judging.{◌>>=◌, wanted, checked}
 use Rattle.text_lines.specs.Lines.{lines_of}
@@ -12,12 +13,12 @@ use Rattle.text_lines.specs.Words.{words_of, has_words, is_blank}
 use Rattle.text_lines.proofs.JudgingLemmas.{bind_ok, bind_err, checked_ok, checked_err, wanted_ok, wanted_err}
 use Rattle.text_lines.proofs.WordTests.{words_from_test, test_from_words}
 use Rattle.map_read.specs.declared.fault.MapFault.{MapFault}
-use Rattle.map_read.specs.declared.fault.MapFault.TheVariants.{Header, Size, RowLength, BadCell, Water, MissingRows, Extra, TooManyCells}
-use Rattle.map_read.specs.MapText.{other_side, judged_sides, sides_given, sides_from, is_side_length, are_map_sides, number_named, line_at, header_in, is_passable_byte, is_blocked_byte, is_water_byte, cell_of, free_in, cells_in, row_in, rows_in, extra_in, ended, map_of}
+use Rattle.map_read.specs.declared.fault.MapFault.TheVariants.{Header, Size, RowLength, BadCell, MissingRows, Extra, TooManyCells}
+use Rattle.map_read.specs.MapText.{other_side, judged_sides, sides_given, sides_from, is_side_length, are_map_sides, number_named, line_at, header_in, terrain_for, cell_of, free_in, cells_in, row_in, rows_in, extra_in, ended, map_of}
 use Rattle.map_read.specs.Accepted.{StandFor, IsRow, AreRows, AreSidesGiven}
-use Rattle.map_read.specs.Refused.{IsSideGiven, IsReadTo, row_bytes, HasRow, IsByteOfRow, IsBadCell, IsWaterCell, IsOneCellTooMany, IsExtraLine, IsFirstFault, RefusalsNameTheFirstFault}
+use Rattle.map_read.specs.Refused.{IsSideGiven, IsReadTo, row_bytes, HasRow, IsByteOfRow, IsBadCell, IsPassableByte, IsOneCellTooMany, IsExtraLine, IsFirstFault, RefusalsNameTheFirstFault}
 use Rattle.map_read.proofs.SideLemmas.{sides_within}
-use Rattle.map_read.proofs.RowLemmas.{cell_is, cell_free, cell_wall, cell_sea, cell_other}
+use Rattle.map_read.proofs.RowLemmas.{has_room, cell_is, count_push}
 use Rattle.map_read.proofs.AcceptedLemmas.{sides_are, stand_length, cells_are, row_is, rows_are, header_is}
 
 -- ---- the header
@@ -128,17 +129,22 @@ header_fault lines fault e =
 
 -- ---- one row
 
-stand_push : (bytes : List ℕ) (cells : List Bool) (byte : ℕ) (cell : Bool) → StandFor bytes cells → StandFor (byte ∷ []) (cell ∷ []) → StandFor (bytes ++ byte ∷ []) (cells ++ cell ∷ [])
+stand_push : (bytes : List ℕ) (cells : List Terrain) (byte : ℕ) (cell : Terrain) → StandFor bytes cells → StandFor (byte ∷ []) (cell ∷ []) → StandFor (bytes ++ byte ∷ []) (cells ++ cell ∷ [])
 unfolding StandFor
 stand_push [] [] byte cell stand more = more
 stand_push [] (c ∷ cells) byte cell stand more = absurd stand
 stand_push (b ∷ bytes) [] byte cell stand more = absurd stand
 stand_push (b ∷ bytes) (c ∷ cells) byte cell stand more = (stand.0, stand_push bytes cells byte cell stand.1 more)
 
+-- where there is no room for a cell, it is passable and so many are there as there may be
+no_room : (free byte : ℕ) (cell : Terrain) → terrain_for byte ≡ Some cell → free ≤ 32768 → has_room free cell ≡ false → IsPassableByte byte × (free ≡ 32768)
+no_room free byte Blocked stands few e = absurd cc
+no_room free byte Land stands few e = (inl stands, omega (arith, few, ltb-false free 32768 e))
+no_room free byte Water stands few e = (inr stands, omega (arith, few, ltb-false free 32768 e))
+
 -- a fault of row y, where the row is the one and the cells above it are the other
-abbrev IsCellFault : ℕ → List ℕ → List Bool → MapFault → Type 0
+abbrev IsCellFault : ℕ → List ℕ → List Terrain → MapFault → Type 0
 IsCellFault y row above (BadCell x r byte) = (r ≡ y) × IsBadCell x byte (length row) row above
-IsCellFault y row above (Water x r) = (r ≡ y) × IsWaterCell x (length row) row above
 IsCellFault y row above (TooManyCells x r) = (r ≡ y) × IsOneCellTooMany x (length row) row above
 IsCellFault y row above (Header line) = ⊥
 IsCellFault y row above (Size line) = ⊥
@@ -146,9 +152,9 @@ IsCellFault y row above (RowLength line expected found) = ⊥
 IsCellFault y row above (MissingRows found) = ⊥
 IsCellFault y row above (Extra line) = ⊥
 
-module _ (y : ℕ) (row : List ℕ) (above : List Bool) where
+module _ (y : ℕ) (row : List ℕ) (above : List Terrain) where
   -- the byte at a place, where the bytes before it stand for cells
-  here : (x byte : ℕ) (start rest : List ℕ) (left : List Bool) → row ≡ start ++ byte ∷ rest → length start ≡ x → StandFor start left
+  here : (x byte : ℕ) (start rest : List ℕ) (left : List Terrain) → row ≡ start ++ byte ∷ rest → length start ≡ x → StandFor start left
       → free_in (above ++ left) ≤ 32768 → IsByteOfRow x byte (free_in (above ++ left)) (length row) row above
   here x byte start rest left row-is long stand few =
       let front : take x row ≡ start = ap (λ (r : List ℕ). take x r) row-is ∙ take_at start (byte ∷ rest) x long in
@@ -160,58 +166,49 @@ module _ (y : ℕ) (row : List ℕ) (above : List Bool) where
         record { left = left; bytes = rw front stand; column = omega (arith, lengths); byte_is = at; free_is = refl; few = few },
       )
 
-  cell_fault : (x byte : ℕ) (start rest : List ℕ) (left : List Bool) (fault : MapFault) → row ≡ start ++ byte ∷ rest → length start ≡ x → StandFor start left
+  cell_fault : (x byte : ℕ) (start rest : List ℕ) (left : List Terrain) (fault : MapFault) → row ≡ start ++ byte ∷ rest → length start ≡ x → StandFor start left
       → free_in (above ++ left) ≤ 32768 → cell_of x y byte (free_in (above ++ left)) ≡ Err fault → IsCellFault y row above fault
+  unfolding cell_of
   cell_fault x byte start rest left fault row-is long stand few e =
       let free = free_in (above ++ left) in
       let at = here x byte start rest left row-is long stand few in
-      elim (cases_Bool (is_passable_byte byte)) [
-        | inl passable ↦
-            let b = checked_err (ltb free 32768) true (TooManyCells x y) fault (sym (cell_free x y byte free passable) ∙ e) in
-            let full : free ≡ 32768 = omega (arith, ltb-false free 32768 b.0) in
-            let is : IsCellFault y row above (TooManyCells x y) =
-            (refl, (byte, passable, subst (λ (n : ℕ). IsByteOfRow x byte n (length row) row above) full at)) in
+      elim (bind_err (wanted (terrain_for byte) (BadCell x y byte)) (λ t. checked (has_room free t) t (TooManyCells x y)) fault e) [
+        | inl bad ↦
+            let b = wanted_err (terrain_for byte) (BadCell x y byte) fault bad in
+            let is : IsCellFault y row above (BadCell x y byte) = (refl, (b.0, (free, at))) in
             subst (λ (f : MapFault). IsCellFault y row above f) b.1 is
-        | inr other ↦ elim (cases_Bool (is_blocked_byte byte)) [
-          | inl wall ↦ let no' : Ok false ≡ Err fault = sym (cell_wall x y byte free other wall) ∙ e in absurd cc
-          | inr none ↦ elim (cases_Bool (is_water_byte byte)) [
-            | inl water ↦
-                let same : Err (Water x y) ≡ Err fault = sym (cell_sea x y byte free other none water) ∙ e in
-                let f-is : Water x y ≡ fault = cc in
-                let is : IsCellFault y row above (Water x y) = (refl, (byte, water, (free, at))) in
-                subst (λ (f : MapFault). IsCellFault y row above f) f-is is
-            | inr bad ↦
-                let same : Err (BadCell x y byte) ≡ Err fault = sym (cell_other x y byte free other none bad) ∙ e in
-                let f-is : BadCell x y byte ≡ fault = cc in
-                let is : IsCellFault y row above (BadCell x y byte) = (refl, ((other, none, bad), (free, at))) in
-                subst (λ (f : MapFault). IsCellFault y row above f) f-is is
-          ]
-        ]
+        | inr more ↦
+            let stands = wanted_ok (terrain_for byte) more.0 (BadCell x y byte) more.1 in
+            let b = checked_err (has_room free more.0) more.0 (TooManyCells x y) fault more.2 in
+            let full = no_room free byte more.0 stands few b.0 in
+            let is : IsCellFault y row above (TooManyCells x y) =
+            (refl, (byte, full.0, subst (λ (n : ℕ). IsByteOfRow x byte n (length row) row above) full.1 at)) in
+            subst (λ (f : MapFault). IsCellFault y row above f) b.1 is
       ]
 
-  cells_fault : (x : ℕ) (start rest : List ℕ) (left : List Bool) (fault : MapFault) → row ≡ start ++ rest → length start ≡ x → StandFor start left
+  cells_fault : (x : ℕ) (start rest : List ℕ) (left : List Terrain) (fault : MapFault) → row ≡ start ++ rest → length start ≡ x → StandFor start left
       → free_in (above ++ left) ≤ 32768 → cells_in y x (above ++ left) rest ≡ Err fault → IsCellFault y row above fault
   unfolding cells_in StandFor
   cells_fault x start [] left fault row-is long stand few e = absurd cc
   cells_fault x start (byte ∷ rest) left fault row-is long stand few e =
-      elim (bind_err (cell_of x y byte (free_in (above ++ left))) (λ passable. cells_in y (x + 1) ((above ++ left) ++ passable ∷ []) rest) fault e) [
+      elim (bind_err (cell_of x y byte (free_in (above ++ left))) (λ terrain. cells_in y (x + 1) ((above ++ left) ++ terrain ∷ []) rest) fault e) [
         | inl bad ↦ cell_fault x byte start rest left fault row-is long stand few bad
         | inr more ↦
             let p = more.0 in
             let cell = cell_is x y byte (free_in (above ++ left)) p few more.1 in
             let joined : (above ++ left) ++ p ∷ [] ≡ above ++ (left ++ p ∷ []) = append_assoc above left (p ∷ []) in
-            let count = sum_by_push (λ (b : Bool). cond b 1 0) (above ++ left) p in
-            let same = ap (λ (cs : List Bool). free_in cs) joined in
+            let count = count_push (above ++ left) p in
+            let same = ap (λ (cs : List Terrain). free_in cs) joined in
             let lengths = length-append start (byte ∷ []) in
             cells_fault (x + 1) (start ++ byte ∷ []) rest (left ++ p ∷ []) fault (row-is ∙ sym (append_assoc start (byte ∷ []) rest)) (omega (arith, lengths))
             (stand_push start left byte p stand (cell.stands, tt)) (omega (arith, cell.limit, count, same))
-            (subst (λ (cs : List Bool). cells_in y (x + 1) cs rest ≡ Err fault) joined more.2)
+            (subst (λ (cs : List Terrain). cells_in y (x + 1) cs rest ≡ Err fault) joined more.2)
       ]
 
 -- ---- all rows
 
 -- one row more
-rows_joined : (width y : ℕ) (cells more : List Bool) (lines : List (List ℕ)) (line : List ℕ) → AreRows width y cells lines → length cells ≡ width * y
+rows_joined : (width y : ℕ) (cells more : List Terrain) (lines : List (List ℕ)) (line : List ℕ) → AreRows width y cells lines → length cells ≡ width * y
     → y < length lines → get_or lines y [] ≡ line → IsRow width more line → AreRows width (suc y) (cells ++ more) lines
 unfolding AreRows
 rows_joined width zero cells more [] line are long lt at row = absurd (omega arith)
@@ -219,9 +216,9 @@ rows_joined width zero cells more (first ∷ lines) line are long lt at row =
     let all : cells ++ more ≡ more = rw are refl in
     let front : take width more ≡ more = take_all width more (omega (arith, row.wide)) in
     let back : drop width more ≡ [] = drop_all width more (omega (arith, row.wide)) in
-    let whole : take width (cells ++ more) ≡ more = ap (λ (cs : List Bool). take width cs) all ∙ front in (
-      subst (λ (cs : List Bool). IsRow width cs first) (sym whole) (subst (λ (l : List ℕ). IsRow width more l) (sym at) row),
-      ap (λ (cs : List Bool). drop width cs) all ∙ back,
+    let whole : take width (cells ++ more) ≡ more = ap (λ (cs : List Terrain). take width cs) all ∙ front in (
+      subst (λ (cs : List Terrain). IsRow width cs first) (sym whole) (subst (λ (l : List ℕ). IsRow width more l) (sym at) row),
+      ap (λ (cs : List Terrain). drop width cs) all ∙ back,
     )
 rows_joined width (suc y) cells more [] line are long lt at row = absurd are
 rows_joined width (suc y) cells more (first ∷ lines) line are long lt at row =
@@ -229,11 +226,11 @@ rows_joined width (suc y) cells more (first ∷ lines) line are long lt at row =
     let front : take width (cells ++ more) ≡ take width cells = take-append-le width cells more some in
     let back : drop width (cells ++ more) ≡ drop width cells ++ more = drop-append-le width cells more some in
     let rest = rows_joined width y (drop width cells) more lines line are.1 (omega (arith, length-drop width cells, long)) (omega arith) at row in (
-      subst (λ (cs : List Bool). IsRow width cs first) (sym front) are.0,
-      subst (λ (cs : List Bool). AreRows width (suc y) cs lines) (sym back) rest,
+      subst (λ (cs : List Terrain). IsRow width cs first) (sym front) are.0,
+      subst (λ (cs : List Terrain). AreRows width (suc y) cs lines) (sym back) rest,
     )
 
-rows_cells : (width y : ℕ) (cells : List Bool) (lines : List (List ℕ)) → AreRows width y cells lines → length cells ≡ width * y
+rows_cells : (width y : ℕ) (cells : List Terrain) (lines : List (List ℕ)) → AreRows width y cells lines → length cells ≡ width * y
 unfolding AreRows
 rows_cells width zero cells lines are = rw are (omega arith)
 rows_cells width (suc y) cells [] are = absurd are
@@ -243,9 +240,9 @@ rows_cells width (suc y) cells (line ∷ lines) are =
     omega (arith, first, rest, length-take width cells, length-drop width cells)
 
 module _ (lines : List (List ℕ)) (width height : ℕ) where
-  module _ (y : ℕ) (above : List Bool) (read : IsReadTo lines width height y above) (inside : y < height) (there : 4 + y < length lines) where
+  module _ (y : ℕ) (above : List Terrain) (read : IsReadTo lines width height y above) (inside : y < height) (there : 4 + y < length lines) where
     -- what is so of row y
-    has_row : (r : ℕ) (IsSo : ℕ → List ℕ → List Bool → Type 0) → r ≡ y → IsSo width (row_bytes lines y) above → HasRow lines r IsSo
+    has_row : (r : ℕ) (IsSo : ℕ → List ℕ → List Terrain → Type 0) → r ≡ y → IsSo width (row_bytes lines y) above → HasRow lines r IsSo
     has_row r IsSo e so =
         let is : HasRow lines y IsSo = record { width = width; height = height; cells = above; before = read; inside = inside; there = there; so = so } in
         subst (λ (k : ℕ). HasRow lines k IsSo) (sym e) is
@@ -254,8 +251,6 @@ module _ (lines : List (List ℕ)) (width height : ℕ) where
     row_fault : (fault : MapFault) → length (row_bytes lines y) ≡ width → IsCellFault y (row_bytes lines y) above fault → IsFirstFault lines fault
     row_fault (BadCell x r byte) wide is =
         has_row r (IsBadCell x byte) is.0 (subst (λ (w : ℕ). IsBadCell x byte w (row_bytes lines y) above) wide is.1)
-    row_fault (Water x r) wide is =
-        has_row r (IsWaterCell x) is.0 (subst (λ (w : ℕ). IsWaterCell x w (row_bytes lines y) above) wide is.1)
     row_fault (TooManyCells x r) wide is =
         has_row r (IsOneCellTooMany x) is.0 (subst (λ (w : ℕ). IsOneCellTooMany x w (row_bytes lines y) above) wide is.1)
     row_fault (Header line) wide is = absurd is
@@ -284,7 +279,7 @@ module _ (lines : List (List ℕ)) (width height : ℕ) where
         let at : IsCellFault y row above fault = cells_fault y row above 0 [] row [] fault refl refl tt few e' in
         row_fault fault (ap (λ (r : List ℕ). length r) is.0 ∙ is.1) (subst (λ (r : List ℕ). IsCellFault y r above fault) (sym is.0) at)
 
-    next_row : (row : List ℕ) (all : List Bool) → row_in width y (line_at lines (5 + y)) ≡ Ok row → cells_in y 0 above row ≡ Ok all → IsReadTo lines width height (y + 1) all
+    next_row : (row : List ℕ) (all : List Terrain) → row_in width y (line_at lines (5 + y)) ≡ Ok row → cells_in y 0 above row ≡ Ok all → IsReadTo lines width height (y + 1) all
     next_row row all good e =
         let is = row_is width y (line_at lines (5 + y)) row good in
         let more = cells_are y 0 above row all read.few e in
@@ -299,11 +294,11 @@ module _ (lines : List (List ℕ)) (width height : ℕ) where
         let with_row = subst (λ (k : ℕ). AreRows width k (above ++ more.cells) (drop 4 lines)) next rows in
         record {
           header = read.header;
-          above = subst (λ (cs : List Bool). AreRows width (y + 1) cs (drop 4 lines)) (sym more.joined) with_row;
+          above = subst (λ (cs : List Terrain). AreRows width (y + 1) cs (drop 4 lines)) (sym more.joined) with_row;
           few = more.few;
         }
 
-  rows_fault : (y more : ℕ) (above : List Bool) (left : List (List ℕ)) (fault : MapFault) → left ≡ drop (4 + y) lines → y + more ≡ height
+  rows_fault : (y more : ℕ) (above : List Terrain) (left : List (List ℕ)) (fault : MapFault) → left ≡ drop (4 + y) lines → y + more ≡ height
       → IsReadTo lines width height y above → rows_in width y more above left ≡ Err fault → IsFirstFault lines fault
   unfolding rows_in
   rows_fault y zero above left fault left-is all read e = absurd cc
@@ -357,7 +352,7 @@ ended_err m None fault e = absurd cc
 ended_err m (Some line) fault e = (line, refl, cc)
 
 -- the rows are right, and a line after them is not blank
-after_fault : (lines : List (List ℕ)) (width height line : ℕ) (cells : List Bool) → IsReadTo lines width height height cells
+after_fault : (lines : List (List ℕ)) (width height line : ℕ) (cells : List Terrain) → IsReadTo lines width height height cells
     → extra_in (5 + height) (drop (4 + height) lines) ≡ Some line → IsExtraLine lines line
 after_fault lines width height line cells read e =
     let found = extra_fault (drop (4 + height) lines) (5 + height) line e in
@@ -380,7 +375,7 @@ pub refusals_name_first : RefusalsNameTheFirstFault
 unfolding map_of AreRows
 refusals_name_first text fault e =
     let lines = lines_of text in
-    let made : ℕ × ℕ → List Bool → Map = λ s cells. record { width = s.0; height = s.1; passable = cells } in
+    let made : ℕ × ℕ → List Terrain → Map = λ s cells. record { width = s.0; height = s.1; terrain = cells } in
     elim (bind_err (header_in lines)
     (λ s. rows_in s.0 0 s.1 [] (drop 4 lines) >>= λ cells. ended (made s cells) (extra_in (5 + s.1) (drop (4 + s.1) lines))) fault e) [
       | inl bad ↦ header_fault lines fault bad
@@ -394,7 +389,7 @@ refusals_name_first text fault e =
                 let rows = rows_are s.0 0 s.1 [] (drop 4 lines) rest.0 (omega arith) rest.1 in
                 let read : IsReadTo lines s.0 s.1 s.1 rest.0 = record {
                   header = header;
-                  above = subst (λ (cs : List Bool). AreRows s.0 s.1 cs (drop 4 lines)) (sym rows.joined) rows.fits;
+                  above = subst (λ (cs : List Terrain). AreRows s.0 s.1 cs (drop 4 lines)) (sym rows.joined) rows.fits;
                   few = rows.few;
                 } in
                 let last = ended_err (made s rest.0) (extra_in (5 + s.1) (drop (4 + s.1) lines)) fault rest.2 in

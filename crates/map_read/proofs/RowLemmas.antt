@@ -1,92 +1,84 @@
 -- Rows, cell by cell and line by line.
-use Rattle.std.proofs.Common.{◌≡◌, ℕ, suc, ◌+◌, ◌-◌, ◌*◌, ◌<◌, ◌≤◌, Bool, true, false, cond, ltb, List, [], ◌∷◌, ◌++◌, length, get_or, set, take, drop, Some, None, Ok, Err, refl, sym, ap, ◌∙◌, arith, inl, inr}
-use Rattle.std.proofs.lemmas.Bool.{cases_Bool, ltb-true}
-use Rattle.std.proofs.lemmas.List.{drop_more, drop_all, take_all, take_more_set, take-set, get_or-set_same, length-set, drop-drop}
-use Rattle.std.proofs.lemmas.List.Sums.{count_by_more_yes, count_by_more_no}
-use Rattle.text_lines.specs.Judging.{checked}
-use Rattle.text_lines.proofs.JudgingLemmas.{checked_ok}
+use Rattle.std.proofs.Common.{◌≡◌, ℕ, suc, ◌+◌, ◌-◌, ◌*◌, ◌<◌, ◌≤◌, Bool, true, false, not, ◌||◌, cond, ltb, List, [], ◌∷◌, ◌++◌, length, get_or, set, take, drop, Some, None, Ok, Err, refl, sym, ap, subst, ◌∙◌, arith}
+use Rattle.std.proofs.lemmas.Bool.{ltb-true, lt-ltb}
+use Rattle.std.proofs.lemmas.List.{drop_more, drop_all, take_all, take_more_set, drop-drop}
+use Rattle.std.proofs.lemmas.List.Sums.{sum_by-append, sum_by_push}
+use Rattle.moves.specs.declared.Terrain.{Terrain}
+use Rattle.moves.specs.declared.Terrain.TheVariants.{Blocked, Land, Water}
+use Rattle.moves.specs.Maps.{is_passable}
+use Rattle.text_lines.specs.Judging.{wanted, checked}
+use Rattle.text_lines.proofs.JudgingLemmas.{bind_ok, checked_ok, wanted_ok}
 use Rattle.map_read.specs.declared.fault.MapFault.{MapFault}
-use Rattle.map_read.specs.declared.fault.MapFault.TheVariants.{BadCell, Water, MissingRows, TooManyCells}
+use Rattle.map_read.specs.declared.fault.MapFault.TheVariants.{BadCell, MissingRows, TooManyCells}
 use Rattle.text_lines.specs.Words.{is_blank}
-use Rattle.map_read.specs.MapText.{is_passable_byte, is_blocked_byte, is_water_byte, cell_of, free_in, cells_in, row_in, rows_in, extra_in}
-use Rattle.map_read.specs.Accepted.{stands_for}
+use Rattle.map_read.specs.MapText.{terrain_for, cell_of, free_in, cells_in, row_in, rows_in, extra_in}
 
 -- what has been read of a row: what follows gives what the whole row gives
-pub record IsFilledTo (y start x free : ℕ) (row : List ℕ) (before cells : List Bool) : Type 0 where
+pub record IsFilledTo (y start x free : ℕ) (row : List ℕ) (before cells : List Terrain) : Type 0 where
   pub value : cells_in y x (take (start + x) cells) (drop x row) ≡ cells_in y 0 before row
   pub count : free ≡ free_in (take (start + x) cells)
   pub limit : free ≤ 32768
 
--- what a cell's byte says
-pub cell_free : (x y byte free : ℕ) → is_passable_byte byte ≡ true → cell_of x y byte free ≡ checked (ltb free 32768) true (TooManyCells x y)
-unfolding cell_of
-cell_free x y byte free e = rw e refl
-
-pub cell_wall : (x y byte free : ℕ) → is_passable_byte byte ≡ false → is_blocked_byte byte ≡ true → cell_of x y byte free ≡ Ok false
-unfolding cell_of
-cell_wall x y byte free e f = rw (e, f) refl
-
-pub cell_sea : (x y byte free : ℕ) → is_passable_byte byte ≡ false → is_blocked_byte byte ≡ false → is_water_byte byte ≡ true → cell_of x y byte free ≡ Err (Water x y)
-unfolding cell_of
-cell_sea x y byte free e f g = rw (e, f, g) refl
-
-pub cell_other : (x y byte free : ℕ) → is_passable_byte byte ≡ false → is_blocked_byte byte ≡ false → is_water_byte byte ≡ false
-    → cell_of x y byte free ≡ Err (BadCell x y byte)
-unfolding cell_of
-cell_other x y byte free e f g = rw (e, f, g) refl
-
 -- a cell that is not refused: its byte stands for it, and there is room for it
-pub record IsCell (byte free : ℕ) (passable : Bool) : Type 0 where
-  pub stands : stands_for byte passable ≡ true
-  pub limit : free + cond passable 1 0 ≤ 32768
+pub record IsCell (byte free : ℕ) (cell : Terrain) : Type 0 where
+  pub stands : terrain_for byte ≡ Some cell
+  pub limit : free + cond (is_passable cell) 1 0 ≤ 32768
 
-pub cell_is : (x y byte free : ℕ) (passable : Bool) → free ≤ 32768 → cell_of x y byte free ≡ Ok passable → IsCell byte free passable
-cell_is x y byte free passable limit e = elim (cases_Bool (is_passable_byte byte)) [
-  | inl free-is ↦
-      let a : checked (ltb free 32768) true (TooManyCells x y) ≡ Ok passable = sym (cell_free x y byte free free-is) ∙ e in
-      let b = checked_ok (ltb free 32768) true passable (TooManyCells x y) a in
-      let lt : free < 32768 = ltb-true free 32768 b.0 in
-      rw (← b.1) (record { stands = free-is; limit = omega arith })
-  | inr other ↦ elim (cases_Bool (is_blocked_byte byte)) [
-    | inl wall ↦
-        let a : Ok false ≡ Ok passable = sym (cell_wall x y byte free other wall) ∙ e in
-        let p-is : false ≡ passable = cc in
-        rw (← p-is) (record { stands = wall; limit = omega arith })
-    | inr none ↦ elim (cases_Bool (is_water_byte byte)) [
-      | inl water ↦ let a : Err (Water x y) ≡ Ok passable = sym (cell_sea x y byte free other none water) ∙ e in absurd cc
-      | inr bad ↦ let a : Err (BadCell x y byte) ≡ Ok passable = sym (cell_other x y byte free other none bad) ∙ e in absurd cc
-    ]
-  ]
-]
+-- whether there is room for a cell
+abbrev pub has_room : ℕ → Terrain → Bool
+has_room free cell = not (is_passable cell) || ltb free 32768
 
-pub cell_limit : (x y byte free : ℕ) (passable : Bool) → cell_of x y byte free ≡ Ok passable → free ≤ 32768 → free + cond passable 1 0 ≤ 32768
-cell_limit x y byte free passable e limit = (cell_is x y byte free passable limit e).limit
+room_is : (free : ℕ) (cell : Terrain) → free ≤ 32768 → has_room free cell ≡ true → free + cond (is_passable cell) 1 0 ≤ 32768
+room_is free Blocked limit e = omega (arith, limit)
+room_is free Land limit e = omega (arith, ltb-true free 32768 e)
+room_is free Water limit e = omega (arith, ltb-true free 32768 e)
 
-count_more : (cells : List Bool) (place : ℕ) (passable : Bool) → place < length cells → free_in (take (place + 1) (set cells place passable)) ≡ free_in (take place cells) + cond passable 1 0
-count_more cells place true lt =
-    count_by_more_yes (λ p. p) (set cells place true) place false (omega (arith, length-set cells place true)) (get_or-set_same cells place true false lt)
-    ∙ ap (λ (front : List Bool). free_in front + 1) (take-set cells place true)
-count_more cells place false lt =
-    let more = count_by_more_no (λ p. p) (set cells place false) place false (omega (arith, length-set cells place false)) (get_or-set_same cells place false false lt) in
-    let same = ap (λ (front : List Bool). free_in front) (take-set cells place false) in
-    omega (arith, more, same)
+room_back : (free : ℕ) (cell : Terrain) → free + cond (is_passable cell) 1 0 ≤ 32768 → has_room free cell ≡ true
+room_back free Blocked few = refl
+room_back free Land few = lt-ltb free 32768 (omega (arith, few))
+room_back free Water few = lt-ltb free 32768 (omega (arith, few))
+
+pub cell_is : (x y byte free : ℕ) (cell : Terrain) → free ≤ 32768 → cell_of x y byte free ≡ Ok cell → IsCell byte free cell
+unfolding cell_of
+cell_is x y byte free cell limit e =
+    let a = bind_ok (wanted (terrain_for byte) (BadCell x y byte)) (λ t. checked (has_room free t) t (TooManyCells x y)) cell e in
+    let b = checked_ok (has_room free a.0) a.0 cell (TooManyCells x y) a.2 in
+    let is : IsCell byte free a.0 = record { stands = wanted_ok (terrain_for byte) a.0 (BadCell x y byte) a.1; limit = room_is free a.0 limit b.0 } in
+    subst (λ (t : Terrain). IsCell byte free t) b.1 is
+
+pub cell_back : (x y byte free : ℕ) (cell : Terrain) → IsCell byte free cell → cell_of x y byte free ≡ Ok cell
+unfolding cell_of
+cell_back x y byte free cell is = rw (is.stands, room_back free cell is.limit) refl
+
+pub cell_limit : (x y byte free : ℕ) (cell : Terrain) → cell_of x y byte free ≡ Ok cell → free ≤ 32768 → free + cond (is_passable cell) 1 0 ≤ 32768
+cell_limit x y byte free cell e limit = (cell_is x y byte free cell limit e).limit
+
+-- what a cell adds to a count
+pub count_push : (cells : List Terrain) (cell : Terrain) → free_in (cells ++ cell ∷ []) ≡ free_in cells + cond (is_passable cell) 1 0
+count_push cells cell = sum_by_push (λ (c : Terrain). cond (is_passable c) 1 0) cells cell
+
+pub count_joined : (cells others : List Terrain) → free_in (cells ++ others) ≡ free_in cells + free_in others
+count_joined cells others = sum_by-append (λ (c : Terrain). cond (is_passable c) 1 0) cells others
+
+count_more : (cells : List Terrain) (place : ℕ) (cell : Terrain) → place < length cells → free_in (take (place + 1) (set cells place cell)) ≡ free_in (take place cells) + cond (is_passable cell) 1 0
+count_more cells place cell lt = ap (λ (front : List Terrain). free_in front) (take_more_set cells place cell lt) ∙ count_push (take place cells) cell
 
 -- one cell more
-cells_step : (x y byte free : ℕ) (before : List Bool) (row : List ℕ) (passable : Bool) → free ≡ free_in before → cell_of x y byte free ≡ Ok passable
-    → cells_in y x before (byte ∷ row) ≡ cells_in y (x + 1) (before ++ passable ∷ []) row
+cells_step : (x y byte free : ℕ) (before : List Terrain) (row : List ℕ) (cell : Terrain) → free ≡ free_in before → cell_of x y byte free ≡ Ok cell
+    → cells_in y x before (byte ∷ row) ≡ cells_in y (x + 1) (before ++ cell ∷ []) row
 unfolding cells_in
-cells_step x y byte free before row passable count e =
-    let e' : cell_of x y byte (free_in before) ≡ Ok passable = rw (← count) e in
+cells_step x y byte free before row cell count e =
+    let e' : cell_of x y byte (free_in before) ≡ Ok cell = rw (← count) e in
     rw e' refl
 
-cells_fault : (x y byte free : ℕ) (before : List Bool) (row : List ℕ) (fault : MapFault) → free ≡ free_in before → cell_of x y byte free ≡ Err fault
+cells_fault : (x y byte free : ℕ) (before : List Terrain) (row : List ℕ) (fault : MapFault) → free ≡ free_in before → cell_of x y byte free ≡ Err fault
     → cells_in y x before (byte ∷ row) ≡ Err fault
 unfolding cells_in
 cells_fault x y byte free before row fault count e =
     let e' : cell_of x y byte (free_in before) ≡ Err fault = rw (← count) e in
     rw e' refl
 
-no_cells : (x y : ℕ) (before : List Bool) → cells_in y x before [] ≡ Ok before
+no_cells : (x y : ℕ) (before : List Terrain) → cells_in y x before [] ≡ Ok before
 unfolding cells_in
 no_cells x y before = refl
 
@@ -95,31 +87,31 @@ added_is : (added : ℕ) (passable : Bool) → (passable ≡ true → added ≡ 
 added_is added true yes' no' = yes' refl
 added_is added false yes' no' = no' refl
 
-pub filled_more : (y start x free added byte : ℕ) (passable : Bool) (row : List ℕ) (before cells : List Bool)
-    → x < length row → byte ≡ get_or row x 0 → start + x < length cells → cell_of x y byte free ≡ Ok passable
-    → (passable ≡ true → added ≡ 1) → (passable ≡ false → added ≡ 0)
-    → IsFilledTo y start x free row before cells → IsFilledTo y start (x + 1) (free + added) row before (set cells (start + x) passable)
-filled_more y start x free added byte passable row before cells lt is inside e one none so_far =
-    let next-is : free + added ≡ free + cond passable 1 0 = ap (λ (n : ℕ). free + n) (added_is added passable one none) in
+pub filled_more : (y start x free added byte : ℕ) (cell : Terrain) (row : List ℕ) (before cells : List Terrain)
+    → x < length row → byte ≡ get_or row x 0 → start + x < length cells → cell_of x y byte free ≡ Ok cell
+    → (is_passable cell ≡ true → added ≡ 1) → (is_passable cell ≡ false → added ≡ 0)
+    → IsFilledTo y start x free row before cells → IsFilledTo y start (x + 1) (free + added) row before (set cells (start + x) cell)
+filled_more y start x free added byte cell row before cells lt is inside e one none so_far =
+    let next-is : free + added ≡ free + cond (is_passable cell) 1 0 = ap (λ (n : ℕ). free + n) (added_is added (is_passable cell) one none) in
     let place : start + (x + 1) ≡ start + x + 1 = omega arith in
-    let front : take (start + x + 1) (set cells (start + x) passable) ≡ take (start + x) cells ++ passable ∷ [] = take_more_set cells (start + x) passable inside in
+    let front : take (start + x + 1) (set cells (start + x) cell) ≡ take (start + x) cells ++ cell ∷ [] = take_more_set cells (start + x) cell inside in
     let parts : drop x row ≡ byte ∷ drop (x + 1) row = rw is (drop_more row x 0 lt) in
-    let step : cells_in y x (take (start + x) cells) (drop x row) ≡ cells_in y (x + 1) (take (start + x) cells ++ passable ∷ []) (drop (x + 1) row) =
-    ap (cells_in y x (take (start + x) cells)) parts ∙ cells_step x y byte free (take (start + x) cells) (drop (x + 1) row) passable so_far.count e in
+    let step : cells_in y x (take (start + x) cells) (drop x row) ≡ cells_in y (x + 1) (take (start + x) cells ++ cell ∷ []) (drop (x + 1) row) =
+    ap (cells_in y x (take (start + x) cells)) parts ∙ cells_step x y byte free (take (start + x) cells) (drop (x + 1) row) cell so_far.count e in
     record {
       value = rw (place, front) (sym step ∙ so_far.value);
-      count = rw (place, count_more cells (start + x) passable inside, ← so_far.count) next-is;
-      limit = rw next-is (cell_limit x y byte free passable e so_far.limit);
+      count = rw (place, count_more cells (start + x) cell inside, ← so_far.count) next-is;
+      limit = rw next-is (cell_limit x y byte free cell e so_far.limit);
     }
 
-pub filled_fault : (y start x free byte : ℕ) (fault : MapFault) (row : List ℕ) (before cells : List Bool)
+pub filled_fault : (y start x free byte : ℕ) (fault : MapFault) (row : List ℕ) (before cells : List Terrain)
     → x < length row → byte ≡ get_or row x 0 → cell_of x y byte free ≡ Err fault → IsFilledTo y start x free row before cells
     → cells_in y 0 before row ≡ Err fault
 filled_fault y start x free byte fault row before cells lt is e so_far =
     let parts : drop x row ≡ byte ∷ drop (x + 1) row = rw is (drop_more row x 0 lt) in
     sym so_far.value ∙ ap (cells_in y x (take (start + x) cells)) parts ∙ cells_fault x y byte free (take (start + x) cells) (drop (x + 1) row) fault so_far.count e
 
-pub filled_all : (y start x free end : ℕ) (row : List ℕ) (before cells : List Bool) → length row ≤ x → end ≡ start + x → IsFilledTo y start x free row before cells
+pub filled_all : (y start x free end : ℕ) (row : List ℕ) (before cells : List Terrain) → length row ≤ x → end ≡ start + x → IsFilledTo y start x free row before cells
     → (cells_in y 0 before row ≡ Ok (take end cells)) × (free ≡ free_in (take end cells))
 filled_all y start x free end row before cells le end-is so_far =
     (sym so_far.value ∙ ap (cells_in y x (take (start + x) cells)) (drop_all x row le) ∙ rw end-is (no_cells x y (take (start + x) cells)), rw end-is so_far.count)
@@ -127,13 +119,13 @@ filled_all y start x free end row before cells le end-is so_far =
 -- ---- lines
 
 -- what has been read of the rows: what follows gives what all lines give
-pub record AreReadTo (width height y free : ℕ) (start lines : List (List ℕ)) (cells : List Bool) : Type 0 where
+pub record AreReadTo (width height y free : ℕ) (start lines : List (List ℕ)) (cells : List Terrain) : Type 0 where
   pub value : rows_in width y (height - y) (take (y * width) cells) lines ≡ rows_in width 0 height [] start
   pub rest : lines ≡ drop y start
   pub count : free ≡ free_in (take (y * width) cells)
   pub limit : free ≤ 32768
 
-module _ (width height y free : ℕ) (start lines : List (List ℕ)) (cells : List Bool) (lt : y < height) (so_far : AreReadTo width height y free start lines cells) where
+module _ (width height y free : ℕ) (start lines : List (List ℕ)) (cells : List Terrain) (lt : y < height) (so_far : AreReadTo width height y free start lines cells) where
   one_more : height - y ≡ suc (height - (y + 1))
   one_more = omega arith
 
@@ -156,7 +148,7 @@ module _ (width height y free : ℕ) (start lines : List (List ℕ)) (cells : Li
       let now : rows_in width y (height - y) (take (y * width) cells) lines ≡ Err fault = rw (one_more, e, good, bad) refl in
       sym so_far.value ∙ now
 
-  pub rows_more : (line row : List ℕ) (rest : List (List ℕ)) (next : ℕ) (after : List Bool) → lines ≡ line ∷ rest → row_in width y line ≡ Ok row
+  pub rows_more : (line row : List ℕ) (rest : List (List ℕ)) (next : ℕ) (after : List Terrain) → lines ≡ line ∷ rest → row_in width y line ≡ Ok row
       → cells_in y 0 (take (y * width) cells) row ≡ Ok (take ((y + 1) * width) after) → next ≡ free_in (take ((y + 1) * width) after) → next ≤ 32768
       → AreReadTo width height (y + 1) next start rest after
   unfolding rows_in
@@ -166,14 +158,14 @@ module _ (width height y free : ℕ) (start lines : List (List ℕ)) (cells : Li
       let left : rest ≡ drop (y + 1) start = ap (λ (ls : List (List ℕ)). drop 1 ls) (sym e ∙ so_far.rest) ∙ drop-drop 1 y start in
       record { value = sym now ∙ so_far.value; rest = left; count = count; limit = limit }
 
-pub rows_all : (width height y free : ℕ) (start lines : List (List ℕ)) (cells : List Bool) → length cells ≡ width * height → y ≡ height
+pub rows_all : (width height y free : ℕ) (start lines : List (List ℕ)) (cells : List Terrain) → length cells ≡ width * height → y ≡ height
     → AreReadTo width height y free start lines cells → (rows_in width 0 height [] start ≡ Ok cells) × (free_in cells ≤ 32768)
 unfolding rows_in
 rows_all width height y free start lines cells whole end so_far =
     let none : height - y ≡ 0 = omega arith in
     let all : take (y * width) cells ≡ cells = take_all (y * width) cells (omega (arith, whole, ap (λ (n : ℕ). n * width) end)) in
     let now : rows_in width y (height - y) (take (y * width) cells) lines ≡ Ok cells = rw (none, all) refl in
-    let count : free ≡ free_in cells = so_far.count ∙ ap (λ (front : List Bool). free_in front) all in
+    let count : free ≡ free_in cells = so_far.count ∙ ap (λ (front : List Terrain). free_in front) all in
     (sym so_far.value ∙ now, omega (arith, so_far.limit, count))
 
 -- ---- the lines after the rows

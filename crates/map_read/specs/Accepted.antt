@@ -1,30 +1,26 @@
 -- The texts that stand for a map, told line by line.
-use Rattle.std.specs.Prelude.{◌≡◌, ℕ, zero, suc, ◌+◌, ◌⊎◌, ◌↔◌, Bool, true, false, IsTrue, List, [], ◌∷◌, length, take, drop, Some, Ok, codes}
+use Rattle.std.specs.Prelude.{◌≡◌, ℕ, zero, suc, ◌+◌, ◌⊎◌, ◌↔◌, IsTrue, List, [], ◌∷◌, length, take, drop, Some, Ok, codes}
 use Rattle.std.specs.List.{AllByRecursion}
 use Rattle.moves.specs.Maps.{Map, IsWithinLimits, IsSearchable}
+use Rattle.moves.specs.declared.Terrain.{Terrain}
 use Rattle.text_lines.specs.Lines.{lines_of}
 use Rattle.text_lines.specs.Words.{words_of, is_blank, without_gaps_at_end}
-use Rattle.map_read.specs.MapText.{number_named, line_at, is_passable_byte, is_blocked_byte, map_of}
-
--- the byte stands for a passable cell, or for a blocked one
-abbrev pub stands_for : ℕ → Bool → Bool
-stands_for byte true = is_passable_byte byte
-stands_for byte false = is_blocked_byte byte
+use Rattle.map_read.specs.MapText.{number_named, line_at, terrain_for, map_of}
 
 -- each byte stands for the cell at its place, and there are as many of both
-unfoldable pub StandFor : List ℕ → List Bool → Type 0
+unfoldable pub StandFor : List ℕ → List Terrain → Type 0
 StandFor [] [] = Unit {0}
 StandFor [] (cell ∷ cells) = ⊥
 StandFor (byte ∷ bytes) [] = ⊥
-StandFor (byte ∷ bytes) (cell ∷ cells) = (stands_for byte cell ≡ true) × StandFor bytes cells
+StandFor (byte ∷ bytes) (cell ∷ cells) = (terrain_for byte ≡ Some cell) × StandFor bytes cells
 
 -- the line is a row of these cells: a byte for each, and spaces and tabs at its end
-pub record IsRow (width : ℕ) (cells : List Bool) (line : List ℕ) : Type 0 where
+pub record IsRow (width : ℕ) (cells : List Terrain) (line : List ℕ) : Type 0 where
   pub wide : length cells ≡ width
   pub bytes : StandFor (without_gaps_at_end line) cells
 
 -- the lines begin with the rows of these cells, a line for each
-unfoldable pub AreRows : ℕ → ℕ → List Bool → List (List ℕ) → Type 0
+unfoldable pub AreRows : ℕ → ℕ → List Terrain → List (List ℕ) → Type 0
 AreRows width zero cells lines = cells ≡ []
 AreRows width (suc rows) cells [] = ⊥
 AreRows width (suc rows) cells (line ∷ lines) =
@@ -50,7 +46,7 @@ pub record IsHeader (lines : List (List ℕ)) (width height : ℕ) : Type 0 wher
 -- the text stands for the map
 pub record IsMapText (text : List ℕ) (m : Map) : Type 0 where
   pub header : IsHeader (lines_of text) m.width m.height
-  pub rows : AreRows m.width m.height m.passable (drop 4 (lines_of text))
+  pub rows : AreRows m.width m.height m.terrain (drop 4 (lines_of text))
   pub few : IsSearchable m
   pub after : AllByRecursion (λ line. IsTrue (is_blank line)) (drop (4 + m.height) (lines_of text))
 

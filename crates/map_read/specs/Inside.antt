@@ -17,4 +17,4 @@ header_text width height =
 
 -- row y of the canonical text, without its line feed
 abbrev pub row_text : Map → ℕ → List ℕ
-row_text m y = map glyph (take m.width (drop (y * m.width) m.passable))
+row_text m y = map glyph (take m.width (drop (y * m.width) m.terrain))

@@ -1,16 +1,18 @@
 -- The text of a map. (MovingAI map format page)
 -- The rows and the header are judged from the first line to the last, and the first refusal is the answer.
-use Rattle.std.specs.Prelude.{◌≡◌, ℕ, zero, suc, ◌+◌, ◌-◌, ◌*◌, Bool, true, false, ◌&&◌, ◌||◌, ◌==◌, nat_lt, nat_le, if◌then◌else◌, List, [], ◌∷◌, ◌++◌, map, length, take, drop, count_by, slice_index_or, Option, Some, None, option_and_then, Result, Ok, Err, codes}
+use Rattle.std.specs.Prelude.{◌≡◌, ℕ, zero, suc, ◌+◌, ◌-◌, ◌*◌, Bool, not, ◌&&◌, ◌||◌, ◌==◌, nat_lt, nat_le, if◌then◌else◌, List, [], ◌∷◌, ◌++◌, map, length, take, drop, count_by, slice_index_or, Option, Some, None, option_and_then, Result, Ok, Err, codes}
 use Rattle.std.specs.Str.{bytes_eq}
 use Rattle.std.specs.Fmt.{decimal}
-use Rattle.moves.specs.Maps.{Map, IsWithinLimits, IsSearchable}
+use Rattle.moves.specs.Maps.{Map, IsWithinLimits, IsSearchable, is_passable}
+use Rattle.moves.specs.declared.Terrain.{Terrain}
+use Rattle.moves.specs.declared.Terrain.TheVariants.{Blocked, Land, Water}
 use Rattle.moves.specs.declared.TheConstants.{MAX_SIDE, MAX_CELLS, MAX_PASSABLE}
 use Rattle.text_lines.specs.Judging.{◌>>=◌, wanted, checked}
 use Rattle.text_lines.specs.Lines.{lines_of, text_with_lines}
 use Rattle.text_lines.specs.Numbers.{number_in}
 use Rattle.text_lines.specs.Words.{words_of, two_of, has_words, is_blank, without_gaps_at_end}
 use Rattle.map_read.specs.declared.fault.MapFault.{MapFault}
-use Rattle.map_read.specs.declared.fault.MapFault.TheVariants.{Header, Size, RowLength, BadCell, Water, MissingRows, Extra, TooManyCells}
+use Rattle.map_read.specs.declared.fault.MapFault.TheVariants.{Header, Size, RowLength, BadCell, MissingRows, Extra, TooManyCells}
 
 -- ---- the header
 
@@ -69,9 +71,9 @@ header_in lines = do
 
 -- ---- the rows
 
--- `.`, `G` and `S` are passable
-abbrev pub is_passable_byte : ℕ → Bool
-is_passable_byte byte = (byte == 46) || (byte == 71) || (byte == 83)
+-- `.`, `G` and `S` are land
+abbrev pub is_land_byte : ℕ → Bool
+is_land_byte byte = (byte == 46) || (byte == 71) || (byte == 83)
 
 -- `@`, `O` and `T` are blocked
 abbrev pub is_blocked_byte : ℕ → Bool
@@ -81,23 +83,30 @@ is_blocked_byte byte = (byte == 64) || (byte == 79) || (byte == 84)
 abbrev pub is_water_byte : ℕ → Bool
 is_water_byte byte = byte == 87
 
--- one cell, where so many cells before it are passable: whether it is. A map has at most 32,768 passable cells.
-unfoldable pub cell_of : ℕ → ℕ → ℕ → ℕ → Result Bool MapFault
-cell_of x y byte free =
-    if is_passable_byte byte then checked (nat_lt free MAX_PASSABLE) true (TooManyCells x y)
-    else (if is_blocked_byte byte then Ok false
-    else (if is_water_byte byte then Err (Water x y) else Err (BadCell x y byte)))
+-- what a byte stands for
+unfoldable pub terrain_for : ℕ → Option Terrain
+terrain_for byte =
+    if is_land_byte byte then Some Land
+    else (if is_water_byte byte then Some Water
+    else (if is_blocked_byte byte then Some Blocked else None))
+
+-- One cell, where so many cells before it are passable. A map has at most 32,768 passable cells, land and water
+-- together.
+unfoldable pub cell_of : ℕ → ℕ → ℕ → ℕ → Result Terrain MapFault
+cell_of x y byte free = do
+  terrain ← wanted (terrain_for byte) (BadCell x y byte)
+  checked (not (is_passable terrain) || nat_lt free MAX_PASSABLE) terrain (TooManyCells x y)
 
 -- how many of the cells are passable
-abbrev pub free_in : List Bool → ℕ
-free_in cells = count_by (λ passable. passable) cells
+abbrev pub free_in : List Terrain → ℕ
+free_in cells = count_by is_passable cells
 
 -- the cells before a place in row y, and those of the row from there on, left to right
-unfoldable pub cells_in : ℕ → ℕ → List Bool → List ℕ → Result (List Bool) MapFault
+unfoldable pub cells_in : ℕ → ℕ → List Terrain → List ℕ → Result (List Terrain) MapFault
 cells_in y x before [] = Ok before
 cells_in y x before (byte ∷ row) = do
-  passable ← cell_of x y byte (free_in before)
-  cells_in y (x + 1) (before ++ passable ∷ []) row
+  terrain ← cell_of x y byte (free_in before)
+  cells_in y (x + 1) (before ++ terrain ∷ []) row
 
 -- the bytes of row y: the spaces and tabs at the line's end are dropped, then its length is judged
 unfoldable pub row_in : ℕ → ℕ → List ℕ → Result (List ℕ) MapFault
@@ -106,7 +115,7 @@ row_in width y line =
     checked (length row == width) row (RowLength (5 + y) width (length row))
 
 -- the cells before row y, and those of so many rows from there on, one in each line
-unfoldable pub rows_in : ℕ → ℕ → ℕ → List Bool → List (List ℕ) → Result (List Bool) MapFault
+unfoldable pub rows_in : ℕ → ℕ → ℕ → List Terrain → List (List ℕ) → Result (List Terrain) MapFault
 rows_in width y zero before lines = Ok before
 rows_in width y (suc more) before [] = Err (MissingRows y)
 rows_in width y (suc more) before (line ∷ lines) = do
@@ -131,18 +140,19 @@ unfoldable pub map_of : List ℕ → Result Map MapFault
 map_of text = do
   sides ← header_in (lines_of text)
   cells ← rows_in sides.0 0 sides.1 [] (drop 4 (lines_of text))
-  ended (record { width = sides.0; height = sides.1; passable = cells })
+  ended (record { width = sides.0; height = sides.1; terrain = cells })
       (extra_in (5 + sides.1) (drop (4 + sides.1) (lines_of text)))
 
 -- ---- the canonical text
 
--- a passable cell is `.`, a blocked one `@`
-abbrev pub glyph : Bool → ℕ
-glyph true = 46
-glyph false = 64
+-- land is `.`, water `W` and a blocked cell `@`
+abbrev pub glyph : Terrain → ℕ
+glyph Land = 46
+glyph Water = 87
+glyph Blocked = 64
 
 -- the rows of the canonical text
-unfoldable pub row_texts : ℕ → ℕ → List Bool → List (List ℕ)
+unfoldable pub row_texts : ℕ → ℕ → List Terrain → List (List ℕ)
 row_texts width zero cells = []
 row_texts width (suc more) cells = map glyph (take width cells) ∷ row_texts width more (drop width cells)
 
@@ -154,7 +164,7 @@ header_texts width height =
 
 -- the lines of the canonical text
 abbrev pub line_texts : Map → List (List ℕ)
-line_texts m = header_texts m.width m.height ++ row_texts m.width m.height m.passable
+line_texts m = header_texts m.width m.height ++ row_texts m.width m.height m.terrain
 
 -- the canonical text
 unfoldable pub text_of : Map → List ℕ
@@ -163,5 +173,5 @@ text_of m = text_with_lines (line_texts m)
 -- reading the canonical text of a map gives that map
 abbrev pub CanonicalTextReadsBack : Type 0
 CanonicalTextReadsBack =
-    (m : Map) → IsWithinLimits m.width m.height → length m.passable ≡ m.width * m.height → IsSearchable m
+    (m : Map) → IsWithinLimits m.width m.height → length m.terrain ≡ m.width * m.height → IsSearchable m
     → map_of (text_of m) ≡ Ok m

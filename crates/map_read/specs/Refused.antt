@@ -1,12 +1,14 @@
 -- What the refusal of a text says: the line or the cell that it names is at fault, and nothing before it is.
-use Rattle.std.specs.Prelude.{◌≡◌, ◌≢◌, ℕ, ◌+◌, ◌*◌, ◌<◌, ◌≤◌, ◌⊎◌, false, true, Bool, IsTrue, List, [], ◌∷◌, ◌++◌, length, take, drop, slice_index, Some, None, Err, codes}
+use Rattle.std.specs.Prelude.{◌≡◌, ◌≢◌, ℕ, ◌+◌, ◌*◌, ◌<◌, ◌≤◌, ◌⊎◌, false, true, IsTrue, List, [], ◌∷◌, ◌++◌, length, take, drop, slice_index, Some, None, Err, codes}
 use Rattle.std.specs.List.{AllByRecursion}
 use Rattle.moves.specs.declared.TheConstants.{MAX_CELLS, MAX_PASSABLE}
+use Rattle.moves.specs.declared.Terrain.{Terrain}
+use Rattle.moves.specs.declared.Terrain.TheVariants.{Land, Water}
 use Rattle.text_lines.specs.Lines.{lines_of}
 use Rattle.text_lines.specs.Words.{words_of, is_blank, without_gaps_at_end}
 use Rattle.map_read.specs.declared.fault.MapFault.{MapFault}
-use Rattle.map_read.specs.declared.fault.MapFault.TheVariants.{Header, Size, RowLength, BadCell, Water, MissingRows, Extra, TooManyCells}
-use Rattle.map_read.specs.MapText.{number_named, line_at, is_side_length, is_passable_byte, is_blocked_byte, is_water_byte, free_in, map_of}
+use Rattle.map_read.specs.declared.fault.MapFault.TheVariants.{Header, Size, RowLength, BadCell, MissingRows, Extra, TooManyCells}
+use Rattle.map_read.specs.MapText.{number_named, line_at, is_side_length, terrain_for, free_in, map_of}
 use Rattle.map_read.specs.Accepted.{StandFor, AreRows, AreSidesGiven, IsHeader}
 
 -- ---- the header
@@ -74,7 +76,7 @@ IsRangeFault lines line = ((line ≡ 2) × IsBadSide lines) ⊎ ((line ≡ 3) ×
 -- ---- the rows
 
 -- the header is right, and the first so many rows stand for these cells
-pub record IsReadTo (lines : List (List ℕ)) (width height rows : ℕ) (cells : List Bool) : Type 0 where
+pub record IsReadTo (lines : List (List ℕ)) (width height rows : ℕ) (cells : List Terrain) : Type 0 where
   pub header : IsHeader lines width height
   pub above : AreRows width rows cells (drop 4 lines)
   pub few : free_in cells ≤ MAX_PASSABLE
@@ -84,10 +86,10 @@ abbrev pub row_bytes : List (List ℕ) → ℕ → List ℕ
 row_bytes lines y = without_gaps_at_end (line_at lines (5 + y))
 
 -- all before row y is right, its line is there, and this is so of the width, the row and the cells above it
-pub record HasRow (lines : List (List ℕ)) (y : ℕ) (IsSo : ℕ → List ℕ → List Bool → Type 0) : Type 0 where
+pub record HasRow (lines : List (List ℕ)) (y : ℕ) (IsSo : ℕ → List ℕ → List Terrain → Type 0) : Type 0 where
   pub width : ℕ
   pub height : ℕ
-  pub cells : List Bool
+  pub cells : List Terrain
   pub before : IsReadTo lines width height y cells
   pub inside : y < height
   pub there : 4 + y < length lines
@@ -95,8 +97,8 @@ pub record HasRow (lines : List (List ℕ)) (y : ℕ) (IsSo : ℕ → List ℕ �
 
 -- Column x of a row has this byte, and the bytes before it stand for cells.
 -- With the cells above the row they have so many passable ones.
-pub record IsByteAt (row : List ℕ) (above : List Bool) (x byte free : ℕ) : Type 0 where
-  pub left : List Bool
+pub record IsByteAt (row : List ℕ) (above : List Terrain) (x byte free : ℕ) : Type 0 where
+  pub left : List Terrain
   pub bytes : StandFor (take x row) left
   pub column : x < length row
   pub byte_is : slice_index row x ≡ byte
@@ -104,26 +106,22 @@ pub record IsByteAt (row : List ℕ) (above : List Bool) (x byte free : ℕ) : T
   pub few : free ≤ MAX_PASSABLE
 
 -- the row is as wide as the map, and this byte of it is at fault
-abbrev pub IsByteOfRow : ℕ → ℕ → ℕ → ℕ → List ℕ → List Bool → Type 0
+abbrev pub IsByteOfRow : ℕ → ℕ → ℕ → ℕ → List ℕ → List Terrain → Type 0
 IsByteOfRow x byte free width row above = (length row ≡ width) × IsByteAt row above x byte free
 
--- a byte stands for no cell and no water
-abbrev pub IsNoCell : ℕ → Type 0
-IsNoCell byte = (is_passable_byte byte ≡ false) × (is_blocked_byte byte ≡ false) × (is_water_byte byte ≡ false)
-
 -- a byte of no cell
-abbrev pub IsBadCell : ℕ → ℕ → ℕ → List ℕ → List Bool → Type 0
-IsBadCell x byte width row above = IsNoCell byte × ((free : ℕ) × IsByteOfRow x byte free width row above)
+abbrev pub IsBadCell : ℕ → ℕ → ℕ → List ℕ → List Terrain → Type 0
+IsBadCell x byte width row above =
+    (terrain_for byte ≡ None) × ((free : ℕ) × IsByteOfRow x byte free width row above)
 
--- a cell of water
-abbrev pub IsWaterCell : ℕ → ℕ → List ℕ → List Bool → Type 0
-IsWaterCell x width row above =
-    (byte : ℕ) × (is_water_byte byte ≡ true) × ((free : ℕ) × IsByteOfRow x byte free width row above)
+-- a byte of a passable cell
+abbrev pub IsPassableByte : ℕ → Type 0
+IsPassableByte byte = (terrain_for byte ≡ Some Land) ⊎ (terrain_for byte ≡ Some Water)
 
 -- a passable cell after 32,768 others
-abbrev pub IsOneCellTooMany : ℕ → ℕ → List ℕ → List Bool → Type 0
+abbrev pub IsOneCellTooMany : ℕ → ℕ → List ℕ → List Terrain → Type 0
 IsOneCellTooMany x width row above =
-    (byte : ℕ) × (is_passable_byte byte ≡ true) × IsByteOfRow x byte MAX_PASSABLE width row above
+    (byte : ℕ) × IsPassableByte byte × IsByteOfRow x byte MAX_PASSABLE width row above
 
 -- ---- after the rows
 
@@ -131,7 +129,7 @@ IsOneCellTooMany x width row above =
 pub record AreRowsMissing (lines : List (List ℕ)) (found : ℕ) : Type 0 where
   pub width : ℕ
   pub height : ℕ
-  pub cells : List Bool
+  pub cells : List Terrain
   pub before : IsReadTo lines width height found cells
   pub fewer : found < height
   pub end : length lines ≤ 4 + found
@@ -140,7 +138,7 @@ pub record AreRowsMissing (lines : List (List ℕ)) (found : ℕ) : Type 0 where
 pub record IsExtraLine (lines : List (List ℕ)) (line : ℕ) : Type 0 where
   pub width : ℕ
   pub height : ℕ
-  pub cells : List Bool
+  pub cells : List Terrain
   pub blanks : ℕ
   pub before : IsReadTo lines width height height cells
   pub blank : AllByRecursion (λ blank_line. IsTrue (is_blank blank_line)) (take blanks (drop (4 + height) lines))
@@ -158,7 +156,6 @@ IsFirstFault lines (RowLength line expected found) =
     (y : ℕ) × (line ≡ 5 + y)
     × HasRow lines y (λ width row above. (expected ≡ width) × (found ≡ length row) × (found ≢ expected))
 IsFirstFault lines (BadCell x y byte) = HasRow lines y (IsBadCell x byte)
-IsFirstFault lines (Water x y) = HasRow lines y (IsWaterCell x)
 IsFirstFault lines (TooManyCells x y) = HasRow lines y (IsOneCellTooMany x)
 IsFirstFault lines (MissingRows found) = AreRowsMissing lines found
 IsFirstFault lines (Extra line) = IsExtraLine lines line

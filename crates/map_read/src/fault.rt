@@ -28,11 +28,6 @@ pub enum MapFault {
         y: u16,
         byte: u8,
     },
-    /// A cell is water.
-    Water {
-        x: u16,
-        y: u16,
-    },
     /// The text ends before its last row.
     MissingRows {
         found: u32,
@@ -67,7 +62,6 @@ impl fmt::Display for MapFault {
                 write!(f, ", not {expected}")
             }
             MapFault::BadCell { x, y, byte } => write!(f, "byte {byte} at {x} {y}"),
-            MapFault::Water { x, y } => write!(f, "water at {x} {y}"),
             MapFault::MissingRows { found } => write!(f, "{found} rows found"),
             MapFault::Extra { line } => write!(f, "extra line {line}"),
             MapFault::TooManyCells { x, y } => write!(f, "too many cells at {x} {y}"),

@@ -16,7 +16,7 @@ mod writing;
 
 pub use fault::{MapError, MapFault};
 use header::read_header;
-use moves::Grid;
+use moves::{Grid, Terrain};
 use rows::{first_extra, read_rows};
 use std::alloc::Global;
 use text_lines::Lines;
@@ -30,8 +30,8 @@ type MapLines<'a> = Lines<'a, MAX_MAP_BYTES>;
 
 /// The map that a text of at most `MAX_MAP_BYTES` bytes stands for, or why there is none: the first refusal in the
 /// order of the file. Lines end with a line feed, or a carriage return and a line feed. The first four give the form
-/// and the sides, in either order. Each further line is a row: `.`, `G` and `S` are passable, `@`, `O` and `T` are not,
-/// and all else is refused.
+/// and the sides, in either order. Each further line is a row: `.`, `G` and `S` are land, `W` is water, `@`, `O` and `T`
+/// are blocked, and all else is refused.
 pub fn read_map(alloc: Global, bytes: &[u8]) -> Result<Grid, MapError>
     requires { length bytes.now ≤ MAX_MAP_BYTES }
     ensures grid { IfOk result (λ grid. map_of bytes.now ≡ Ok grid) }
@@ -40,12 +40,12 @@ pub fn read_map(alloc: Global, bytes: &[u8]) -> Result<Grid, MapError>
 {
     let mut lines = MapLines::of(bytes);
     let sides = read_header(&mut lines)?;
-    let mut cells = vec![in alloc; false; (sides.width * sides.height) as usize]?;
+    let mut cells = vec![in alloc; Terrain::Blocked; (sides.width * sides.height) as usize]?;
     read_rows(&mut lines, sides, &mut cells)?;
     if let Some(line) = first_extra(&mut lines, 5 + sides.height) {
         return Err(MapError::Fault(MapFault::Extra { line }));
     }
-    Ok(Grid::of_cells(alloc, sides.width, sides.height, cells)?)
+    Ok(Grid::of_terrain(alloc, sides.width, sides.height, cells)?)
 }
 
 /// A law, stated in the contract: a text is accepted exactly where it stands for a map, line by line, and then with

@@ -3,16 +3,16 @@
 ghost use Rattle.std.specs.Prelude.{◌≡◌, ◌+◌, ◌*◌, ◌-◌, ◌<◌, ◌≤◌, ◌^◌, Bool, List, [], ◌∷◌, ℕ, take, drop, length, Some, None, Ok, Err, MatchResult, OnOk, IfOk, true, false};
 ghost use Rattle.moves.specs.Maps.{IsWithinLimits};
 ghost use Rattle.text_lines.specs.Words.{is_blank};
-ghost use Rattle.map_read.specs.MapText.{cell_of, free_in, cells_in, row_in, rows_in, extra_in};
+ghost use Rattle.map_read.specs.MapText.{cell_of, terrain_for, free_in, cells_in, row_in, rows_in, extra_in};
 
 use crate::fault::MapFault;
 use crate::header::Sides;
 use crate::{MAX_MAP_BYTES, MapLines};
-use moves::{MAX_PASSABLE, MAX_SIDE};
+use moves::{MAX_PASSABLE, MAX_SIDE, Terrain};
 use text_lines::{is_blank, without_gaps_at_end};
 
 /// Reads the rows into the cells, row by row; or gives the first refusal.
-pub fn read_rows(lines: &mut MapLines, sides: Sides, cells: &mut [bool]) -> Result<(), MapFault>
+pub fn read_rows(lines: &mut MapLines, sides: Sides, cells: &mut [Terrain]) -> Result<(), MapFault>
     requires limits { IsWithinLimits sides.width sides.height }
     requires whole { length cells.old ≡ sides.width * sides.height }
     ensures cells { MatchResult result
@@ -56,7 +56,7 @@ fn row_in(line: &[u8], width: u32, y: u32) -> Result<&[u8], MapFault>
 }
 
 /// Reads row `y` into its cells, where `free` cells before them are passable: how many are with those of the row.
-fn read_cells(row: &[u8], y: u16, free: u32, cells: &mut [bool]) -> Result<u32, MapFault>
+fn read_cells(row: &[u8], y: u16, free: u32, cells: &mut [Terrain]) -> Result<u32, MapFault>
     requires width { length row.now ≤ MAX_SIDE }
     requires room { (y + 1) * length row.now ≤ length cells.old }
     requires place { y < MAX_SIDE }
@@ -72,24 +72,37 @@ fn read_cells(row: &[u8], y: u16, free: u32, cells: &mut [bool]) -> Result<u32, 
     let start = usize::from(y) * row.len();
     let mut count = free;
     for (x, byte) in row.iter().enumerate() {
-        let passable = cell_of(x as u16, y, *byte, count)?;
-        cells[start + x] = passable;
-        count += u32::from(passable);
+        let terrain = cell_of(x as u16, y, *byte, count)?;
+        cells[start + x] = terrain;
+        count += u32::from(terrain.is_passable());
     }
     Ok(count)
 }
 
-/// Whether the cell is passable, where `free` cells before it are; or why it is refused.
+/// What stands at the cell, where `free` cells before it are passable; or why it is refused.
 #[tactic(auto, unfolding(crate::specs::MapText::cell_of))]
-fn cell_of(x: u16, y: u16, byte: u8, free: u32) -> Result<bool, MapFault>
+fn cell_of(x: u16, y: u16, byte: u8, free: u32) -> Result<Terrain, MapFault>
     ensures { result ≡ cell_of x y byte free }
 {
+    let Some(terrain) = terrain_for(byte) else {
+        return Err(MapFault::BadCell { x, y, byte });
+    };
+    if terrain.is_passable() && free >= MAX_PASSABLE {
+        return Err(MapFault::TooManyCells { x, y });
+    }
+    Ok(terrain)
+}
+
+/// What the byte stands for.
+#[tactic(auto, unfolding(crate::specs::MapText::terrain_for))]
+fn terrain_for(byte: u8) -> Option<Terrain>
+    ensures { result ≡ terrain_for byte }
+{
     match byte {
-        b'.' | b'G' | b'S' if free < MAX_PASSABLE => Ok(true),
-        b'.' | b'G' | b'S' => Err(MapFault::TooManyCells { x, y }),
-        b'@' | b'O' | b'T' => Ok(false),
-        b'W' => Err(MapFault::Water { x, y }),
-        _ => Err(MapFault::BadCell { x, y, byte }),
+        b'.' | b'G' | b'S' => Some(Terrain::Land),
+        b'W' => Some(Terrain::Water),
+        b'@' | b'O' | b'T' => Some(Terrain::Blocked),
+        _ => None,
     }
 }
 

@@ -7,11 +7,11 @@ ghost use Rattle.map_read.specs.Inside.{header_text, row_text};
 ghost use Rattle.map_read.specs.MapText.{glyph, text_of};
 
 use crate::MAX_MAP_BYTES;
-use moves::{Cell, Grid};
+use moves::{Cell, Grid, Terrain};
 use std::alloc::{AllocError, Global};
 
-/// The canonical text of the map: `type octile`, `height H`, `width W`, `map`, and the rows with `.` for a passable
-/// cell and `@` for a blocked one. A line feed ends each line. The text is short enough to be read back.
+/// The canonical text of the map: `type octile`, `height H`, `width W`, `map`, and the rows with `.` for land, `W` for
+/// water and `@` for a blocked cell. A line feed ends each line. The text is short enough to be read back.
 pub fn write_map(alloc: Global, grid: &Grid) -> Result<Vec<u8>, AllocError>
     ensures text { IfOk result (λ text. text.items ≡ text_of grid.now) }
     ensures limit { IfOk result (λ text. vec_len text ≤ MAX_MAP_BYTES) }
@@ -40,15 +40,19 @@ fn push_row(text: &mut Vec<u8>, grid: &Grid, y: u16) -> Result<(), AllocError>
     ensures { OnOk result (text.new.items ≡ text.old.items ++ with_feed (row_text grid.now y)) }
 {
     for x in 0..grid.width() as u16 {
-        text.push(glyph(grid.passable(Cell { x, y })))?;
+        text.push(glyph(grid.terrain(Cell { x, y })))?;
     }
     text.push(b'\n')?;
     Ok(())
 }
 
 /// How a cell is written.
-fn glyph(passable: bool) -> u8
-    ensures { result ≡ glyph passable }
+fn glyph(terrain: Terrain) -> u8
+    ensures { result ≡ glyph terrain }
 {
-    if passable { b'.' } else { b'@' }
+    match terrain {
+        Terrain::Land => b'.',
+        Terrain::Water => b'W',
+        Terrain::Blocked => b'@',
+    }
 }

@@ -1,6 +1,7 @@
-use Rattle.std.proofs.Common.{◌≡◌, ℕ, List, Bool, Ok, length, drop, sym, ap, ◌∙◌, refl, arith}
+use Rattle.std.proofs.Common.{◌≡◌, ℕ, List, Ok, length, drop, sym, ap, ◌∙◌, refl, arith}
 use Rattle.std.proofs.lemmas.Result.{err_from_is_err_and}
 use Rattle.std.proofs.lemmas.List.{take_at, length-drop}
+use Rattle.moves.specs.declared.Terrain.{Terrain}
 use Rattle.moves.specs.Maps.{Map}
 use Rattle.map_read.specs.declared.fault.MapFault.TheVariants.{Extra}
 use Rattle.map_read.proofs.MapLemmas.{map_bad_header, map_bad_rows, map_extra, map_whole}
@@ -44,5 +45,5 @@ returns-clause-grid c =
     c.in_ok-sides.ensures.rest sides.width sides.height c.in_ok-sides.ensures.sides
     c.read_rows.new.cells c.read_rows.new.lines c.in_ok-read_rows.ensures.cells c.in_ok-read_rows.ensures.rest (sym c.in_default.ensures) in
     let all = take_at c.read_rows.new.cells (drop (length c.read_rows.new.cells) c.in_ok-cells.cells.items) c.in_ok-cells.cells.len (c.read_rows.auto.cells ∙ c.deref_mut.ensures.len) in
-    let made = λ (cells : List Bool). let m : Map = record { width = sides.width; height = sides.height; passable = cells } in m in
-    whole ∙ ap (λ (m : Map). Ok m) (sym (c.in_ok-of_cells.ensures ∙ ap made all))
+    let made = λ (cells : List Terrain). let m : Map = record { width = sides.width; height = sides.height; terrain = cells } in m in
+    whole ∙ ap (λ (m : Map). Ok m) (sym (c.in_ok-of_terrain.ensures ∙ ap made all))
