@@ -1,23 +1,24 @@
 -- The flood's loop: its start, one turn, and what holds at its end.
-use Rattle.std.proofs.Common.{◌≡◌, ℕ, ◌+◌, ◌<◌, ◌≤◌, ◌⊎◌, false, ◌++◌, length, get_or, sym, ap, ◌∙◌, subst, inl, inr, arith}
+use Rattle.std.proofs.Common.{◌≡◌, ℕ, ◌+◌, ◌<◌, ◌≤◌, ◌⊎◌, false, ◌++◌, length, get_or, refl, sym, ap, ◌∙◌, subst, inl, inr, arith}
 use Rattle.std.proofs.lemmas.Bool.{cases_lt, cases_eq}
 use Rattle.std.proofs.lemmas.List.{get_or-set_same, get_or_default}
 use Rattle.components.specs.declared.TheConstants.{UNLABELLED}
 use Rattle.moves.specs.declared.Cell.{Cell}
 use Rattle.moves.specs.declared.Move.{Move}
 use Rattle.moves.specs.declared.Move.TheVariants.{N, E, S, W}
-use Rattle.moves.specs.Maps.{Map, IsInside, IsPassable, place_of, cell_at}
+use Rattle.moves.specs.Maps.{Map, IsInside, IsPassable, place_of, cell_at, terrain_of}
 use Rattle.moves.specs.Moves.{is_diagonal, opposite, IsLegal}
 use Rattle.moves.specs.Paths.{Reaches}
 use Rattle.moves.specs.PathLaws.{back_along}
 use Rattle.moves.proofs.MoveLaws.{legal_back, is_diagonal-opposite}
 use Rattle.moves.proofs.LawsOfPaths.{joined, leads_back}
+use Rattle.moves.proofs.StraightPaths.{kept_along}
 use Rattle.moves.proofs.RowMajor.{place_of_cell_at, row_inside}
 use Rattle.std.proofs.lemmas.Nat.{mod_below}
 use Rattle.components.specs.Marks.{Marks, label_at, with_mark}
 use Rattle.components.specs.Floods.{IsFresh, IsBalanced, Claimed, IsSurrounded, IsSpread, IsFlooded}
 use Rattle.components.proofs.Marking.{room_for, mark_cases}
-use Rattle.components.proofs.Spreading.{Tried, IsTried, IsSpreading, count_within, labelled_passable, label_is_new, spread_start, claimed_spread, claimed_keeps, tried_later, claimed_tries, claimed_tried, tried_all}
+use Rattle.components.proofs.Spreading.{Tried, IsTried, IsSpreading, count_within, labelled_passable, label_is_new, spread_start, reached, claimed_spread, claimed_keeps, tried_later, claimed_tries, claimed_tried, tried_all}
 
 -- a cell of the queue is inside and has the label
 pub queued : (map : Map) (label : ℕ) (root : Cell) (old s : Marks) → IsSpread map label root old s → (i : ℕ) (from : Cell) → old.count ≤ i → i < s.count → from ≡ get_or s.found i from
@@ -54,6 +55,15 @@ module _ (map : Map) (label : ℕ) (low : label < UNLABELLED) (root : Cell) (old
   }
 
   module _ (next : ℕ) (s : Marks) (p : IsSpreading map label root old next s) where
+    -- a cell of the queue is of the root's class
+    pub queued_class : (from : Cell) → next < s.count → from ≡ get_or s.found next from
+        → terrain_of map from ≡ terrain_of map root
+    queued_class from less at =
+        let q = queued map label root old s p.spread next from p.least less at in
+        let way = reached map label low root fresh.passable old flooded fresh.unlabelled s p.spread from q.0 q.1 in
+        kept_along map (λ c. terrain_of map c ≡ terrain_of map root)
+        (λ a by b straight legal same. legal.enters.same ∙ same) root way.0 from way.1 refl
+
     pub spreading_more : (from : Cell) → next < s.count → from ≡ get_or s.found next from → (t1 t2 t3 t4 : Marks)
         → Claimed map label from N s t1 → IsBalanced map t1 → Claimed map label from E t1 t2 → IsBalanced map t2
         → Claimed map label from S t2 t3 → IsBalanced map t3 → Claimed map label from W t3 t4
@@ -125,9 +135,9 @@ module _ (map : Map) (label : ℕ) (low : label < UNLABELLED) (root : Cell) (old
           elim (p.spread.fresh from legal.leaves.inside lower) [
             | inl was ↦
                 let before : label_at map.width old to ≡ label_at map.width old from = flooded.closed from by to straight legal (omega arith) in
-                p.spread.kept to legal.enters.inside (omega arith) ∙ (before ∙ was)
+                p.spread.kept to legal.enters.passable.inside (omega arith) ∙ (before ∙ was)
             | inr new ↦
-                elim (p.spread.fresh to legal.enters.inside (all_surrounded from legal.leaves.inside new.1 by to straight legal)) [
+                elim (p.spread.fresh to legal.enters.passable.inside (all_surrounded from legal.leaves.inside new.1 by to straight legal)) [
                   | inl was ↦
                       let reached_now : label_at map.width s to < UNLABELLED = all_surrounded from legal.leaves.inside new.1 by to straight legal in
                       let back : label_at map.width old from ≡ label_at map.width old to =

@@ -1,5 +1,7 @@
+pub mod Alike
 pub mod Counts
 pub mod Marking
+pub mod Claiming
 pub mod Spreading
 pub mod Flooding
 pub mod Scanning

@@ -8,7 +8,7 @@ use Rattle.std.specs.List.Sorted.{IsPermutation}
 use Rattle.std.proofs.lemmas.List.Sorted.{Contains-permutation, All-permutation}
 use Rattle.moves.specs.declared.Cell.{Cell}
 use Rattle.moves.specs.declared.Move.{Move}
-use Rattle.moves.specs.Maps.{Map, IsWithinLimits, IsInside, IsPassable, ComesBefore, place_of}
+use Rattle.moves.specs.Maps.{Map, IsWithinLimits, IsInside, IsPassable, ComesBefore, place_of, terrain_of}
 use Rattle.moves.specs.Moves.{is_diagonal, IsLegal}
 use Rattle.moves.specs.Paths.{Reaches}
 use Rattle.moves.specs.Components.{first_of, IsComponentList}
@@ -17,10 +17,11 @@ use Rattle.moves.proofs.StraightPaths.{kept_along}
 use Rattle.moves.proofs.ComponentLaws.{member_is_passable}
 use Rattle.components.specs.Groups.{IsLabelOf}
 use Rattle.components.specs.Edits.{HaveSameSides, AreChanged, IsTouched, AreTouched, Plan, IsLoose, IsPlan, rank_of, AreRanks, AreFormerRanks, AreCellsOf}
+use Rattle.components.proofs.Alike.{sides_back, inside_too, passable_too, changed_or_same}
 use Rattle.components.proofs.SameLists.{place_rises}
 use Rattle.components.proofs.Labelled.{its_component}
 use Rattle.components.proofs.Ranking.{same_rank}
-use Rattle.components.proofs.Keeping.{inside_too, stays, beside_touched, kept_component}
+use Rattle.components.proofs.Keeping.{stays, beside_touched, kept_component}
 
 -- the ranks of the first cells of untouched components and of all cells of the touched ones are there
 pub record HasFormerRanks (components : List (List Cell)) (touched : List Bool) (ranks : List ℕ) : Type 0 where
@@ -99,11 +100,17 @@ module _ (old new : Map) (limits : IsWithinLimits new.width new.height) (sides :
             )
       ]
 
+  -- the component that a passable cell was in, if the same stood there
+  was_in : (c : Cell) → IsPassable new c → terrain_of new c ≡ terrain_of old c
+      → (label : ℕ) × IsLabelOf components c label
+  was_in c free same =
+      its_component old components list c (passable_too new old (sides_back old new sides) c (sym same) free)
+
   root_of : (c : Cell) → IsPassable new c → IsRooted c
   root_of c free =
-      elim (are c) [
+      elim (changed_or_same old new sides changed are c free.inside) [
         | inl change ↦ (c, seed_if c free.inside (passable c change free), itself c free, omega arith)
-        | inr same ↦ let l = its_component old components list c (same.1 free) in root_of_member l.0 l.1.below c l.1.has free
+        | inr same ↦ let l = was_in c free same in root_of_member l.0 l.1.below c l.1.has free
       ]
 
   -- the cell was changed, or is in a component that the edit touches
@@ -112,18 +119,18 @@ module _ (old new : Map) (limits : IsWithinLimits new.width new.height) (sides :
 
   near_step : (a : Cell) (by : Move) (b : Cell) → is_diagonal by ≡ false → IsLegal new a by b → IsNear a → IsNear b
   near_step a by b straight legal near =
-      elim (are b) [
+      elim (changed_or_same old new sides changed are b legal.enters.passable.inside) [
         | inl change ↦ inl change
         | inr same ↦
-            let l = its_component old components list b (same.1 legal.enters) in
+            let l = was_in b legal.enters.passable same in
             let by_change = λ (change : Contains changed a). beside_touched old new sides components list changed are touched t l.0 l.1.below a by b straight legal change l.1.has in
             elim near [
               | inl change ↦ inr (l.0, l.1, by_change change)
               | inr is ↦
-                  elim (are a) [
+                  elim (changed_or_same old new sides changed are a legal.leaves.inside) [
                     | inl change ↦ inr (l.0, l.1, by_change change)
                     | inr also ↦
-                        let has = stays old new sides components list changed are touched t is.0 is.1.below a by b straight is.1.has legal (same.1 legal.enters) in
+                        let has = stays old new sides components list changed are touched t is.0 is.1.below a by b straight is.1.has legal also same in
                         inr (is.0, record { below = is.1.below; has = has }, is.2)
                   ]
             ]
@@ -131,9 +138,9 @@ module _ (old new : Map) (limits : IsWithinLimits new.width new.height) (sides :
 
   near_if_loose : (c : Cell) → IsPassable new c → IsLoose plan c → IsNear c
   near_if_loose c free loose =
-      elim (are c) [
+      elim (changed_or_same old new sides changed are c free.inside) [
         | inl change ↦ inl change
-        | inr same ↦ let l = its_component old components list c (same.1 free) in inr (l.0, l.1, loose l.0 l.1)
+        | inr same ↦ let l = was_in c free same in inr (l.0, l.1, loose l.0 l.1)
       ]
 
   seed_if_near : (c : Cell) → IsPassable new c → IsNear c → Contains seeds c

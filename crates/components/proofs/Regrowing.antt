@@ -8,7 +8,7 @@ use Rattle.std.proofs.lemmas.List.Sums.{count_by_more_yes, count_by_more_no, cou
 use Rattle.std.proofs.lemmas.List.Elements.{filter-append}
 use Rattle.components.specs.declared.TheConstants.{UNLABELLED}
 use Rattle.moves.specs.declared.Cell.{Cell}
-use Rattle.moves.specs.Maps.{Map, IsWithinLimits, IsInside, place_of, cell_at}
+use Rattle.moves.specs.Maps.{Map, IsWithinLimits, IsInside, is_passable, passable_of, place_of, cell_at}
 use Rattle.moves.specs.Paths.{Reaches}
 use Rattle.moves.proofs.StraightPaths.{kept_along}
 use Rattle.moves.proofs.LawsOfPaths.{leads_from}
@@ -273,7 +273,7 @@ module _ (m : Map) (limits : IsWithinLimits m.width m.height) (plan : Plan) (is 
       few_cells =
           let most = count_within m t spread.balanced in
           let l = limits.cells in
-          omega (arith, more_count, spread.balanced.room, spread.balanced.whole, count_by-le-length (λ b. b) m.passable)
+          omega (arith, more_count, spread.balanced.room, spread.balanced.whole, length-map m.terrain is_passable, count_by-le-length (λ b. b) (passable_of m))
 
       same_cells : (label : ℕ) → label < number → cells_with m.width s.labels label ≡ cells_with m.width t.labels label
       same_cells = cells_kept m limits number few_labels seed s p.scanned.flooded t spread after

@@ -5,7 +5,7 @@ use Rattle.std.proofs.lemmas.Bool.{cases_lt}
 use Rattle.std.proofs.lemmas.List.{get_or_append_left, get_or_push, length_push, length-replicate, get_or-replicate, get_or_past}
 use Rattle.components.specs.declared.TheConstants.{UNLABELLED}
 use Rattle.moves.specs.declared.Cell.{Cell}
-use Rattle.moves.specs.Maps.{Map, IsInside, IsPassable, place_of}
+use Rattle.moves.specs.Maps.{Map, IsInside, IsPassable, passable_of, place_of}
 use Rattle.moves.proofs.RowMajor.{same_cell_from_place, place_inside}
 use Rattle.components.specs.Marks.{Marks, label_at, count_below}
 use Rattle.components.specs.Floods.{IsFresh, IsSpread, IsFlooded, IsScanned, AreStarts}
@@ -82,8 +82,8 @@ module _ (map : Map) (place number : ℕ) (s : Marks) (p : IsScanned map place n
     }
 
 -- nothing is labelled yet
-pub scanned_start : (map : Map) (s : Marks) → length map.passable ≡ map.width * map.height
-    → s.labels ≡ replicate (map.width * map.height) UNLABELLED → length s.found ≡ count_by (λ b. b) map.passable → s.count ≡ 0
+pub scanned_start : (map : Map) (s : Marks) → length map.terrain ≡ map.width * map.height
+    → s.labels ≡ replicate (map.width * map.height) UNLABELLED → length s.found ≡ count_by (λ b. b) (passable_of map) → s.count ≡ 0
     → IsScanned map 0 0 s
 scanned_start map s whole labels room count =
     let size : length s.labels ≡ map.width * map.height = ap length labels ∙ length-replicate (map.width * map.height) UNLABELLED in

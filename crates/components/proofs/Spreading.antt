@@ -6,7 +6,7 @@ use Rattle.components.specs.declared.TheConstants.{UNLABELLED}
 use Rattle.moves.specs.declared.Cell.{Cell}
 use Rattle.moves.specs.declared.Move.{Move}
 use Rattle.moves.specs.declared.Move.TheVariants.{N, NE, E, SE, S, SW, W, NW}
-use Rattle.moves.specs.Maps.{Map, IsInside, IsPassable, place_of}
+use Rattle.moves.specs.Maps.{Map, IsInside, IsPassable, passable_of, place_of}
 use Rattle.moves.specs.Moves.{IsLegal}
 use Rattle.moves.specs.Paths.{Reaches}
 use Rattle.moves.proofs.MoveLaws.{same_target}
@@ -14,11 +14,11 @@ use Rattle.moves.proofs.LawsOfPaths.{one_more}
 use Rattle.components.specs.Marks.{Marks, label_at, with_mark}
 use Rattle.components.specs.Floods.{IsFresh, IsBalanced, Claimed, IsSurrounded, IsSpread, IsFlooded}
 use Rattle.components.proofs.Counts.{count_below-le, count_below-set_same}
-use Rattle.components.proofs.Marking.{place_within, room_for, mark_at, mark_cases, balanced_mark}
+use Rattle.components.proofs.Marking.{place_within, label_each, room_for, mark_at, mark_cases, balanced_mark}
 
 -- no more cells are found than there is room for
 pub count_within : (map : Map) (s : Marks) → IsBalanced map s → s.count ≤ length s.found
-count_within map s b = omega (arith, b.count, b.room, count_below-le UNLABELLED s.labels map.passable (omega (arith, b.places, b.whole)) b.passable)
+count_within map s b = omega (arith, b.count, b.room, count_below-le UNLABELLED s.labels (passable_of map) (label_each map s b) b.passable)
 
 -- a labelled cell is passable
 pub labelled_passable : (map : Map) (s : Marks) (c : Cell) → IsBalanced map s → IsInside map c → label_at map.width s c < UNLABELLED → IsPassable map c
@@ -164,13 +164,13 @@ module _ (map : Map) (label : ℕ) (low : label < UNLABELLED) (from : Cell) (by 
   pub surrounded_later : (c : Cell) → IsSurrounded map s c → IsSurrounded map t c
   surrounded_later c around = λ m to straight legal.
       let before = around m to straight legal in
-      let e = claimed_keeps map label from by s t claimed to legal.enters.inside before in
+      let e = claimed_keeps map label from by s t claimed to legal.enters.passable.inside before in
       omega arith
 
   pub tried_later : (m : Move) → IsTried map from m s → IsTried map from m t
   tried_later m tried = λ to legal.
       let before = tried to legal in
-      let e = claimed_keeps map label from by s t claimed to legal.enters.inside before in
+      let e = claimed_keeps map label from by s t claimed to legal.enters.passable.inside before in
       omega arith
 
   pub claimed_tries : IsTried map from by t
@@ -206,7 +206,7 @@ module _ (map : Map) (label : ℕ) (low : label < UNLABELLED) (from : Cell) (by 
                                 | inr around ↦
                                     inr (inr (λ move to straight legal.
                                     let before = around move to straight legal in
-                                    elim (mark_cases map s new.0 label to new.2.passable.inside legal.enters.inside) [
+                                    elim (mark_cases map s new.0 label to new.2.passable.inside legal.enters.passable.inside) [
                                       | inl at ↦ let e = ap (label_at map.width m) at in let h = mark_at map s new.0 label balanced.places new.2.passable.inside in omega arith
                                       | inr same ↦ omega arith
                                     ]))

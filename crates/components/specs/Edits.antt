@@ -1,8 +1,8 @@
 -- What an edit of a map leaves of its components, and the cells from which the others are flooded again.
-use Rattle.std.specs.Prelude.{◌≡◌, ℕ, ◌+◌, ◌*◌, ◌<◌, ◌≤◌, ◌⊎◌, ◌↔◌, Bool, false, true, IsFalse, List, [], length, slice_index, slice_index_or, All, AllPairs, Contains}
+use Rattle.std.specs.Prelude.{◌≡◌, ℕ, ◌+◌, ◌*◌, ◌<◌, ◌≤◌, ◌⊎◌, Bool, false, true, IsFalse, List, [], length, slice_index, slice_index_or, All, AllPairs, Contains}
 use Rattle.moves.specs.declared.Cell.{Cell}
 use Rattle.moves.specs.declared.Move.{Move}
-use Rattle.moves.specs.Maps.{Map, IsInside, IsPassable, place_of}
+use Rattle.moves.specs.Maps.{Map, IsInside, IsPassable, place_of, terrain_of}
 use Rattle.moves.specs.Moves.{is_diagonal, IsTarget}
 use Rattle.moves.specs.Paths.{Reaches}
 use Rattle.moves.specs.Components.{IsComponent, first_of}
@@ -13,9 +13,10 @@ pub record HaveSameSides (a b : Map) : Type 0 where
   pub width : a.width ≡ b.width
   pub height : a.height ≡ b.height
 
--- each cell is in the list, or is passable in both maps or in neither
+-- each cell inside is in the list, or the same stands there in both maps
 abbrev pub AreChanged : Map → Map → List Cell → Type 0
-AreChanged old new changed = (cell : Cell) → Contains changed cell ⊎ (IsPassable old cell ↔ IsPassable new cell)
+AreChanged old new changed =
+    (cell : Cell) → IsInside old cell → Contains changed cell ⊎ (terrain_of new cell ≡ terrain_of old cell)
 
 -- the components before an edit, which of them it touches, and the cells from which to flood
 pub record Plan : Type 0 where

@@ -3,7 +3,8 @@ use Rattle.std.specs.Prelude.{◌≡◌, ℕ, ◌+◌, ◌*◌, ◌==◌, ◌<�
 use Rattle.components.specs.declared.TheConstants.{UNLABELLED}
 use Rattle.moves.specs.declared.Cell.{Cell}
 use Rattle.moves.specs.declared.Move.{Move}
-use Rattle.moves.specs.Maps.{Map, IsInside, IsPassable, passable_count, place_of}
+use Rattle.moves.specs.declared.Terrain.{Terrain}
+use Rattle.moves.specs.Maps.{Map, IsInside, IsPassable, passable_of, passable_count, place_of, terrain_of}
 use Rattle.moves.specs.Moves.{is_diagonal, IsLegal}
 use Rattle.moves.specs.Paths.{Reaches}
 use Rattle.components.specs.Marks.{Marks, label_at, with_mark, count_below}
@@ -13,15 +14,20 @@ pub record IsFresh (map : Map) (marks : Marks) (cell : Cell) : Type 0 where
   pub passable : IsPassable map cell
   pub unlabelled : label_at map.width marks cell ≡ UNLABELLED
 
+-- that terrain is the cell's, and it has no label yet
+pub record IsFreshOf (map : Map) (class : Terrain) (marks : Marks) (cell : Cell) : Type 0 where
+  pub terrain : terrain_of map cell ≡ class
+  pub unlabelled : label_at map.width marks cell ≡ UNLABELLED
+
 -- there is room for each passable cell, passable cells alone have labels, and the count is theirs
 pub record IsBalanced (map : Map) (marks : Marks) : Type 0 where
   pub places : length marks.labels ≡ map.width * map.height
-  pub whole : length map.passable ≡ map.width * map.height
+  pub whole : length map.terrain ≡ map.width * map.height
   pub room : length marks.found ≡ passable_count map
   pub count : marks.count ≡ count_below UNLABELLED marks.labels
   pub range : (place : ℕ) → slice_index marks.labels place ≤ UNLABELLED
   pub passable : (place : ℕ) → place < length marks.labels → slice_index marks.labels place < UNLABELLED
-      → slice_index_or map.passable place false ≡ true
+      → slice_index_or (passable_of map) place false ≡ true
 
 -- a cell that has the label and whose move was tried: its target got the label if it was fresh, and else all stayed
 abbrev pub Claimed : Map → ℕ → Cell → Move → Marks → Marks → Type 0

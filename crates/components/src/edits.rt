@@ -2,7 +2,7 @@
 
 ghost use Rattle.std.specs.Prelude.{◌≡◌, ℕ, ◌+◌, ◌*◌, ◌<◌, ◌≤◌, ◌++◌, [], map, take, length, slice_index, slice_index_or, Contains, IfOk, IfSome, IfNone, IsTrue, IsFalse, OnOk};
 ghost use Rattle.std.specs.List.Sorted.{IsNonDecreasing};
-ghost use Rattle.moves.specs.Maps.{IsWithinLimits, IsInside, IsPassable};
+ghost use Rattle.moves.specs.Maps.{IsWithinLimits, IsInside, IsPassable, terrain_of};
 ghost use Rattle.moves.specs.Components.{IsComponentList};
 ghost use Rattle.components.specs.Groups.{IsLabelOf};
 ghost use Rattle.components.specs.Edits.{HaveSameSides, AreChanged, AreTouched, KeepsTouched, TouchesAt, TouchesAround, TouchesBeside, IsLoose, IsPlan, IsKept, HaveCells, KeepsRanks, HasPassableOf, IsAboveAllBefore, StandsBefore, rank_of, AreRanks, AreFormerRanks, AreCellsOf};
@@ -13,7 +13,7 @@ use std::alloc::{AllocError, Global};
 use std::marker::Model;
 
 /// The components before an edit, which of them it touches, and the cells from which to flood: the first cell of each
-/// component that is not touched, all cells of the touched ones, and the cells that became passable.
+/// component that is not touched, all cells of the touched ones, and the changed cells that are passable.
 #[derive(Drop)]
 pub(crate) struct Edit<'a> {
     labels: &'a Labels,
@@ -89,23 +89,33 @@ impl<'a> Edit<'a> {
     }
 }
 
-/// Those of the cells that are passable in one map alone.
+/// Those of the cells at which something else stands in the one map than in the other.
 fn differing(
     alloc: Global,
     old: &Grid,
     new: &Grid,
     changed: &[Cell],
 ) -> Result<Vec<Cell>, AllocError>
-    requires { AreChanged old.now new.now changed.now }
+    requires sides { HaveSameSides old.now new.now }
+    requires changed { AreChanged old.now new.now changed.now }
     ensures { IfOk result (λ cells. AreChanged old.now new.now cells.items) }
 {
     let mut cells = Vec::new(alloc);
     for cell in changed {
-        if old.passable(*cell) != new.passable(*cell) {
+        if differ(old, new, *cell) {
             cells.push(*cell)?;
         }
     }
     Ok(cells)
+}
+
+/// Whether something else stands at the cell in the one map than in the other.
+fn differ(old: &Grid, new: &Grid, cell: Cell) -> bool
+    requires { HaveSameSides old.now new.now }
+    ensures { IsFalse result → IsInside old.now cell
+        → terrain_of new.now cell ≡ terrain_of old.now cell }
+{
+    old.terrain(cell) != new.terrain(cell)
 }
 
 /// For each component, whether one of the cells is in it or beside it.

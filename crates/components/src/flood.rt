@@ -1,13 +1,13 @@
 //! The flood: cells get labels, each component one of its own.
 
 ghost use Rattle.std.specs.Prelude.{◌≡◌, ℕ, ◌+◌, ◌-◌, ◌*◌, vec_len, ◌<◌, ◌≤◌, ◌↔◌, List, length, replicate, IsTrue, IsFalse, IfOk, IfSome, IfNone};
-ghost use Rattle.moves.specs.Maps.{IsWithinLimits, IsInside, IsPassable, passable_count, place_of};
+ghost use Rattle.moves.specs.Maps.{IsWithinLimits, IsInside, IsPassable, passable_count, place_of, terrain_of};
 ghost use Rattle.moves.specs.Moves.{is_diagonal};
-ghost use Rattle.components.specs.Floods.{IsFresh, IsBalanced, Claimed, IsSpread, IsFlooded, IsScanned, AreStarts};
+ghost use Rattle.components.specs.Floods.{IsFresh, IsFreshOf, IsBalanced, Claimed, IsSpread, IsFlooded, IsScanned, AreStarts};
 ghost use Rattle.components.specs.Marks.{Marks, label_at, with_mark};
 
 use crate::{UNLABELLED, after};
-use moves::{Cell, Grid, Move};
+use moves::{Cell, Grid, Move, Terrain};
 use std::alloc::{AllocError, Global};
 use std::marker::Model;
 
@@ -74,9 +74,20 @@ impl Flood {
         self.labels[place(grid, cell)] == UNLABELLED && grid.passable(cell)
     }
 
-    /// Gives the label to the cell that the move leads to, if it is fresh.
-    fn claim(&mut self, grid: &Grid, from: Cell, by: Move, label: u32)
+    /// Whether that is the cell's terrain, and it has no label yet.
+    fn is_fresh_of(&self, grid: &Grid, class: Terrain, cell: Cell) -> bool
+        requires inside { IsInside grid.now cell }
+        requires labels { length self.now.labels ≡ grid.now.width * grid.now.height }
+        ensures { IsTrue result ↔ IsFreshOf grid.now class self.now cell }
+    {
+        self.labels[place(grid, cell)] == UNLABELLED && grid.terrain(cell) == class
+    }
+
+    /// Gives the label to the cell that the move leads to, if it has none yet and is of the same class: land where the
+    /// move leaves land, water where it leaves water.
+    fn claim(&mut self, grid: &Grid, class: Terrain, from: Cell, by: Move, label: u32)
         requires from { IsPassable grid.now from }
+        requires class { class ≡ terrain_of grid.now from }
         requires straight { IsFalse (is_diagonal by) }
         requires label { label < UNLABELLED }
         requires balanced { IsBalanced grid.now self.old }
@@ -84,7 +95,7 @@ impl Flood {
         ensures balanced { IsBalanced grid.now self.new }
     {
         if let Some(to) = grid.step(from, by) {
-            if self.is_fresh(grid, to) {
+            if self.is_fresh_of(grid, class, to) {
                 self.mark(grid, to, label);
             }
         }
@@ -98,14 +109,15 @@ impl Flood {
         ensures spread { IsSpread grid.now label root self.old self.new }
         ensures flooded { IsFlooded grid.now (label + 1) self.new }
     {
+        let class = grid.terrain(root);
         let mut next = self.count;
         self.mark(grid, root, label);
         while next < self.count {
             let from = self.found[next];
-            self.claim(grid, from, Move::N, label);
-            self.claim(grid, from, Move::E, label);
-            self.claim(grid, from, Move::S, label);
-            self.claim(grid, from, Move::W, label);
+            self.claim(grid, class, from, Move::N, label);
+            self.claim(grid, class, from, Move::E, label);
+            self.claim(grid, class, from, Move::S, label);
+            self.claim(grid, class, from, Move::W, label);
             next += 1;
         }
     }

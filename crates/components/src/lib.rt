@@ -1,7 +1,8 @@
 //! The connected components of a map: which cells paths join.
 //!
 //! No legal move cuts a corner, so the components are those by straight moves, and one flood by straight moves finds
-//! each. The components are numbered by their least cells in row-major order.
+//! each. None leads from land to water or back, so each component is all land or all water. They are numbered by their
+//! least cells in row-major order, those of land and of water together.
 #![tactic(auto)]
 
 ghost use Rattle.std.specs.Prelude.{◌≡◌, ℕ, ◌+◌, ◌<◌, ◌≤◌, [], length, slice_index_or, IfOk, IfSome, IfNone};
@@ -73,7 +74,7 @@ pub fn label(alloc: Global, grid: &Grid) -> Result<Labels, AllocError>
 }
 
 /// The components of a map after an edit, from those before it. Components that no changed cell touches keep their
-/// cells, and the others alone are flooded again: `changed` has every cell that is passable in one of the maps alone.
+/// cells, and the others alone are flooded again: `changed` has every cell whose terrain differs in the two maps.
 ///
 /// # Errors
 ///

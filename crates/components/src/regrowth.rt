@@ -23,7 +23,7 @@ impl Flood {
         edit: &Edit,
     ) -> Result<(Vec<u32>, Vec<Cell>), AllocError>
         requires limits { IsWithinLimits grid.now.width grid.now.height }
-        requires whole { length grid.now.passable ≡ grid.now.width * grid.now.height }
+        requires whole { length grid.now.terrain ≡ grid.now.width * grid.now.height }
         requires scanned { IsScanned grid.now 0 0 self.old }
         requires plan { IsPlan grid.now edit.now }
         ensures scanned { IfOk result (λ parts.

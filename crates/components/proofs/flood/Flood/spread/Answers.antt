@@ -1,9 +1,9 @@
-use Rattle.std.proofs.Common.{◌≡◌, ◌<◌, ◌≤◌, length, get_or, ap, ◌∙◌, arith}
+use Rattle.std.proofs.Common.{◌≡◌, ◌<◌, ◌≤◌, length, get_or, sym, ap, ◌∙◌, arith}
 use Rattle.components.specs.Marks.{Marks}
 use Rattle.components.proofs.Marking.{room_for}
 use Rattle.components.proofs.Spreading.{count_within}
-use Rattle.components.proofs.Flooding.{queued_passable, spreading_start, spreading_more, flooded_more}
-use Rattle.moves.specs.Maps.{IsPassable}
+use Rattle.components.proofs.Flooding.{queued_passable, queued_class, spreading_start, spreading_more, flooded_more}
+use Rattle.moves.specs.Maps.{IsPassable, terrain_of}
 use Rattle.components.proofs.flood.Flood.spread.Goals as goal
 use Rattle.components.proofs.flood.Flood.spread.Goals.{After-index-from}
 
@@ -39,6 +39,29 @@ claim-requires-in-loop-next-2-clause-from c = from_is_passable (goal.at.claim-re
 
 pub claim-requires-in-loop-next-3-clause-from : goal.claim-requires-in-loop-next-3-clause-from
 claim-requires-in-loop-next-3-clause-from c = from_is_passable (goal.at.claim-requires-in-loop-next-3-clause-from c).After-index-from
+
+class_is : (c : After-index-from) → c.terrain-class.result ≡ terrain_of c.args.grid.now c.index-from.result.now
+class_is c =
+    let view = c.self-in-loop-next.view_is in
+    let less : c.loop-next.next < c.loop-next.self.count = omega (arith, ap (λ (m : Marks). m.count) view) in
+    let at = c.index-from.ensures ∙ ap (λ (m : Marks). get_or m.found c.loop-next.next c.index-from.result.now) view in
+    c.terrain-class.ensures.inside c.requires.root.passable.inside
+    ∙ sym (queued_class _ _ c.requires.label _ _ c.requires.root c.requires.flooded _ _ c.loop-next.invariant _ less at)
+
+pub claim-requires-clause-class : goal.claim-requires-clause-class
+claim-requires-clause-class c = class_is (goal.at.claim-requires-clause-class c).After-index-from
+
+pub claim-requires-in-loop-next-clause-class : goal.claim-requires-in-loop-next-clause-class
+claim-requires-in-loop-next-clause-class c =
+    class_is (goal.at.claim-requires-in-loop-next-clause-class c).After-index-from
+
+pub claim-requires-in-loop-next-2-clause-class : goal.claim-requires-in-loop-next-2-clause-class
+claim-requires-in-loop-next-2-clause-class c =
+    class_is (goal.at.claim-requires-in-loop-next-2-clause-class c).After-index-from
+
+pub claim-requires-in-loop-next-3-clause-class : goal.claim-requires-in-loop-next-3-clause-class
+claim-requires-in-loop-next-3-clause-class c =
+    class_is (goal.at.claim-requires-in-loop-next-3-clause-class c).After-index-from
 
 pub loop-next-smaller : goal.loop-next-smaller
 loop-next-smaller c =
