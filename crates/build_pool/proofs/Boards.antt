@@ -10,8 +10,9 @@ use Rattle.std.proofs.lemmas.List.Sums.{sum_by-set}
 use Rattle.std.proofs.lemmas.List.Folds.{sum_by-replicate}
 use Rattle.moves.specs.declared.Cell.{Cell}
 use Rattle.moves.specs.declared.TheConstants.{MAX_PASSABLE}
-use Rattle.moves.specs.Maps.{Map, IsWithinLimits, IsSearchable, place_of, map_with}
+use Rattle.moves.specs.Maps.{Map, IsPassable, IsWithinLimits, IsSearchable, place_of, map_with, passable_count}
 use Rattle.moves.specs.ComponentLaws.{HasJust}
+use Rattle.moves.proofs.LandMaps.{passable_of_land, land_is_like}
 use Rattle.moves.proofs.OneValue.{one_value}
 use Rattle.moves.proofs.RowMajor.{same_cell_from_place, place_inside}
 use Rattle.build_pool.specs.Places.{IsInSides, LieOnMap}
@@ -87,25 +88,35 @@ module _ (cells : List Cell) (width height : ℕ) (marks : List Bool) (upto : �
 -- all cells are marked
 module _ (cells : List Cell) (width height : ℕ) (marks : List Bool) (upto : ℕ) (p : AreMarked cells width height marks upto)
     (all : All (IsInSides width height) cells) (end : upto ≡ length cells) where
-  pub just_marked : HasJust (map_with width height marks) cells
-  just_marked =
-      let whole : take upto cells ≡ cells = take_all upto cells (omega arith) in
+  whole : take upto cells ≡ cells
+  whole = take_all upto cells (omega arith)
+
+  free_if_in : (c : Cell) → Contains cells c → IsPassable (map_with width height marks) c
+  free_if_in c has =
+      let inside : IsInSides width height c = subst (IsInSides width height) has.2 (all has.0 c has.1) in
       record {
-        just_these = λ c. (
-          λ free.
-              let inside : IsInSides width height c = record { column = free.inside.column; row = free.inside.row } in
-              subst (λ xs. Contains xs c) whole ((p.marked c inside).0 free.passable),
-          λ has.
-              let inside : IsInSides width height c = subst (IsInSides width height) has.2 (all has.0 c has.1) in
-              record {
-                inside = record { column = inside.column; row = inside.row };
-                passable = (p.marked c inside).1 (subst (λ xs. Contains xs c) (sym whole) has);
-              },
-        );
+        inside = record { column = inside.column; row = inside.row };
+        passable = ap (λ ms. get_or ms (place_of width c) false) (passable_of_land width height marks)
+            ∙ (p.marked c inside).1 (subst (λ xs. Contains xs c) (sym whole) has);
       }
 
+  in_if_free : (c : Cell) → IsPassable (map_with width height marks) c → Contains cells c
+  in_if_free c free =
+      let inside : IsInSides width height c = record { column = free.inside.column; row = free.inside.row } in
+      subst (λ xs. Contains xs c) whole
+      ((p.marked c inside).0 (sym (ap (λ ms. get_or ms (place_of width c) false) (passable_of_land width height marks)) ∙ free.passable))
+
+  pub just_marked : HasJust (map_with width height marks) cells
+  just_marked = record {
+    just_these = λ c. (in_if_free c, free_if_in c);
+    one_class = λ c d in_c in_d. land_is_like width height marks c d (free_if_in c in_c) (free_if_in d in_d);
+  }
+
   pub few_marked : length cells ≤ MAX_PASSABLE → IsSearchable (map_with width height marks)
-  few_marked few = omega (arith, p.few)
+  few_marked few =
+      let same : passable_count (map_with width height marks) ≡ count_by (λ mark. mark) marks =
+      ap (count_by (λ mark. mark)) (passable_of_land width height marks) in
+      omega (arith, p.few)
 
 -- there is a map that has just these cells
 marks_upto : (cells : List Cell) (width height : ℕ) → All (IsInSides width height) cells

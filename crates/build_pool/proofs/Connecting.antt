@@ -46,7 +46,7 @@ leads_through : (map : Map) (cells : List Cell) → HasJust map cells → (from 
 leads_through map cells just from [] to has same = ((just.just_these from).1 has, same)
 leads_through map cells just from (move ∷ moves) to has way =
     let here = (just.just_these from).1 has in
-    let there = (just.just_these way.0).1 way.3 in
+    let there = just.one_class from way.0 has way.3 in
     (way.0, straight_is_legal map from move way.0 way.2 way.1 here there, leads_through map cells just way.0 moves to way.3 way.4)
 
 pub component_of_just : (map : Map) (cells : List Cell) → HasJust map cells → IsConnected cells → 0 < length cells → AllPairs ComesBefore cells → IsComponent map cells

@@ -11,7 +11,7 @@ use Rattle.moves.specs.Maps.{Map}
 use Rattle.moves.specs.ComponentLaws.{HasJust}
 use Rattle.moves.specs.FirstSetLists.{cell_of, AreFirstSets}
 use Rattle.moves.proofs.OneValue.{one_value}
-use Rattle.moves.proofs.SamePaths.{same_first_move, same_passable_back}
+use Rattle.moves.proofs.SamePaths.{same_first_move, same_classes_back}
 use Rattle.row_store.specs.Rows.{row_at}
 use Rattle.row_store.specs.Pools.{AreMerged, PutsPacked, merged}
 use Rattle.row_store.proofs.RowLaws.{same_just}
@@ -36,7 +36,7 @@ first_over map cells place sets just first = record {
         bytes = first.bytes;
         each = λ k within move. (
           λ has. same_first_move map other same (cell_of cells place) (cell_of cells k) move ((first.each k within move).0 has),
-          λ leads. (first.each k within move).1 (same_first_move other map (same_passable_back map other same) (cell_of cells place) (cell_of cells k) move leads),
+          λ leads. (first.each k within move).1 (same_first_move other map (same_classes_back map other same) (cell_of cells place) (cell_of cells k) move leads),
         );
       });
 }

@@ -60,13 +60,13 @@ module _ (map : Map) (source : Cell) (search : Searched) (found : List (Move × 
     begun_at : (move : Move) → Has new move ↔ IsSeeded map source search found (n + 1) pair.1 move
     begun_at move = (
       λ h. elim ((made move).0 h) [
-        | inl old ↦ begun_past pair.1 move ((begun.each pair.1 step.legal.enters.inside move).0 old)
+        | inl old ↦ begun_past pair.1 move ((begun.each pair.1 step.legal.enters.passable.inside move).0 old)
         | inr e ↦
             let same : pair ≡ (move, pair.1) = λ i. (sym e i, pair.1) in
             (n, omega arith, here ∙ same, subst (λ m. Attains map search source m pair.1) (sym e) step)
       ],
       λ h. elim (cases_lt h.0 n) [
-        | inl low ↦ (made move).1 (inl ((begun.each pair.1 step.legal.enters.inside move).1 (h.0, low, h.2, h.3)))
+        | inl low ↦ (made move).1 (inl ((begun.each pair.1 step.legal.enters.passable.inside move).1 (h.0, low, h.2, h.3)))
         | inr high ↦
             let same = next_neighbour h.0 pair.1 move h.1 high h.2 in
             (made move).1 (inr (ap (λ p. p.0) (sym same)))
@@ -88,7 +88,7 @@ module _ (map : Map) (source : Cell) (search : Searched) (found : List (Move × 
     -- one whose cost it attains has that move
     pub begun_more : IsBegun map source search found (n + 1) (set sets (place_of map.width pair.1) new)
     begun_more =
-        let within = step.legal.enters.inside in
+        let within = step.legal.enters.passable.inside in
         record {
           each = λ cell inside move. elim (same_or_apart map pair.1 cell within inside) [
             | inl e ↦

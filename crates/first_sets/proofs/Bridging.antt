@@ -55,7 +55,7 @@ module _ (map : Map) (masks : List ℕ) (are : AreMoveMasks map masks) (cell : C
   pub stays_within : StaysWithin map.width (map.width * map.height) (get_or masks (place_of map.width cell) 0) (place_of map.width cell)
   stays_within by h =
       let to = legal_of by h in
-      (place_of map.width to.0, beside_target map.width by cell to.0 to.1.target, place_below map to.0 to.1.enters.inside)
+      (place_of map.width to.0, beside_target map.width by cell to.0 to.1.target, place_below map to.0 to.1.enters.passable.inside)
 
 -- ---- keys and costs
 
@@ -118,7 +118,7 @@ module _ (map : Map) (source : Cell) (search : Searched) (has : HasSearched map 
         let at : from ≡ place_of map.width before = same_beside map.width by (place_of map.width to) from (place_of map.width before) beside
         (beside_target map.width by to before way.1.target) in
         let keys = subst (λ p. get_or (keys_of search) p 0 + move_key by ≡ get_or (keys_of search) (place_of map.width to) 0) at same in
-        let less = cost_if_key before to by cost way.1.enters.inside inside e keys in
+        let less = cost_if_key before to by cost way.1.enters.passable.inside inside e keys in
         inr (
           before,
           opposite by,
@@ -144,7 +144,7 @@ module _ (map : Map) (source : Cell) (search : Searched) (has : HasSearched map 
           place_of map.width before,
           of_legal map masks are to inside by (before, back),
           beside_target map.width by to before back.target,
-          key_if_cost before to by step.cost_before back.enters.inside inside step.before_is to_is,
+          key_if_cost before to by step.cost_before back.enters.passable.inside inside step.before_is to_is,
           there,
         )
 

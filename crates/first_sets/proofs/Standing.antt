@@ -17,9 +17,9 @@ use Rattle.moves.specs.FirstSets.{ComesBy}
 use Rattle.moves.proofs.FirstMoves.{best_none}
 use Rattle.moves.proofs.LeastCosts.{same_least}
 use Rattle.grid_search.specs.Searches.{Searched, cost_at, HasCost, HasSearched}
-pub use Rattle.moves.proofs.Terrains.{place_below}
+pub use Rattle.moves.proofs.Landscapes.{place_below}
 pub use Rattle.grid_search.proofs.Preceding.{some_of}
-use Rattle.moves.proofs.Terrains.{same_from_places}
+use Rattle.moves.proofs.Landscapes.{same_from_places}
 use Rattle.grid_search.proofs.Preceding.{stands_before as earlier}
 use Rattle.first_sets.specs.Steps.{Attains, CostsStep}
 
@@ -84,7 +84,7 @@ module _ (map : Map) (source : Cell) (search : Searched) (has : HasSearched map 
 
   pub no_step_to_source : (before : Cell) (last : Move) → Attains map search before last source → ⊥
   no_step_to_source before last step = no_step_back map source step.cost_before last
-      (least_at source (after_step step.cost_before last) step.legal.enters.inside step.to_is)
+      (least_at source (after_step step.cost_before last) step.legal.enters.passable.inside step.to_is)
 
   -- ---- the order
 

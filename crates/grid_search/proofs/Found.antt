@@ -10,7 +10,7 @@ use Rattle.root_cost.proofs.Adding.{key_of-plus_step}
 use Rattle.root_cost.proofs.Keys.{at_most_if_key, same_if_key}
 use Rattle.moves.specs.declared.Cell.{Cell}
 use Rattle.moves.specs.declared.Move.{Move}
-use Rattle.moves.specs.Maps.{Map, IsInside, IsPassable, place_of, passable_count, IsSearchable}
+use Rattle.moves.specs.Maps.{Map, IsInside, IsPassable, passable_of, place_of, passable_count, IsSearchable}
 use Rattle.moves.specs.Moves.{is_diagonal, IsLegal}
 use Rattle.moves.specs.Paths.{IsLeastCost}
 use Rattle.moves.specs.CostTables.{IsCostTable, after_step}
@@ -56,9 +56,9 @@ none_some cost e = cc
 -- a map with a passable cell has some
 pub some_passable : (m : Map) (cell : Cell) → IsPassable m cell → 0 < passable_count m
 some_passable m cell passable =
-    let one : length (cell ∷ []) ≤ passable_count m = marked_once (place_of m.width) (cell ∷ []) m.passable
+    let one : length (cell ∷ []) ≤ passable_count m = marked_once (place_of m.width) (cell ∷ []) (passable_of m)
     (all_pairs_push (λ a b. place_of m.width a ≡ place_of m.width b → ⊥) [] cell (λ i j d h k. absurd (omega arith)) (λ k d h. absurd (omega arith)))
-    (All-push (λ c. get_or m.passable (place_of m.width c) false ≡ true) [] cell (λ k d h. absurd (omega arith)) passable.passable) in
+    (All-push (λ c. get_or (passable_of m) (place_of m.width c) false ≡ true) [] cell (λ k d h. absurd (omega arith)) passable.passable) in
     omega arith
 
 module _ (m : Map) (source : Cell) (keys : List ℕ) (settled : List Cell) (passable : IsPassable m source)
@@ -66,7 +66,7 @@ module _ (m : Map) (source : Cell) (keys : List ℕ) (settled : List Cell) (pass
   pub reached_passable : (cell : Cell) → IsReached m keys cell → IsPassable m cell
   reached_passable cell reached = elim (same_or_apart cell source) [
     | inl same ↦ subst (IsPassable m) (sym same) passable
-    | inr apart ↦ let (a, move, was, legal, e) = p.attained cell reached apart in legal.enters
+    | inr apart ↦ let (a, move, was, legal, e) = p.attained cell reached apart in legal.enters.passable
   ]
 
   -- settled cells are passable and differ in their places
@@ -74,21 +74,21 @@ module _ (m : Map) (source : Cell) (keys : List ℕ) (settled : List Cell) (pass
   apart_settled i j d h k e = p.once i j d h k
       (same_cell_from_place m.width (get_or settled i d) (get_or settled j d) (p.reached i d (omega arith)).inside.column (p.reached j d k).inside.column e)
 
-  passable_settled : All (λ cell. get_or m.passable (place_of m.width cell) false ≡ true) settled
+  passable_settled : All (λ cell. get_or (passable_of m) (place_of m.width cell) false ≡ true) settled
   passable_settled k d h = (reached_passable (get_or settled k d) (p.reached k d h)).passable
 
   pub settled_count : length settled ≤ passable_count m
-  settled_count = marked_once (place_of m.width) settled m.passable apart_settled passable_settled
+  settled_count = marked_once (place_of m.width) settled (passable_of m) apart_settled passable_settled
 
   -- while a reached cell is left, so is a place in the list
   pub room_left : (u : Cell) → IsNext m keys settled u → length settled < passable_count m
   room_left u next =
       let longer : length (settled ++ u ∷ []) ≡ length settled + 1 = length_push settled u in
-      let count : length (settled ++ u ∷ []) ≤ passable_count m = marked_once (place_of m.width) (settled ++ u ∷ []) m.passable
+      let count : length (settled ++ u ∷ []) ≤ passable_count m = marked_once (place_of m.width) (settled ++ u ∷ []) (passable_of m)
       (all_pairs_push (λ a b. place_of m.width a ≡ place_of m.width b → ⊥) settled u apart_settled
       (λ i d h e. next.open_yet (subst (Contains settled)
       (same_cell_from_place m.width (get_or settled i d) u (p.reached i d h).inside.column next.reached.inside.column e) (Contains-get_or settled i d h))))
-      (All-push (λ c. get_or m.passable (place_of m.width c) false ≡ true) settled u passable_settled (reached_passable u next.reached).passable) in
+      (All-push (λ c. get_or (passable_of m) (place_of m.width c) false ≡ true) settled u passable_settled (reached_passable u next.reached).passable) in
       omega arith
 
   -- a key leaves room for one step more
@@ -146,7 +146,7 @@ module _ (m : Map) (source : Cell) (keys : List ℕ) (settled : List Cell) (pass
         let steps : cost.straight + cost.diagonal ≤ MAX_PASSABLE = own.1 in
         let step : key_at m.width keys to ≤ key_at m.width keys from + move_key move = p.relaxed from to move (over from reached) legal in
         let most : move_key move ≤ DIAGONAL_KEY = step_most move in
-        let (next, t, k, few_next) = cost_of_reached to (record { inside = legal.enters.inside; found = omega arith }) in
+        let (next, t, k, few_next) = cost_of_reached to (record { inside = legal.enters.passable.inside; found = omega arith }) in
         let longer : key_of (after_step cost move) ≡ key_of cost + move_key move = key_of-plus_step cost (is_diagonal move) in
         let low : key_of next ≤ key_of (after_step cost move) = rw (k, longer, key_is) step in
         (next, t, at_most_if_key next (after_step cost move) (omega arith) (step_few cost (is_diagonal move) steps) low)

@@ -68,7 +68,7 @@ module _ (map : Map) (source : Cell) (keys : List ℕ) (settled : List Cell) (pa
   relaxed_after a b move now legal = elim (Contains-push_cases settled u a now) [
     | inl was ↦
         let same : key_at map.width after a ≡ key_at map.width keys a = settled_kept a was in
-        let lower : key_at map.width after b ≤ key_at map.width keys b = r.lower b legal.enters.inside in
+        let lower : key_at map.width after b ≤ key_at map.width keys b = r.lower b legal.enters.passable.inside in
         let step : key_at map.width keys b ≤ key_at map.width keys a + move_key move = p.relaxed a b move was legal in
         omega arith
     | inr e ↦

@@ -5,7 +5,7 @@ use Rattle.std.proofs.lemmas.List.{length_push, get_or_push, get_or_append_left,
 use Rattle.std.proofs.lemmas.List.Elements.{All-push, All-contains, Contains-push, Contains-append_left, Contains-push_cases, Contains-get_or}
 use Rattle.std.proofs.lemmas.List.Quantifiers.{all_pairs_push}
 use Rattle.moves.specs.declared.Cell.{Cell}
-use Rattle.moves.specs.Maps.{Map, IsInside, IsPassable, place_of, passable_count}
+use Rattle.moves.specs.Maps.{Map, IsInside, IsPassable, passable_of, place_of, passable_count}
 use Rattle.moves.proofs.TableLaws.{same_or_apart}
 use Rattle.grid_search.specs.declared.queue.Waiting.{Waiting}
 use Rattle.grid_search.specs.Keys.{key_at}
@@ -120,7 +120,7 @@ space_kept map front again space keys straight diagonal = record {
 -- no cell twice
 pub pushed_count : (map : Map) (keys : List ℕ) (settled : List Cell) (level step : ℕ) (queue : Pushes) → IsQueue map keys settled level step queue
     → length queue.pushed ≤ passable_count map
-pushed_count map keys settled level step queue q = marked_once (λ (w : Waiting). place_of map.width w.cell) queue.pushed map.passable
+pushed_count map keys settled level step queue q = marked_once (λ (w : Waiting). place_of map.width w.cell) queue.pushed (passable_of map)
     (λ i j d h k e. q.once i j d h k
     (same_cell_from_place map.width (get_or queue.pushed i d).cell (get_or queue.pushed j d).cell (q.passable i d (omega arith)).inside.column
     (q.passable j d k).inside.column e))
@@ -160,14 +160,14 @@ module _ (map : Map) (keys : List ℕ) (settled : List Cell) (level step : ℕ) 
       let more : Waiting = record { key = level + step; cell = to } in
       let longer : length (queue.pushed ++ more ∷ []) ≡ length queue.pushed + 1 = length_push queue.pushed more in
       let count : length (queue.pushed ++ more ∷ []) ≤ passable_count map = marked_once (λ (w : Waiting). place_of map.width w.cell)
-      (queue.pushed ++ more ∷ []) map.passable
+      (queue.pushed ++ more ∷ []) (passable_of map)
       (all_pairs_push (λ a b. place_of map.width a.cell ≡ place_of map.width b.cell → ⊥) queue.pushed more
       (λ i j d h k e. q.once i j d h k
       (same_cell_from_place map.width (get_or queue.pushed i d).cell (get_or queue.pushed j d).cell (q.passable i d (omega arith)).inside.column
       (q.passable j d k).inside.column e))
       (λ i d h e. not_in queue q (get_or queue.pushed i d) (Contains-get_or queue.pushed i d h)
       (same_cell_from_place map.width (get_or queue.pushed i d).cell to (q.passable i d h).inside.column passable.inside.column e)))
-      (All-push (λ w. get_or map.passable (place_of map.width w.cell) false ≡ true) queue.pushed more
+      (All-push (λ w. get_or (passable_of map) (place_of map.width w.cell) false ≡ true) queue.pushed more
       (λ k d h. (q.passable k d h).passable) passable.passable) in
       omega arith
 

@@ -29,7 +29,7 @@ module _ (map : Map) (from : Cell) (key : ℕ) where
     moved = λ cell move h legal. elim (which move h) [
       | inl first ↦
           let low : key_at map.width b cell ≤ key + move_key move = r.moved cell move first legal in
-          let k : key_at map.width c cell ≤ key_at map.width b cell = s.lower cell legal.enters.inside in
+          let k : key_at map.width c cell ≤ key_at map.width b cell = s.lower cell legal.enters.passable.inside in
           omega arith
       | inr second ↦ s.moved cell move second legal
     ];
@@ -60,7 +60,7 @@ module _ (map : Map) (from : Cell) (key : ℕ) where
     pub relaxed_set : (place step : ℕ) → place ≡ place_of map.width to → step ≡ move_key by → IsLegal map from by to → map.width * map.height ≤ length keys
         → key + step < get_or keys place NO_KEY → IsRelaxed map from key (OnlyMove by) keys (set keys place (key + step))
     relaxed_set place step here is_step legal fits less =
-        let inside : place_of map.width to < map.width * map.height = place_inside map.width map.height to legal.enters.inside.column legal.enters.inside.row in
+        let inside : place_of map.width to < map.width * map.height = place_inside map.width map.height to legal.enters.passable.inside.column legal.enters.passable.inside.row in
         let there : get_or (set keys place (key + step)) place NO_KEY ≡ key + step = get_or-set_same keys place (key + step) NO_KEY (omega arith) in
         record {
           lower = λ b within. elim (cases_eq (place_of map.width b) place) [
@@ -83,7 +83,7 @@ module _ (map : Map) (from : Cell) (key : ℕ) where
               omega arith;
           from_there = λ b within. elim (cases_eq (place_of map.width b) place) [
             | inl same ↦
-                let cell : to ≡ b = same_cell_from_place map.width to b legal.enters.inside.column within.column (sym (same ∙ here)) in
+                let cell : to ≡ b = same_cell_from_place map.width to b legal.enters.passable.inside.column within.column (sym (same ∙ here)) in
                 inr (
                   by,
                   subst (λ c. IsLegal map from by c) cell legal,
@@ -103,7 +103,7 @@ module _ (map : Map) (from : Cell) (key : ℕ) where
         let there : other ≡ to = same_target from by other to legal.target target in
         let legal_to : IsLegal map from by to = subst (λ cell. IsLegal map from by cell) there legal in
         let at : place ≡ place_of map.width to = here ∙ ap (λ n. place_of n to) w in
-        let inside : place_of map.width to < map.width * map.height = place_inside map.width map.height to legal_to.enters.inside.column legal_to.enters.inside.row in
+        let inside : place_of map.width to < map.width * map.height = place_inside map.width map.height to legal_to.enters.passable.inside.column legal_to.enters.passable.inside.row in
         let read : get_or keys place 0 ≡ get_or keys place NO_KEY = get_or_default keys place 0 NO_KEY (omega arith) in
         relaxed_set place step at is_step legal_to fits (omega arith)
 

@@ -1,11 +1,11 @@
 -- A plain scan: what holds while it looks for the least open cell, and between its turns.
 use Rattle.std.proofs.Common.{◌≡◌, ℕ, ◌+◌, ◌*◌, ◌<◌, ◌≤◌, ◌⊎◌, Bool, true, false, List, [], ◌∷◌, ◌++◌, length, get_or, take, set, refl, sym, ap, ◌∙◌, subst, inl, inr, arith, Option, Some, None, MatchOption, Contains, get_or-set_same, get_or-set_other}
 use Rattle.std.proofs.lemmas.Bool.{cases_eq, cases_lt}
-use Rattle.std.proofs.lemmas.List.{take_more_set, length-take-le, length-set}
+use Rattle.std.proofs.lemmas.List.{take_more_set, length-map, length-take-le, length-set}
 use Rattle.std.proofs.lemmas.List.Elements.{Contains-push, Contains-append_left, Contains-push_cases}
 use Rattle.std.proofs.lemmas.List.Sums.{count_by-le-length}
 use Rattle.moves.specs.declared.Cell.{Cell}
-use Rattle.moves.specs.Maps.{Map, IsInside, IsPassable, place_of, cell_at, passable_count, IsSearchable}
+use Rattle.moves.specs.Maps.{Map, IsInside, IsPassable, is_passable, passable_of, place_of, cell_at, passable_count, IsSearchable}
 use Rattle.moves.proofs.TableLaws.{same_or_apart}
 use Rattle.grid_search.specs.Keys.{key_at}
 use Rattle.grid_search.specs.Scanning.{IsLeastOpen, AreNoneOpen}
@@ -186,13 +186,13 @@ module _ (map : Map) (source : Cell) (keys : List ℕ) (done : List Bool) (order
         let cut : length (take count order) ≡ count = length-take-le count order s.counted in
         omega arith
 
-    module _ (whole : length map.passable ≡ map.width * map.height) (room : map.width * map.height ≤ length order)
+    module _ (whole : length map.terrain ≡ map.width * map.height) (room : map.width * map.height ≤ length order)
         (long : map.width * map.height ≤ length done) where
       pub room_in_order : count < length order
       room_in_order =
           let left : count < passable_count map = room_next in
-          let few : passable_count map ≤ length map.passable = count_by-le-length (λ mark. mark) map.passable in
-          omega arith
+          let few : passable_count map ≤ length (passable_of map) = count_by-le-length (λ mark. mark) (passable_of map) in
+          omega (arith, length-map map.terrain is_passable)
 
       pub scanning_more : (after : List ℕ) (key : ℕ) (cell : Cell) → cell ≡ cell_at map.width place → key ≡ get_or keys place NO_KEY
           → IsRelaxed map cell key EveryMove keys after

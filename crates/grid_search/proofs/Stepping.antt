@@ -80,7 +80,7 @@ module _ (map : Map) (from : Waiting) where
 
     pub place_fits : place < length front.keys
     place_fits =
-        let inside : place_of map.width to < map.width * map.height = place_inside map.width map.height to legal_to.enters.inside.column legal_to.enters.inside.row in
+        let inside : place_of map.width to < map.width * map.height = place_inside map.width map.height to legal_to.enters.passable.inside.column legal_to.enters.passable.inside.row in
         let p : place ≡ place_of map.width to = at in
         let fits : map.width * map.height ≤ length front.keys = ready.space.fits in
         omega arith
@@ -110,7 +110,7 @@ module _ (map : Map) (from : Waiting) where
           let found : from.key + n < NO_KEY = omega arith in
           let F : ℕ → ℕ → Type 0 = λ p k. AreQueues map (set front.keys p (from.key + k)) settled from.key n
           (push_to queue (record { key = from.key + k; cell = to })) other_step other in
-          let done : F (place_of map.width to) n = pushed map front.keys settled from.key n to legal_to.enters lower ready.space.fits found other_step queue other q in
+          let done : F (place_of map.width to) n = pushed map front.keys settled from.key n to legal_to.enters.passable lower ready.space.fits found other_step queue other q in
           subst (λ k. F place k) (sym e) (subst (λ p. F p n) (sym at) done)
 
       room_now : (n other_step : ℕ) (settled : List Cell) (queue other : Pushes) → step ≡ n → passable_count map ≤ queue.room
@@ -118,7 +118,7 @@ module _ (map : Map) (from : Waiting) where
       room_now n other_step settled queue other e room q =
           let r : get_or front.keys place 0 ≡ key_at map.width front.keys to = read in
           let lower : from.key + n < key_at map.width front.keys to = omega arith in
-          let count : length queue.pushed < passable_count map = room_for map front.keys settled from.key n to legal_to.enters lower queue q.first in
+          let count : length queue.pushed < passable_count map = room_for map front.keys settled from.key n to legal_to.enters.passable lower queue q.first in
           omega arith
 
       module _ (straight : diagonal ≡ false) where

@@ -105,16 +105,18 @@ module _ (map : Map) (cells : List Cell) (near : List (List ℕ)) (source : ℕ)
   legal_of from move to step = record {
     target = step.target;
     leaves = (table.just.just_these from).1 step.leaves;
-    enters = (table.just.just_these to).1 step.enters;
-    corners = λ diagonal. let c = step.corners diagonal in ((table.just.just_these _).1 c.0, (table.just.just_these _).1 c.1);
+    enters = table.just.one_class from to step.leaves step.enters;
+    corners = λ diagonal.
+        let c = step.corners diagonal in
+        (table.just.one_class from _ step.leaves c.0, table.just.one_class from _ step.leaves c.1);
   }
 
   pub step_if_legal : (from : Cell) (move : Move) (to : Cell) → IsLegal map from move to → IsStep cells from move to
   step_if_legal from move to legal = record {
     target = legal.target;
     leaves = (table.just.just_these from).0 legal.leaves;
-    enters = (table.just.just_these to).0 legal.enters;
-    corners = λ diagonal. let c = legal.corners diagonal in ((table.just.just_these _).0 c.0, (table.just.just_these _).0 c.1);
+    enters = (table.just.just_these to).0 legal.enters.passable;
+    corners = λ diagonal. let c = legal.corners diagonal in ((table.just.just_these _).0 c.0.passable, (table.just.just_these _).0 c.1.passable);
   }
 
   -- where a legal move from a place leads

@@ -8,7 +8,8 @@ use Rattle.std.proofs.lemmas.Bool.{cases_eq}
 use Rattle.std.specs.Int.{from_bool}
 use Rattle.moves.specs.declared.Cell.{Cell}
 use Rattle.moves.specs.declared.TheConstants.{MAX_PASSABLE}
-use Rattle.moves.specs.Maps.{IsWithinLimits, IsSearchable, cell_at}
+use Rattle.moves.specs.Maps.{IsWithinLimits, IsSearchable, cell_at, passable_of, place_of}
+use Rattle.moves.proofs.LandMaps.{passable_if_marked, passable_of_land}
 use Rattle.moves.proofs.RowMajor.{place_of_cell_at, row_inside}
 use Rattle.scen_run.specs.Made.{formula_map, is_blocked_at, is_free_at, IsTooMany}
 
@@ -63,12 +64,15 @@ module _ (width seed place free : ℕ) (cells : List Bool) (p : IsMadeTo width s
 
   module _ (height : ℕ) (limits : IsWithinLimits width height) where
     abbrev all : List Bool
-    all = (formula_map width height seed).passable
+    all = map (is_free_at width seed) (range_with_len 0 (width * height))
 
-    pub made_all : place ≡ width * height → (cells ≡ all) × (counted all ≤ MAX_PASSABLE)
+    marked : passable_of (formula_map width height seed) ≡ all
+    marked = passable_of_land width height all
+
+    pub made_all : place ≡ width * height → (cells ≡ all) × IsSearchable (formula_map width height seed)
     made_all end =
         let same : cells ≡ all = p.cells_are ∙ ap (λ n. map (is_free_at width seed) (range_with_len 0 n)) end in
-        (same, let counts = p.counts ∙ ap counted same in let few = p.few in omega arith)
+        (same, let counts = p.counts ∙ ap counted (same ∙ sym marked) in let few = p.few in omega arith)
 
     module _ (inside : place < width * height) (passable : is_free_at width seed place ≡ true) (full : free ≡ MAX_PASSABLE) where
       cells_before : take place all ≡ cells
@@ -90,12 +94,13 @@ module _ (width seed place free : ℕ) (cells : List Bool) (p : IsMadeTo width s
                 let part = sum_by-take-le (λ (b : Bool). cond {A = ℕ} b 1 0) all (place + 1) in
                 let same = ap counted cells_with in
                 let counts = p.counts in
-                omega (arith, more, part, same, counts, full, few),
+                omega (arith, more, part, same, counts, full, few, ap counted marked),
             record {
-              passable = record {
-                inside = record { column = column; row = row_inside width height (cell_at width place) (subst (λ n. n < width * height) (sym at) inside) };
-                passable = ap (λ n. get_or all n false) at ∙ get_or-map-range_with_len (is_free_at width seed) 0 (width * height) place place false inside (zero-add place) ∙ passable;
-              };
-              before = ap (λ n. counted (take n all)) at ∙ ap counted cells_before ∙ sym p.counts ∙ full;
+              passable = passable_if_marked width height all (cell_at width place)
+                  (record { column = column; row = row_inside width height (cell_at width place) (subst (λ n. n < width * height) (sym at) inside) })
+                  (ap (λ n. get_or all n false) at
+                  ∙ get_or-map-range_with_len (is_free_at width seed) 0 (width * height) place place false inside (zero-add place) ∙ passable);
+              before = ap (λ marks. counted (take (place_of width (cell_at width place)) marks)) marked
+                  ∙ ap (λ n. counted (take n all)) at ∙ ap counted cells_before ∙ sym p.counts ∙ full;
             },
           )

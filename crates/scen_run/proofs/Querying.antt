@@ -11,7 +11,7 @@ use Rattle.std.proofs.lemmas.List.Sums.{sum_by_push}
 use Rattle.rayon.specs.Shown.{run-append}
 use Rattle.root_cost.specs.declared.Cost.{Cost}
 use Rattle.moves.specs.declared.Cell.{Cell}
-use Rattle.moves.specs.Maps.{Map, IsPassable, IsWithinLimits, cell_at, passable_cells}
+use Rattle.moves.specs.Maps.{Map, IsPassable, IsWithinLimits, cell_at, passable_cells, passable_of}
 use Rattle.moves.proofs.RowMajor.{place_of_cell_at, row_inside, passable_cells_listed}
 use Rattle.versions.specs.Databases.{Versioned}
 use Rattle.versions.specs.Queries.{AreEnds}
@@ -24,7 +24,7 @@ use Rattle.scen_run.specs.Inside.{IsWalkCost, IsFewSteps, IsWithinQueries, total
 -- ---- the passable cells
 
 abbrev is_free : Map → ℕ → Bool
-is_free m place = get_or m.passable place false
+is_free m place = get_or (passable_of m) place false
 
 -- the passable cells before a place
 abbrev pub cells_to : Map → ℕ → List Cell
@@ -70,7 +70,7 @@ module _ (m : Map) (place : ℕ) where
   ]
 
 -- where all places were seen
-pub cells_all : (m : Map) → length m.passable ≡ m.width * m.height → (place : ℕ) → place ≡ m.width * m.height → cells_to m place ≡ passable_cells m
+pub cells_all : (m : Map) → length m.terrain ≡ m.width * m.height → (place : ℕ) → place ≡ m.width * m.height → cells_to m place ≡ passable_cells m
 cells_all m whole place end = ap (cells_to m) (end ∙ sym whole)
 
 -- the same of a cell and a list that the code has
@@ -91,11 +91,11 @@ module _ (m : Map) (w h place : ℕ) (cells : List Cell) (same_w : w ≡ m.width
         let within : place < m.width * m.height = let p = all_places in omega arith in
         are ∙ sym (cells_same m place limits within (λ passable. blocked (subst (IsPassable m) (sym at) passable)))
 
-  pub all_seen : length m.passable ≡ m.width * m.height → place ≡ w * h → cells ≡ passable_cells m
+  pub all_seen : length m.terrain ≡ m.width * m.height → place ≡ w * h → cells ≡ passable_cells m
   all_seen whole end = are ∙ cells_all m whole place (end ∙ all_places)
 
 -- a numbered cell is passable
-pub numbered_passable : (m : Map) → IsWithinLimits m.width m.height → length m.passable ≡ m.width * m.height
+pub numbered_passable : (m : Map) → IsWithinLimits m.width m.height → length m.terrain ≡ m.width * m.height
     → 0 < length (passable_cells m) → (number : ℕ) → IsPassable m (cell_numbered m number)
 numbered_passable m limits whole some number =
     ((passable_cells_listed m limits whole).just_these (cell_numbered m number)).0
@@ -103,11 +103,11 @@ numbered_passable m limits whole some number =
 
 -- the ends of a query are passable
 pub ends_passable : (m : Map) (cells : List Cell) (grid : Map) (seed query : ℕ) (start goal : Cell) → grid ≡ m
-    → IsWithinLimits grid.width grid.height → length grid.passable ≡ grid.width * grid.height → cells ≡ passable_cells m → 0 < length cells
+    → IsWithinLimits grid.width grid.height → length grid.terrain ≡ grid.width * grid.height → cells ≡ passable_cells m → 0 < length cells
     → start ≡ start_of m seed query → goal ≡ goal_of m query → AreEnds m start goal
 ends_passable m cells grid seed query start goal same limits whole are some start-is goal-is =
     let inside = subst (λ g. IsWithinLimits g.width g.height) same limits in
-    let long = subst (λ g. length g.passable ≡ g.width * g.height) same whole in
+    let long = subst (λ g. length g.terrain ≡ g.width * g.height) same whole in
     let cell = subst (λ cs. 0 < length cs) are some in
     record {
       leaves = subst (IsPassable m) (sym start-is) (numbered_passable m inside long cell _);

@@ -25,7 +25,7 @@ pub enum Made {
 }
 
 /// The map of these sides in which the cell in column x and row y is blocked exactly where
-/// 7x² + 13y² + 5xy + seed · (x + 2y + 1) leaves 9 or 10 when it is divided by 11.
+/// 7x² + 13y² + 5xy + seed · (x + 2y + 1) leaves 9 or 10 when it is divided by 11. The other cells are land.
 ///
 /// Each side is from 1 to 4,096, and the map has at most 1,048,576 cells.
 ///

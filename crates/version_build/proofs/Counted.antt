@@ -9,7 +9,7 @@ use Rattle.std.proofs.lemmas.List.Sorted.{length_permutation}
 use Rattle.std.proofs.lemmas.List.Sums.{sum_by-cons, sum_by_more, sum_by-take-le, length-filter, count_by-le-length}
 use Rattle.moves.specs.declared.Cell.{Cell}
 use Rattle.moves.specs.declared.TheConstants.{MAX_CELLS}
-use Rattle.moves.specs.Maps.{Map, IsWithinLimits, IsPassable, IsSearchable, ComesBefore, cell_at, passable_cells, passable_count}
+use Rattle.moves.specs.Maps.{Map, IsWithinLimits, IsPassable, IsSearchable, ComesBefore, cell_at, is_passable, passable_cells, passable_count, passable_of}
 use Rattle.moves.specs.Components.{IsComponent, IsComponentList, first_of}
 use Rattle.moves.proofs.RowMajor.{before_differs, contains_later, passable_cells_listed}
 use Rattle.moves.proofs.ComponentLaws.{components_are_connected}
@@ -77,12 +77,14 @@ marks_again marks =
 
 count_listed : (m : Map) → length (passable_cells m) ≡ passable_count m
 count_listed m =
-    let p : ℕ → Bool = λ place. get_or m.passable place false in
-    let places = range_with_len 0 (length m.passable) in
+    let p : ℕ → Bool = λ place. get_or (passable_of m) place false in
+    let places = range_with_len 0 (length m.terrain) in
+    let again : map p places ≡ passable_of m =
+    ap (λ n. map p (range_with_len 0 n)) (sym (length-map m.terrain is_passable)) ∙ marks_again (passable_of m) in
     length-map (filter p places) (cell_at m.width) ∙ length-filter p places ∙ sym (sum_by_map (λ (mark : Bool). cond {A = ℕ} mark 1 0) p places)
-    ∙ ap (count_by (λ mark. mark)) (marks_again m.passable)
+    ∙ ap (count_by (λ mark. mark)) again
 
-module _ (m : Map) (limits : IsWithinLimits m.width m.height) (whole : length m.passable ≡ m.width * m.height) (components : List (List Cell)) (listed : IsComponentList m components) where
+module _ (m : Map) (limits : IsWithinLimits m.width m.height) (whole : length m.terrain ≡ m.width * m.height) (components : List (List Cell)) (listed : IsComponentList m components) where
   disjoint : AreDisjoint components
   disjoint i j d less within x p q =
       let same = same_component m (get_or components i d) (get_or components j d) x (listed.each i d (omega arith)) (listed.each j d within) p q in
@@ -107,7 +109,7 @@ module _ (m : Map) (limits : IsWithinLimits m.width m.height) (whole : length m.
       omega (arith, length_permutation _ _ same, length_joined components, count_listed m)
 
   pub count_small : passable_count m ≤ MAX_CELLS
-  count_small = omega (arith, count_by-le-length (λ (mark : Bool). mark) m.passable, limits.cells)
+  count_small = omega (arith, count_by-le-length (λ (mark : Bool). mark) (passable_of m), length-map m.terrain is_passable, limits.cells)
 
   module _ (label : ℕ) (less : label < length components) where
     pub length_within : sum_by length (take label components) + length (component_at components label) ≤ passable_count m

@@ -110,7 +110,7 @@ sharing_next value order before after items now None kept counted upto cells som
     ]
 
 module _ (order : OrderKind) (before after : List (List Cell)) (comps : List (Option Comp)) (kept upto : ℕ) (p : IsSharing order before after comps kept upto)
-    (m : Map) (limits : IsWithinLimits m.width m.height) (whole : length m.passable ≡ m.width * m.height) (listed : IsComponentList m after) where
+    (m : Map) (limits : IsWithinLimits m.width m.height) (whole : length m.terrain ≡ m.width * m.height) (listed : IsComponentList m after) where
   -- no more cells are kept than are passable
   pub room_shared : upto < length after → kept + length (component_at after upto) ≤ passable_count m
   room_shared less = omega (arith, p.counted, kept_and_built before (take upto after), length_within m limits whole after listed upto less)

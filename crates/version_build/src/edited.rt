@@ -1,7 +1,7 @@
 //! Labels of a map that has the sides of a former version's.
 
 ghost use Rattle.std.specs.Prelude.{◌≡◌, ◌+◌, ◌<◌, ◌≤◌, IfOk, OnOk, IsTrue, IsFalse, ◌↔◌};
-ghost use Rattle.moves.specs.Maps.{IsPassable};
+ghost use Rattle.moves.specs.Maps.{IsInside, terrain_of};
 ghost use Rattle.moves.specs.Components.{IsComponentList};
 ghost use Rattle.components.specs.Edits.{HaveSameSides, AreChanged};
 ghost use Rattle.version_build.specs.Edited.{AreChangedBefore};
@@ -49,7 +49,7 @@ fn have_same_sides(a: &Grid, b: &Grid) -> bool
     a.width() == b.width() && a.height() == b.height()
 }
 
-/// The cells that are passable in one of the maps alone, in row-major order.
+/// The cells at which something else stands in the one map than in the other, in row-major order.
 fn changed_cells(alloc: Global, old: &Grid, new: &Grid) -> Result<Vec<Cell>, AllocError>
     requires { HaveSameSides old.now new.now }
     ensures { IfOk result (λ changed. AreChanged old.now new.now changed.items) }
@@ -79,9 +79,10 @@ fn push_changed(old: &Grid, new: &Grid, row: u16, changed: &mut Vec<Cell>) -> Re
     Ok(())
 }
 
-/// Whether the cell is passable in one of the maps alone.
+/// Whether something else stands at the cell in the one map than in the other.
 fn differ(old: &Grid, new: &Grid, cell: Cell) -> bool
-    ensures { IsFalse result → IsPassable old.now cell ↔ IsPassable new.now cell }
+    requires { HaveSameSides old.now new.now }
+    ensures { IsFalse result → IsInside old.now cell → terrain_of new.now cell ≡ terrain_of old.now cell }
 {
-    old.passable(cell) != new.passable(cell)
+    old.terrain(cell) != new.terrain(cell)
 }

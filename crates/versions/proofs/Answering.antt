@@ -3,7 +3,7 @@ use Rattle.std.proofs.Common.{◌≡◌, ◌≢◌, ◌⊎◌, ℕ, ◌<◌, ◌
 use Rattle.std.proofs.lemmas.Bool.{cases_lt, cases_eq, cases_Bool}
 use Rattle.moves.specs.declared.Cell.{Cell}
 use Rattle.moves.specs.declared.Move.{Move}
-use Rattle.moves.specs.Maps.{Map, IsInside, IsPassable, place_of, passable_count}
+use Rattle.moves.specs.Maps.{Map, IsInside, IsPassable, passable_count, passable_of, place_of}
 use Rattle.moves.specs.Paths.{Reaches}
 use Rattle.components.specs.Groups.{IsLabelOf}
 use Rattle.versions.specs.declared.version.Totals.{Totals}
@@ -23,7 +23,7 @@ data Stand (map : Map) (cell : Cell) : Type 0 where
 
 stand_inside : (map : Map) (cell : Cell) → IsInside map cell → Stand map cell
 stand_inside map cell inside =
-    elim (cases_Bool (slice_index_or map.passable (place_of map.width cell) false)) [
+    elim (cases_Bool (slice_index_or (passable_of map) (place_of map.width cell) false)) [
       | inl is ↦ free (record { inside = inside; passable = is })
       | inr is ↦ closed inside (λ passable. let clash : true ≡ false = sym passable.passable ∙ is in absurd cc)
     ]

@@ -24,6 +24,7 @@ use Rattle.cell_order.specs.declared.OrderKind.{OrderKind}
 use Rattle.moves.specs.FirstSetLists.{cell_of}
 use Rattle.row_store.specs.Rows.{row_at, AreRows}
 use Rattle.row_store.specs.Comps.{Comp, IsPlaceOf}
+use Rattle.row_store.proofs.RowLaws.{HasJust-permuted}
 use Rattle.versions.specs.Spelled.{IsKept, Spells, IsWalkAmong}
 use Rattle.versions.specs.Databases.{comp_at, component_at, IsDatabase}
 use Rattle.versions.specs.Answers.{IsSpelled, IsWalk, WalksAreBest}
@@ -124,12 +125,8 @@ module _ (map : Map) (order : OrderKind) (comps : List Comp) (database : IsDatab
       let begins = kept_cells label within start at.2 in
       let ends = cells_kept label within goal ((component.whole start goal begins).1 reaches) in
       let part = whole.rows.map in
-      let just : HasJust part (component_at database.components label) = record {
-        just_these = λ cell. (
-          λ passable. kept_cells label within cell ((whole.rows.just.just_these cell).0 passable),
-          λ h. (whole.rows.just.just_these cell).1 (cells_kept label within cell h),
-        );
-      } in
+      let just : HasJust part (component_at database.components label) =
+      HasJust-permuted part (component_at database.components label) comp.cells (same_cells_kept label within) whole.rows.just in
       let among = walk comp.cells comp.rows whole.rows start goal at.2 ends in (
         among.moves,
         record {

@@ -5,12 +5,13 @@ use Rattle.root_cost.specs.Costs.{IsAtMost, plus_step}
 use Rattle.moves.specs.declared.Cell.{Cell}
 use Rattle.moves.specs.declared.Move.{Move}
 use Rattle.moves.specs.declared.Move.TheVariants.{N, NE, E, SE, S, SW, W, NW}
-use Rattle.moves.specs.Maps.{Map, IsPassable, map_with, place_of}
+use Rattle.moves.specs.Maps.{Map, IsPassable, IsLike, map_with, place_of}
 use Rattle.moves.specs.Moves.{is_diagonal, IsLegal}
 use Rattle.moves.specs.Paths.{Leads, cost_of, IsBest}
 use Rattle.moves.specs.FirstSets.{IsFirstMove}
 use Rattle.moves.specs.MoveSets.{Has}
 use Rattle.moves.proofs.CostsOfPaths.{cost_of-cons}
+use Rattle.moves.proofs.LandMaps.{land_is_like, marked_if_passable, passable_if_marked}
 use Rattle.moves.proofs.MoveLaws.{same_cell}
 use Rattle.moves.proofs.MovesInSets.{Has-all, Has-one}
 use Rattle.moves.proofs.StraightPaths.{straight_is_legal}
@@ -33,7 +34,8 @@ three (suc (suc (suc x))) less = absurd (omega arith)
 pub free : (a b c : Bool) (x : ℕ) → x < 3 → get_or (a ∷ b ∷ c ∷ []) x false ≡ true → IsPassable (row_of a b c) (cell x)
 free a b c x less is =
     let place : place_of 3 (cell x) ≡ x = omega arith in
-    record { inside = record { column = less; row = omega arith }; passable = ap (λ p. get_or (a ∷ b ∷ c ∷ []) p false) place ∙ is }
+    passable_if_marked 3 1 (a ∷ b ∷ c ∷ []) (cell x) (record { column = less; row = omega arith })
+    (ap (λ p. get_or (a ∷ b ∷ c ∷ []) p false) place ∙ is)
 
 -- a passable cell is one of the row
 pub record IsFree (a b c : Bool) (d : Cell) : Type 0 where
@@ -48,14 +50,21 @@ of_free a b c d passable =
     record {
       below = passable.inside.column;
       is = same_cell d (cell d.x) refl flat;
-      passable = ap (λ p. get_or (a ∷ b ∷ c ∷ []) p false) (sym place) ∙ passable.passable;
+      passable = ap (λ p. get_or (a ∷ b ∷ c ∷ []) p false) (sym place) ∙ marked_if_passable 3 1 (a ∷ b ∷ c ∷ []) d passable;
     }
+
+-- all that are passable are land
+pub alike : (a b c : Bool) (d e : Cell) → IsPassable (row_of a b c) d → IsPassable (row_of a b c) e → IsLike (row_of a b c) d e
+alike a b c d e free also = land_is_like 3 1 (a ∷ b ∷ c ∷ []) d e free also
 
 pub all_free : (x : ℕ) → x < 3 → IsPassable free_row (cell x)
 all_free zero less = free true true true 0 less refl
 all_free (suc zero) less = free true true true 1 less refl
 all_free (suc (suc zero)) less = free true true true 2 less refl
 all_free (suc (suc (suc x))) less = absurd (omega arith)
+
+all_alike : (x y : ℕ) → x < 3 → y < 3 → IsLike free_row (cell x) (cell y)
+all_alike x y l m = alike true true true (cell x) (cell y) (all_free x l) (all_free y m)
 
 -- ---- moves and paths
 
@@ -65,9 +74,9 @@ pub step : (a b c : Bool) (from : Cell) (move : Move) (to : Cell) → IsLegal (r
 step a b c from N to legal = absurd (omega (arith, legal.target.1, legal.leaves.inside.row))
 step a b c from NE to legal = absurd (omega (arith, legal.target.1, legal.leaves.inside.row))
 step a b c from E to legal = inl (refl, legal.target.0)
-step a b c from SE to legal = absurd (omega (arith, legal.target.1, legal.enters.inside.row))
-step a b c from S to legal = absurd (omega (arith, legal.target.1, legal.enters.inside.row))
-step a b c from SW to legal = absurd (omega (arith, legal.target.1, legal.enters.inside.row))
+step a b c from SE to legal = absurd (omega (arith, legal.target.1, legal.enters.passable.inside.row))
+step a b c from S to legal = absurd (omega (arith, legal.target.1, legal.enters.passable.inside.row))
+step a b c from SW to legal = absurd (omega (arith, legal.target.1, legal.enters.passable.inside.row))
 step a b c from W to legal = inr (refl, legal.target.0)
 step a b c from NW to legal = absurd (omega (arith, legal.target.1, legal.leaves.inside.row))
 
@@ -137,7 +146,8 @@ east zero x less = (all_free x (omega arith), ap cell (let e : x ≡ x + 0 = ome
 east (suc n) x less =
     let e : x + 1 + n ≡ x + suc n = omega arith in (
       cell (x + 1),
-      straight_is_legal free_row (cell x) E (cell (x + 1)) refl (refl, refl) (all_free x (omega arith)) (all_free (x + 1) (omega arith)),
+      straight_is_legal free_row (cell x) E (cell (x + 1)) refl (refl, refl) (all_free x (omega arith))
+          (all_alike x (x + 1) (omega arith) (omega arith)),
       subst (λ y. Leads free_row (cell (x + 1)) (replicate n E) (cell y)) e (east n (x + 1) (omega arith)),
     )
 
@@ -145,7 +155,8 @@ pub west : (n x : ℕ) → x + n < 3 → Leads free_row (cell (x + n)) (replicat
 west zero x less = (all_free (x + 0) less, ap cell (let e : x + 0 ≡ x = omega arith in e))
 west (suc n) x less = (
   cell (x + n),
-  straight_is_legal free_row (cell (x + suc n)) W (cell (x + n)) refl (omega arith, refl) (all_free (x + suc n) less) (all_free (x + n) (omega arith)),
+  straight_is_legal free_row (cell (x + suc n)) W (cell (x + n)) refl (omega arith, refl) (all_free (x + suc n) less)
+      (all_alike (x + suc n) (x + n) less (omega arith)),
   west n x (omega arith),
 )
 

@@ -6,7 +6,7 @@ use Rattle.std.proofs.lemmas.Nat.Bits.{bit_at-pow_other}
 use Rattle.moves.specs.declared.Cell.{Cell}
 use Rattle.moves.specs.declared.Move.{Move}
 use Rattle.moves.specs.declared.Move.TheVariants.{E, W}
-use Rattle.moves.specs.Maps.{Map, IsPassable, ComesBefore, has_cell, map_with, place_of}
+use Rattle.moves.specs.Maps.{Map, IsPassable, IsLike, ComesBefore, has_cell, map_with, place_of}
 use Rattle.moves.specs.Moves.{IsLegal}
 use Rattle.moves.specs.MoveSets.{Has as HasMove}
 use Rattle.moves.specs.Paths.{Leads, Reaches}
@@ -16,7 +16,9 @@ use Rattle.moves.specs.FirstSets.{IsFirstMove}
 use Rattle.moves.specs.FirstSetLists.{cell_of}
 use Rattle.moves.specs.Rectangles.{IsOnMap}
 use Rattle.moves.proofs.Connected.{connected_in_order, has_cell-from_contains}
+use Rattle.moves.proofs.LandMaps.{marked_if_passable}
 use Rattle.moves.proofs.LawsOfPaths.{leads_to}
+use Rattle.moves.proofs.MoveLaws.{like_itself}
 use Rattle.moves.proofs.RowMajor.{before_differs}
 use Rattle.run_pack.specs.declared.Run.{Run}
 use Rattle.run_pack.specs.Runs.{IsTight, end_at, move_at, start_at}
@@ -28,7 +30,7 @@ use Rattle.row_store.specs.Comps.{Comp, IsComp}
 use Rattle.cell_order.specs.declared.OrderKind.TheVariants.{Rows}
 use Rattle.versions.specs.Databases.{IsDatabase, IsKeptAs, comp_at, component_at}
 use Rattle.versions.specs.OneRow.{cell, line, lone, run}
-use Rattle.versions.proofs.OneRow.{all_free, east, first_here, first_moves, free, free_row, of_free, row_of, set_between, step, three, west}
+use Rattle.versions.proofs.OneRow.{alike, all_free, east, first_here, first_moves, free, free_row, of_free, row_of, set_between, step, three, west}
 
 -- ---- lists of one and of three
 
@@ -147,6 +149,7 @@ just_cells = record {
     λ p. (let f = of_free true true true d p in subst (Contains cells) (sym f.is) (contains d.x f.below)),
     λ h. passable_at h.0 d h.1 h.2,
   );
+  one_class = λ d e h i. alike true true true d e (passable_at h.0 d h.1 h.2) (passable_at i.0 e i.1 i.2);
 }
 
 first_to : (x place : ℕ) → x < 3 → place < 3 → (move : Move)
@@ -285,6 +288,9 @@ just_one x less = record {
     λ p. (0, omega arith, only_one x less d p),
     λ h. subst (IsPassable (only x)) (single (cell x) d h) (only_free x less),
   );
+  one_class = λ d e h i.
+      subst (λ c. IsLike (only x) c e) (single (cell x) d h)
+      (subst (IsLike (only x) (cell x)) (single (cell x) e i) (like_itself (only x) (cell x) (only_free x less)));
 }
 
 lone_row : (x : ℕ) → x < 3 → IsRowFrom (only x) (cell x ∷ []) (cell x) (run 0 0 ∷ [])
@@ -336,12 +342,12 @@ not_between d passable e =
 no_move : (x : ℕ) → (x ≡ 0) ⊎ (x ≡ 2) → (move : Move) (to : Cell) → IsLegal parted (cell x) move to → ⊥
 no_move x outer move to legal = elim (step true false true (cell x) move to legal) [
   | inl e ↦ elim outer [
-    | inl first ↦ not_between to legal.enters (omega (arith, e.1, first))
-    | inr last ↦ absurd (omega (arith, e.1, last, legal.enters.inside.column))
+    | inl first ↦ not_between to legal.enters.passable (omega (arith, e.1, first))
+    | inr last ↦ absurd (omega (arith, e.1, last, legal.enters.passable.inside.column))
   ]
   | inr w ↦ elim outer [
     | inl first ↦ absurd (omega (arith, w.1, first))
-    | inr last ↦ not_between to legal.enters (omega (arith, w.1, last))
+    | inr last ↦ not_between to legal.enters.passable (omega (arith, w.1, last))
   ]
 ]
 
@@ -417,7 +423,7 @@ blocked_database = record {
   components = [];
   listed = record {
     each = λ k d less. absurd (omega arith);
-    every_cell = λ d passable. absurd (false≢true (sym (none_free (place_of 2 d)) ∙ passable.passable));
+    every_cell = λ d passable. absurd (false≢true (sym (none_free (place_of 2 d)) ∙ marked_if_passable 2 1 (false ∷ false ∷ []) d passable));
     in_order = λ i j d order less. absurd (omega arith);
   };
   whole = refl;

@@ -135,7 +135,7 @@ module _ (cells : List Cell) (rows : List (List Run)) (are : AreRows cells rows)
             let step = parts.1.leads in
             let legal : IsLegal map from kept.0 parts.0 = subst (λ x. IsLegal map from kept.0 x) step.2.1 step.1 in
             let size = as_long (kept.0 ∷ way.0) (first ∷ rest) (same_cost_of_best map from goal (kept.0 ∷ way.0) (first ∷ rest) way.1 best) in
-            let next = (are.just.just_these parts.0).0 legal.enters in
+            let next = (are.just.just_these parts.0).0 legal.enters.passable in
             let later = walk_along goal b n parts.0 way.0 next parts.2 (omega arith) in
             (kept.0 ∷ later.0, (apart, kept.1, parts.0, legal.target, later.1), best_by_first map from parts.0 goal kept.0 way.0 later.0 way.1 legal parts.2 later.2)
       ]

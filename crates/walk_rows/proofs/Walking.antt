@@ -50,7 +50,7 @@ module _ (cells : List Cell) (p : AreSources cells) (start goal at : Cell) (move
       let parts = best_parts rows.1.map at goal (move ∷ []) best.0 best.1 in
       let step = parts.1.leads in
       let legal : IsLegal rows.1.map at move step.0 = step.1 in
-      (step.0, legal.target, (rows.1.just.just_these step.0).0 legal.enters)
+      (step.0, legal.target, (rows.1.just.just_these step.0).0 legal.enters.passable)
 
   pub under_way_more : at ≢ goal → (move : Move) → IsKeptOver cells at goal move → (next : Cell) → IsTarget at move next → Contains cells next
       → IsUnderWay cells start goal next (moves ++ move ∷ []) (count + 1)

@@ -8,10 +8,10 @@ use Rattle.cell_order.specs.declared.OrderKind.{OrderKind}
 use Rattle.row_store.specs.Comps.{Comp}
 use Rattle.versions.specs.Databases.{IsDatabase}
 
--- the map says of each of its cells whether it is passable, and its sides are within the limits
+-- the map says of each of its cells what stands there, and its sides are within the limits
 pub record IsWhole (map : Map) : Type 0 where
   pub limits : IsWithinLimits map.width map.height
-  pub cells : length map.passable ≡ map.width * map.height
+  pub cells : length map.terrain ≡ map.width * map.height
 
 -- a map has a list of components
 abbrev pub ComponentsExist : Type 0

@@ -27,7 +27,7 @@ module _ (comp : Comp) (at : Cell) (place goal : ℕ) (p : IsUnderWay comp at pl
       let leads = best.1.leads in record {
         to = leads.0;
         target = subst (λ c. IsTarget c move leads.0) p.here.there leads.1.target;
-        inside = (p.whole.rows.just.just_these leads.0).0 leads.1.enters;
+        inside = (p.whole.rows.just.just_these leads.0).0 leads.1.enters.passable;
       }
 
   walking : Cell → Walking

@@ -1,7 +1,7 @@
 use Rattle.std.proofs.Common.{List, get_or, arith}
 use Rattle.std.proofs.lemmas.List.{get_or_default}
 use Rattle.moves.specs.declared.Cell.{Cell}
-use Rattle.build_pool.proofs.Boards.{marked_more, just_marked}
+use Rattle.build_pool.proofs.Boards.{marked_more, just_marked, few_marked}
 use Rattle.build_pool.proofs.board.marks_of.Goals as goal
 
 pub loop-cell-preserved : goal.loop-cell-preserved
@@ -15,3 +15,6 @@ loop-cell-preserved c =
 
 pub returns-clause-just : goal.returns-clause-just
 returns-clause-just c = just_marked _ _ _ _ _ c.loop-cell.invariant c.requires.inside (omega arith)
+
+pub returns-clause-few : goal.returns-clause-few
+returns-clause-few c = few_marked _ _ _ _ _ c.loop-cell.invariant c.requires.inside (omega arith) c.requires.few

@@ -13,7 +13,7 @@ pub bounds-sets-place : goal.bounds-sets-place
 bounds-sets-place c =
     let pair = get_or c.as_slice-by-items.result.now c.loop-by.by-index filler in
     let legal = c.loop-by.invariant.near.legal c.loop-by.by-index filler c.loop-by-test.true in
-    let low = place_below c.args.grid.now pair.1 legal.enters.inside in
+    let low = place_below c.args.grid.now pair.1 legal.enters.passable.inside in
     let at : c.place-place.result ≡ place_of c.args.grid.now.width pair.1 = c.place-place.ensures ∙ ap (λ w. place_of w pair.1) c.loop-by.invariant.wide in
     omega arith
 
@@ -21,7 +21,7 @@ pub bounds-sets-place-then-is_step : goal.bounds-sets-place-then-is_step
 bounds-sets-place-then-is_step c =
     let pair = get_or c.as_slice-by-items.result.now c.loop-by.by-index filler in
     let legal = c.loop-by.invariant.near.legal c.loop-by.by-index filler c.loop-by-test.true in
-    let low = place_below c.args.grid.now pair.1 legal.enters.inside in
+    let low = place_below c.args.grid.now pair.1 legal.enters.passable.inside in
     let at : c.place-place.result ≡ place_of c.args.grid.now.width pair.1 = c.place-place.ensures ∙ ap (λ w. place_of w pair.1) c.loop-by.invariant.wide in
     omega arith
 
