@@ -1,0 +1,11 @@
+pub mod Edging
+pub mod Arriving
+pub mod Standing
+pub mod Offering
+pub mod Tightening
+pub mod Bridging
+pub mod Judging
+pub mod Drawing
+pub mod Proving
+pub mod Refuting
+pub mod Targets
