@@ -1,0 +1,15 @@
+pub mod Numbers
+pub mod Passing
+pub mod Opening
+pub mod GroundLemmas
+pub mod RowLemmas
+pub mod RowReading
+pub mod CellLemmas
+pub mod PartReading
+pub mod CheckLemmas
+pub mod LoadLemmas
+pub mod PutLemmas
+pub mod LengthLemmas
+pub mod Aligning
+pub mod LawLemmas
+pub mod NoFaults
