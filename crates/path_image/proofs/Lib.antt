@@ -1,0 +1,12 @@
+pub mod Parts
+pub mod Rising
+pub mod Places
+pub mod Showing
+pub mod Homes
+pub mod Targets
+pub mod Stepping
+pub mod Following
+pub mod Passing
+pub mod Sizes
+pub mod Putting
+pub mod Labelling

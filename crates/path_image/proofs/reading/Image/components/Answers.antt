@@ -1,0 +1,7 @@
+use Rattle.std.proofs.Common.{◌∙◌, subst, sym}
+use Rattle.path_image.specs.Images.{IsImageOf}
+use Rattle.path_image.proofs.Showing.{count_shown}
+use Rattle.path_image.proofs.reading.Image.components.Goals as goal
+
+pub returns : goal.returns
+returns c = λ version image. count_shown c.self.inside.words.now version (subst (λ words. IsImageOf words version) (sym c.self.view_is) image)

@@ -1,0 +1,12 @@
+use Rattle.std.proofs.Common.{◌+◌, ◌≡◌, ◌≤◌, map, take, length}
+use Rattle.std.specs.List.{flat_map, range_with_len}
+use Rattle.moves.specs.Maps.{cell_at}
+use Rattle.path_image.specs.Images.{home_word}
+use Rattle.path_image.specs.Writing.{Puts}
+use Rattle.path_image.proofs.writing.put_homes.Given as goal
+
+abbrev pub invariant-loop-place : goal.invariant-loop-place
+invariant-loop-place g l = record {
+  put : Puts (g.S.Sink.bytes l.fn.sink) l.fn.piece (g.S.Sink.bytes l.sink) l.piece (map (λ place. home_word 0 l.version.comps (cell_at l.version.map.width place)) (range_with_len 0 l.place));
+  later : g.S.Sink.faults l.fn.sink ≤ g.S.Sink.faults l.sink;
+}

@@ -1,0 +1,7 @@
+pub mod Images
+pub mod Reading
+pub mod Faults
+pub mod Answers
+pub mod Walks
+pub mod Writing
+pub mod Examples
