@@ -1,13 +1,15 @@
 -- Maps after edits.
-use Rattle.std.proofs.Common.{◌≡◌, ℕ, ◌<◌, ◌≤◌, ◌+◌, List, [], ◌∷◌, length, get_or, take, arith, refl, ap, sym, ◌∙◌}
-use Rattle.std.specs.List.{fold}
+use Rattle.std.proofs.Common.{◌≡◌, ◌≢◌, ℕ, suc, ◌<◌, ◌≤◌, ◌+◌, List, [], ◌∷◌, length, get_or, take, All, arith, refl, ap, sym, ◌∙◌}
+use Rattle.std.specs.List.{flat_map, fold}
 use Rattle.std.proofs.lemmas.List.{length-set, take_all}
+use Rattle.std.proofs.lemmas.List.Elements.{All-append}
 use Rattle.std.proofs.lemmas.List.Sums.{fold-append, fold_more}
 use Rattle.moves.specs.declared.Cell.{Cell}
-use Rattle.moves.specs.Maps.{Map, IsInside, place_of}
+use Rattle.moves.specs.Maps.{Map, IsInside, place_of, terrain_of}
+use Rattle.moves.proofs.Landscapes.{terrain_after}
 use Rattle.edit_log.specs.declared.edit.CellChange.{CellChange}
 use Rattle.edit_log.specs.declared.edit.Edit.{Edit}
-use Rattle.edit_log.specs.Edits.{changes_of, changed, edited, map_after, ChangesInside, EditsInside}
+use Rattle.edit_log.specs.Edits.{changed, edited, map_after, ChangesInside, EditsInside}
 use Rattle.edit_log.specs.EditLaws.{HasSameSides, EditsKeepSides, EditsGoOn}
 
 same_sides : (a b c : Map) → HasSameSides a b → HasSameSides b c → HasSameSides a c
@@ -17,16 +19,13 @@ one_change_keeps : (map : Map) (change : CellChange) → HasSameSides map (chang
 one_change_keeps map change = record {
   width = refl;
   height = refl;
-  cells = length-set map.passable (place_of map.width change.cell) change.passable;
+  cells = length-set map.terrain (place_of map.width change.cell) change.terrain;
 }
 
-changes_keep : (map : Map) (changes : List CellChange) → HasSameSides map (fold changed map changes)
-changes_keep map [] = record { width = refl; height = refl; cells = refl }
-changes_keep map (change ∷ changes) =
-    same_sides map (changed map change) (fold changed (changed map change) changes) (one_change_keeps map change) (changes_keep (changed map change) changes)
-
 pub edit_keeps_sides : (map : Map) (edit : Edit) → HasSameSides map (edited map edit)
-edit_keeps_sides map edit = changes_keep map (changes_of edit)
+edit_keeps_sides map [] = record { width = refl; height = refl; cells = refl }
+edit_keeps_sides map (change ∷ changes) =
+    same_sides map (changed map change) (fold changed (changed map change) changes) (one_change_keeps map change) (edit_keeps_sides (changed map change) changes)
 
 pub edits_keep_sides : EditsKeepSides
 edits_keep_sides map [] = record { width = refl; height = refl; cells = refl }
@@ -43,33 +42,56 @@ inside_too map other cell same inside = record {
   row = omega (arith, inside.row, same.height);
 }
 
--- a loop over edits has made so many of them
-pub record IsEditedTo (start : Map) (edits : List Edit) (count : ℕ) (map : Map) : Type 0 where
-  pub whole : EditsInside start edits
-  pub so_far : map ≡ map_after start (take count edits)
+pub changes_inside_too : (map other : Map) (edit : Edit) → HasSameSides map other → ChangesInside map edit → ChangesInside other edit
+changes_inside_too map other edit same all = λ k d lt. inside_too map other (get_or edit k d).cell same (all k d lt)
 
-pub none_edited : (start : Map) (edits : List Edit) → EditsInside start edits → IsEditedTo start edits 0 start
-none_edited start edits whole = record { whole = whole; so_far = refl }
+-- at a cell that no change names stands what stood there
+pub untouched : (map : Map) (changes : List CellChange) (cell : Cell) → ChangesInside map changes → IsInside map cell
+    → All (λ change. cell ≢ change.cell) changes → terrain_of (edited map changes) cell ≡ terrain_of map cell
+untouched map [] cell inside here apart = refl
+untouched map (change ∷ changes) cell inside here apart =
+    let sides : HasSameSides map (changed map change) = one_change_keeps map change in
+    untouched (changed map change) changes cell
+    (changes_inside_too map (changed map change) changes sides (λ k d lt. inside (suc k) d (omega (arith, lt))))
+    (inside_too map (changed map change) cell sides here)
+    (λ k d lt. apart (suc k) d (omega (arith, lt)))
+    ∙ terrain_after map change.cell cell change.terrain (inside 0 change (omega arith)) here (apart 0 change (omega arith))
 
--- the next edit has its cells inside
-pub next_inside : (start map : Map) (edits items : List Edit) (count : ℕ) (d : Edit) → items ≡ edits → IsEditedTo start edits count map
-    → count < length items → ChangesInside map (get_or items count d)
-next_inside start map edits items count d same done below =
-    let keeps : HasSameSides start map = rw done.so_far (edits_keep_sides start (take count edits)) in
-    let inside : ChangesInside start (get_or items count d) = rw same (done.whole count d (rw same at below)) in
-    λ k e within. inside_too start map _ keeps (inside k e within)
+-- a loop over changes has made so many of them
+pub record IsEditedTo (start : Map) (changes : List CellChange) (count : ℕ) (map : Map) : Type 0 where
+  pub whole : ChangesInside start changes
+  pub so_far : map ≡ edited start (take count changes)
 
--- and is made
-pub one_more_edited : (start map after : Map) (edits items : List Edit) (count : ℕ) (d : Edit) → items ≡ edits
-    → IsEditedTo start edits count map → count < length items → after ≡ edited map (get_or items count d) → IsEditedTo start edits (count + 1) after
-one_more_edited start map after edits items count d same done below made = record {
+pub none_edited : (start : Map) (changes : List CellChange) → ChangesInside start changes → IsEditedTo start changes 0 start
+none_edited start changes whole = record { whole = whole; so_far = refl }
+
+-- the next changed cell lies inside
+pub next_inside : (start map : Map) (changes : List CellChange) (count : ℕ) (d : CellChange) → IsEditedTo start changes count map
+    → count < length changes → IsInside map (get_or changes count d).cell
+next_inside start map changes count d done below =
+    let keeps : HasSameSides start map = rw done.so_far (edit_keeps_sides start (take count changes)) in
+    inside_too start map (get_or changes count d).cell keeps (done.whole count d below)
+
+-- and is changed
+pub one_more_edited : (start map after : Map) (changes : List CellChange) (count : ℕ) (d : CellChange)
+    → IsEditedTo start changes count map → count < length changes → after ≡ changed map (get_or changes count d) → IsEditedTo start changes (count + 1) after
+one_more_edited start map after changes count d done below made = record {
   whole = done.whole;
-  so_far = made ∙ ap (λ m. edited m (get_or items count d)) done.so_far
-      ∙ ap (λ xs. edited (map_after start (take count edits)) (get_or xs count d)) same
-      ∙ sym (fold_more edited start edits count d (rw same at below));
+  so_far = made ∙ ap (λ m. changed m (get_or changes count d)) done.so_far ∙ sym (fold_more changed start changes count d below);
 }
 
-pub all_edited : (start map : Map) (edits items : List Edit) (count : ℕ) → items ≡ edits → IsEditedTo start edits count map → length items ≤ count
-    → map ≡ map_after start edits
-all_edited start map edits items count same done past =
-    done.so_far ∙ ap (map_after start) (take_all count edits (rw same at past))
+pub all_edited : (start map : Map) (changes : List CellChange) (count : ℕ) → IsEditedTo start changes count map → length changes ≤ count
+    → map ≡ edited start changes
+all_edited start map changes count done past = done.so_far ∙ ap (edited start) (take_all count changes past)
+
+-- edits one after the other are all their changes one after the other
+pub edits_in_one : (map : Map) (edits : List Edit) → edited map (flat_map (λ edit. edit) edits) ≡ map_after map edits
+edits_in_one map [] = refl
+edits_in_one map (edit ∷ edits) =
+    fold-append changed map edit (flat_map (λ e. e) edits) ∙ edits_in_one (edited map edit) edits
+
+pub all_inside : (map : Map) (edits : List Edit) → EditsInside map edits → ChangesInside map (flat_map (λ edit. edit) edits)
+all_inside map [] inside = λ k d lt. absurd (omega (arith, lt))
+all_inside map (edit ∷ edits) inside =
+    All-append (λ change. IsInside map change.cell) edit (flat_map (λ e. e) edits) (inside 0 edit (omega arith))
+    (all_inside map edits (λ k d lt. inside (suc k) d (omega (arith, lt))))

@@ -1,2 +1,4 @@
+pub mod Padded
+pub mod Cutting
 pub mod EditedMaps
 pub mod EditVerdicts

@@ -10,7 +10,7 @@ use Rattle.edit_log.specs.Verdicts.{IsRefusal, MayBeAccepted}
 pub record HasSameSides (map other : Map) : Type 0 where
   pub width : other.width ≡ map.width
   pub height : other.height ≡ map.height
-  pub cells : length other.passable ≡ length map.passable
+  pub cells : length other.terrain ≡ length map.terrain
 
 -- edits keep the sides of a map, so what lies inside goes on to lie inside
 abbrev pub EditsKeepSides : Type 0

@@ -1,21 +1,17 @@
 -- Edits of a map, and the map after them.
-use Rattle.std.specs.Prelude.{List, [], ◌∷◌}
-use Rattle.std.specs.List.{All, fold}
-use Rattle.moves.specs.Maps.{Map, IsInside, with_cell}
+use Rattle.std.specs.Prelude.{◌≢◌, List, All, AllPairs}
+use Rattle.std.specs.List.{fold}
+use Rattle.moves.specs.Maps.{Map, IsInside, with_terrain}
 use Rattle.edit_log.specs.declared.edit.CellChange.{CellChange}
 use Rattle.edit_log.specs.declared.edit.Edit.{Edit}
 
--- the changes of an edit, in their order
-unfoldable pub changes_of : Edit → List CellChange
-changes_of edit = edit.change ∷ []
-
--- the map with that one cell passable or blocked
+-- the map with that one cell changed
 abbrev pub changed : Map → CellChange → Map
-changed map change = with_cell map change.cell change.passable
+changed map change = with_terrain map change.cell change.terrain
 
 -- the map after an edit: its changes are made together
 abbrev pub edited : Map → Edit → Map
-edited map edit = fold changed map (changes_of edit)
+edited map edit = fold changed map edit
 
 -- the map after edits, one after the other
 abbrev pub map_after : Map → List Edit → Map
@@ -23,8 +19,12 @@ map_after map edits = fold edited map edits
 
 -- each changed cell lies inside the map
 abbrev pub ChangesInside : Map → Edit → Type 0
-ChangesInside map edit = All (λ change. IsInside map change.cell) (changes_of edit)
+ChangesInside map edit = All (λ change. IsInside map change.cell) edit
 
 -- so does each cell that one of these edits changes
 abbrev pub EditsInside : Map → List Edit → Type 0
 EditsInside map edits = All (ChangesInside map) edits
+
+-- no two changes of the edit name one cell
+abbrev pub HasNoRepeats : Edit → Type 0
+HasNoRepeats edit = AllPairs (λ change other. other.cell ≢ change.cell) edit

@@ -1,3 +1,4 @@
+pub mod Padding
 pub mod Edits
 pub mod EditLists
 pub mod Verdicts

@@ -1,30 +1,36 @@
 -- Whether an edit is accepted, and why it is refused.
 --
 -- On a map of 32,768 passable cells the edit that frees a blocked cell is refused as too many cells, and the one that
--- frees a passable cell is accepted. A cell outside the map is judged before anything else.
+-- frees a passable cell is accepted, as is the one that frees one cell and blocks another. A cell outside the map is
+-- judged before anything else.
 use Rattle.std.specs.Prelude.{ℕ, ◌<◌, ◌≤◌, List, codes}
 use Rattle.moves.specs.Maps.{Map, IsSearchable}
 use Rattle.edit_log.specs.declared.TheConstants.{MAX_EDITS}
 use Rattle.edit_log.specs.declared.edit.Edit.{Edit}
 use Rattle.edit_log.specs.declared.verdict.EditRefusal.{EditRefusal}
-use Rattle.edit_log.specs.declared.verdict.EditRefusal.TheVariants.{Outside, TooManyCells, EditsFull}
-use Rattle.edit_log.specs.Edits.{ChangesInside, edited}
+use Rattle.edit_log.specs.declared.verdict.EditRefusal.TheVariants.{Outside, Repeated, TooManyCells, EditsFull}
+use Rattle.edit_log.specs.Edits.{ChangesInside, HasNoRepeats, edited}
 
 -- why an edit is refused, in words
 abbrev pub refusal_text : EditRefusal → List ℕ
 refusal_text Outside = codes "outside"
+refusal_text Repeated = codes "repeated"
 refusal_text TooManyCells = codes "too many cells"
 refusal_text EditsFull = codes "edits full"
 
--- The edit may be accepted at a map after so many accepted edits: its cells lie inside, the map after it may be searched,
--- and the log is not full.
+-- The edit may be accepted at a map after so many accepted edits: its cells lie inside, no two changes name one cell,
+-- the map after the whole edit may be searched, and the log is not full.
 pub record MayBeAccepted (map : Map) (accepted : ℕ) (edit : Edit) : Type 0 where
   pub inside : ChangesInside map edit
+  pub once : HasNoRepeats edit
   pub few : IsSearchable (edited map edit)
   pub room : accepted < MAX_EDITS
 
 -- why it is refused: the first cause
 abbrev pub IsRefusal : Map → ℕ → Edit → EditRefusal → Type 0
 IsRefusal map accepted edit Outside = ChangesInside map edit → ⊥
-IsRefusal map accepted edit TooManyCells = ChangesInside map edit × (IsSearchable (edited map edit) → ⊥)
-IsRefusal map accepted edit EditsFull = ChangesInside map edit × IsSearchable (edited map edit) × (MAX_EDITS ≤ accepted)
+IsRefusal map accepted edit Repeated = ChangesInside map edit × (HasNoRepeats edit → ⊥)
+IsRefusal map accepted edit TooManyCells =
+    ChangesInside map edit × HasNoRepeats edit × (IsSearchable (edited map edit) → ⊥)
+IsRefusal map accepted edit EditsFull =
+    ChangesInside map edit × HasNoRepeats edit × IsSearchable (edited map edit) × (MAX_EDITS ≤ accepted)

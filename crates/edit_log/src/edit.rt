@@ -1,48 +1,104 @@
 //! One edit of a map.
 
-ghost use Rattle.std.specs.Prelude.{◌≡◌, [], ◌∷◌};
-ghost use Rattle.edit_log.specs.Edits.{ChangesInside, changes_of, edited};
+ghost use Rattle.std.specs.Prelude.{◌≡◌, ◌↔◌, ◌≤◌, [], ◌∷◌, length, All, IfSome, IsSome};
+ghost use Rattle.moves.specs.Maps.{IsInside};
+ghost use Rattle.edit_log.specs.declared.TheConstants.{MAX_CHANGES};
+ghost use Rattle.edit_log.specs.Edits.{ChangesInside, edited};
 
-use moves::{Cell, Grid};
+use crate::MAX_CHANGES;
+use moves::{Cell, Grid, Terrain};
+use std::marker::Model;
 
 /// One cell, and what it becomes.
 #[derive(Clone, Copy, Debug, PartialEq, Eq)]
 pub struct CellChange {
     /// The cell.
     pub cell: Cell,
-    /// Whether it is passable from then on.
-    pub passable: bool,
+    /// What stands there from then on.
+    pub terrain: Terrain,
 }
 
-/// An edit: changes of cells that are made together, so that no map is seen with a part of them.
+/// What stands in an edit past its changes.
+const NO_CHANGE: CellChange = CellChange {
+    cell: Cell { x: 0, y: 0 },
+    terrain: Terrain::Blocked,
+};
+
+/// An edit: 1 to [`MAX_CHANGES`] changes of cells that are made together, so that no map is seen with a part of them.
+/// Contracts see the list of its changes.
 #[derive(Clone, Copy, Debug, PartialEq, Eq)]
 pub struct Edit {
-    pub(crate) change: CellChange,
+    changes: [CellChange; MAX_CHANGES],
+    count: u8,
+}
+
+impl Model for Edit {
+    ghost use Rattle.std.specs.Prelude.{List, length, take};
+    ghost use Rattle.edit_log.specs.declared.edit.CellChange.{CellChange};
+
+    ghost Value = { List CellChange };
+
+    ghost use Rattle.edit_log.specs.Padding.{IsPadded, padded, padded_again};
+
+    ghost view = { λ edit. take edit.count edit.changes };
+
+    ghost invariant = { λ edit. IsPadded edit.changes edit.count };
+
+    ghost inverse = { λ changes. record { changes = padded changes; count = length changes } };
+
+    ghost inverse_ok = { λ edit is. padded_again edit is };
 }
 
 impl Edit {
     /// The edit of that one change.
-    #[tactic(auto, unfolding(crate::specs::Edits::changes_of))]
     pub fn one(change: CellChange) -> Edit
-        ensures { changes_of result ≡ change ∷ [] }
+        ensures { result ≡ change ∷ [] }
     {
-        Edit { change }
+        let mut changes = [NO_CHANGE; MAX_CHANGES];
+        changes[0] = change;
+        Edit { changes, count: 1 }
+    }
+
+    /// The edit of these changes, in their order; `None` exactly where there are none or more than [`MAX_CHANGES`].
+    pub fn of(changes: &[CellChange]) -> Option<Edit>
+        ensures edit { IfSome result (λ edit. edit ≡ changes.now) }
+        ensures some { IsSome result ↔ (1 ≤ length changes.now) × (length changes.now ≤ MAX_CHANGES) }
+    {
+        if changes.is_empty() || changes.len() > MAX_CHANGES {
+            return None;
+        }
+        let mut all = [NO_CHANGE; MAX_CHANGES];
+        all[..changes.len()].copy_from_slice(changes);
+        Some(Edit {
+            changes: all,
+            count: changes.len() as u8,
+        })
     }
 
     /// The changes, in their order.
-    #[tactic(auto, unfolding(crate::specs::Edits::changes_of))]
     pub fn changes(&self) -> &[CellChange]
-        ensures { result.now ≡ changes_of self.now }
+        ensures changes { result.now ≡ self.now }
+        ensures some { 1 ≤ length self.now }
+        ensures few { length self.now ≤ MAX_CHANGES }
     {
-        std::slice::from_ref(&self.change)
+        &self.changes[..usize::from(self.count)]
     }
 
     /// Makes the changes. The other cells stay as they are.
-    #[tactic(auto, unfolding(crate::specs::Edits::changes_of))]
-    pub fn apply(self, grid: &mut Grid)
-        requires inside { ChangesInside grid.old self }
-        ensures { grid.new ≡ edited grid.old self }
+    pub fn apply(&self, grid: &mut Grid)
+        requires inside { ChangesInside grid.old self.now }
+        ensures { grid.new ≡ edited grid.old self.now }
     {
-        grid.set(self.change.cell, self.change.passable);
+        make(self.changes(), grid);
+    }
+}
+
+/// Makes the changes, one after the other. The other cells stay as they are.
+pub(crate) fn make(changes: &[CellChange], grid: &mut Grid)
+    requires inside { ChangesInside grid.old changes.now }
+    ensures { grid.new ≡ edited grid.old changes.now }
+{
+    for change in changes {
+        grid.set_terrain(change.cell, change.terrain);
     }
 }

@@ -10,5 +10,8 @@ pub use edit::{CellChange, Edit};
 pub use list::{EditList, apply};
 pub use verdict::{EditRefusal, check};
 
+/// The most changes that an edit has.
+pub const MAX_CHANGES: usize = 64;
+
 /// The most edits that a log accepts.
 pub const MAX_EDITS: u32 = 1_048_576;

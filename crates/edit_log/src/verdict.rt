@@ -1,13 +1,14 @@
 //! Whether an edit is accepted.
 
-ghost use Rattle.std.specs.Prelude.{◌≡◌, ◌↔◌, IsTrue, IfErr, OnOk};
+ghost use Rattle.std.specs.Prelude.{◌≡◌, ◌≢◌, ◌↔◌, ◌≤◌, All, length, IsTrue, IfErr, OnOk};
 ghost use Rattle.moves.specs.Maps.{IsSearchable};
-ghost use Rattle.edit_log.specs.Edits.{ChangesInside, edited};
+ghost use Rattle.edit_log.specs.declared.TheConstants.{MAX_CHANGES};
+ghost use Rattle.edit_log.specs.Edits.{ChangesInside, HasNoRepeats, edited};
 ghost use Rattle.edit_log.specs.Verdicts.{IsRefusal, MayBeAccepted};
 
 use crate::MAX_EDITS;
-use crate::edit::Edit;
-use moves::{Grid, MAX_PASSABLE};
+use crate::edit::{CellChange, Edit};
+use moves::{Cell, Grid, MAX_PASSABLE};
 use std::fmt;
 
 /// Why an edit is refused, by cases in their order.
@@ -15,7 +16,9 @@ use std::fmt;
 pub enum EditRefusal {
     /// A cell of the edit does not lie inside the map.
     Outside,
-    /// The map after the edit would have more passable cells than a search has room for.
+    /// Two changes of the edit name one cell.
+    Repeated,
+    /// The map after the whole edit would have more passable cells than a search has room for.
     TooManyCells,
     /// As many edits as a log accepts were accepted before.
     EditsFull,
@@ -30,25 +33,30 @@ impl fmt::Display for EditRefusal {
     fn fmt<W: fmt::Write>(&self, f: &mut fmt::Formatter<W>) -> fmt::Result {
         match self {
             EditRefusal::Outside => write!(f, "outside"),
+            EditRefusal::Repeated => write!(f, "repeated"),
             EditRefusal::TooManyCells => write!(f, "too many cells"),
             EditRefusal::EditsFull => write!(f, "edits full"),
         }
     }
 }
 
-/// Whether the edit may be accepted at a map after so many accepted edits. Nothing is copied or counted anew.
+/// Whether the edit may be accepted at a map after so many accepted edits. No map is copied or counted anew.
 ///
 /// # Errors
 ///
 /// The first cause to refuse it.
-pub fn check(grid: &Grid, accepted: u32, edit: Edit) -> Result<(), EditRefusal>
-    ensures accepted { OnOk result (MayBeAccepted grid.now accepted edit) }
-    ensures refused { IfErr result (IsRefusal grid.now accepted edit) }
+pub fn check(grid: &Grid, accepted: u32, edit: &Edit) -> Result<(), EditRefusal>
+    ensures accepted { OnOk result (MayBeAccepted grid.now accepted edit.now) }
+    ensures refused { IfErr result (IsRefusal grid.now accepted edit.now) }
 {
-    if !edit.is_inside(grid) {
+    let changes = edit.changes();
+    if !are_inside(changes, grid) {
         return Err(EditRefusal::Outside);
     }
-    if !edit.leaves_few(grid) {
+    if !names_each_once(changes) {
+        return Err(EditRefusal::Repeated);
+    }
+    if !leaves_few(changes, grid) {
         return Err(EditRefusal::TooManyCells);
     }
     if accepted >= MAX_EDITS {
@@ -57,24 +65,46 @@ pub fn check(grid: &Grid, accepted: u32, edit: Edit) -> Result<(), EditRefusal>
     Ok(())
 }
 
-impl Edit {
-    /// Whether each changed cell lies inside the map.
-    #[tactic(auto, unfolding(crate::specs::Edits::changes_of))]
-    fn is_inside(self, grid: &Grid) -> bool
-        ensures { IsTrue result ↔ ChangesInside grid.now self }
-    {
-        grid.inside(self.change.cell)
-    }
+/// Whether each changed cell lies inside the map.
+fn are_inside(changes: &[CellChange], grid: &Grid) -> bool
+    ensures { IsTrue result ↔ ChangesInside grid.now changes.now }
+{
+    changes.iter().all(|change| grid.inside(change.cell))
+}
 
-    /// Whether a search has room for the passable cells of the map after the edit.
-    #[tactic(auto, unfolding(crate::specs::Edits::changes_of))]
-    fn leaves_few(self, grid: &Grid) -> bool
-        requires { ChangesInside grid.now self }
-        ensures { IsTrue result ↔ IsSearchable (edited grid.now self) }
-    {
-        let was = u32::from(grid.passable(self.change.cell));
-        let is = u32::from(self.change.passable);
-        grid.width();
-        grid.passable_count() - was <= MAX_PASSABLE - is
+/// Whether no two changes name one cell.
+fn names_each_once(changes: &[CellChange]) -> bool
+    ensures { IsTrue result ↔ HasNoRepeats changes.now }
+{
+    for place in 0..changes.len() {
+        if !is_new(changes[place].cell, &changes[..place]) {
+            return false;
+        }
     }
+    true
+}
+
+/// Whether none of these changes names the cell.
+fn is_new(cell: Cell, changes: &[CellChange]) -> bool
+    ensures { IsTrue result ↔ All (λ change. cell ≢ change.cell) changes.now }
+{
+    changes.iter().all(|change| change.cell != cell)
+}
+
+/// Whether a search has room for the passable cells of the map after all these changes, which name each cell once.
+fn leaves_few(changes: &[CellChange], grid: &Grid) -> bool
+    requires inside { ChangesInside grid.now changes.now }
+    requires once { HasNoRepeats changes.now }
+    requires few { length changes.now ≤ MAX_CHANGES }
+    ensures { IsTrue result ↔ IsSearchable (edited grid.now changes.now) }
+{
+    // That the map has as many cells as its sides say is known from here.
+    grid.width();
+    let mut lost = 0;
+    let mut gained = 0;
+    for change in changes {
+        lost += u32::from(grid.passable(change.cell));
+        gained += u32::from(change.terrain.is_passable());
+    }
+    grid.passable_count() + gained <= MAX_PASSABLE + lost
 }
