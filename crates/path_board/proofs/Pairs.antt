@@ -1,13 +1,14 @@
 -- Two passes of a board of three blocked cells. Only tests have them.
-use Rattle.std.proofs.Common.{◌≡◌, ℕ, zero, suc, ◌+◌, ◌<◌, false, List, [], ◌∷◌, ◌++◌, length, get_or, take, arith, IfOk, Result, Ok, Err, subst, refl, sym, ap, ◌∙◌}
+use Rattle.std.proofs.Common.{◌≡◌, ℕ, zero, suc, ◌+◌, ◌<◌, List, [], ◌∷◌, ◌++◌, length, get_or, take, arith, IfOk, Result, Ok, Err, subst, refl, sym, ap, ◌∙◌}
 use Rattle.std.proofs.lemmas.List.{length_push}
 use Rattle.atomic_table.specs.Seated.{TableId}
 use Rattle.moves.specs.declared.Cell.{Cell}
+use Rattle.moves.specs.declared.Terrain.TheVariants.{Blocked}
 use Rattle.moves.specs.Maps.{Map, blocked_map}
 use Rattle.cell_order.specs.declared.OrderKind.TheVariants.{Rows}
 use Rattle.versions.specs.Databases.{Versioned}
 use Rattle.edit_log.specs.declared.edit.Edit.{Edit}
-use Rattle.edit_log.specs.Edits.{changes_of, map_after}
+use Rattle.edit_log.specs.Edits.{map_after}
 use Rattle.path_core.specs.declared.board.Job.{Job}
 use Rattle.path_core.specs.declared.entry.Entry.{Entry}
 use Rattle.path_core.specs.declared.entry.Entry.TheVariants.{Accept}
@@ -81,7 +82,7 @@ pair_all id a b passes pair is = subst (AreAllPasses id) (sym is) (record {
 -- the version after the one edit of a job, which blocks a cell, may be published
 pub publishable_first : (base : Foundation) (seen : List Entry) (board : Boarded) (job : Job) (edit : Edit) (cell : Cell) (version : Versioned) → base.start ≡ blank
     → base.order ≡ Rows → IsBoardAt base seen board → IsJob board 0 job → job.edits.edits ≡ edit ∷ []
-    → changes_of edit ≡ record { cell = cell; passable = false } ∷ [] → version ≡ blank_after 1 → MayBePublished base.start base.order seen version
+    → edit ≡ record { cell = cell; terrain = Blocked } ∷ [] → version ≡ blank_after 1 → MayBePublished base.start base.order seen version
 unfolding blank_after
 publishable_first base seen board job edit cell version start order at taken alone is ev =
     let all : edits_of seen ≡ edit ∷ [] = ap edits_of (sym at.history_is) ∙ sym taken.edits ∙ alone in

@@ -1,6 +1,6 @@
 -- The version that a pass holds.
 use Rattle.std.specs.Prelude.{◌≡◌, ℕ, ◌≤◌, List, [], length, take, Option, Some, None}
-use Rattle.moves.specs.Maps.{map_with}
+use Rattle.moves.specs.Maps.{map_of}
 use Rattle.cell_order.specs.declared.OrderKind.TheVariants.{Rows}
 use Rattle.versions.specs.Databases.{Versioned}
 use Rattle.path_core.specs.declared.entry.Entry.{Entry}
@@ -8,7 +8,7 @@ use Rattle.path_core.specs.Histories.{accepted_count, map_at, published_prefix}
 use Rattle.path_board.specs.declared.state.Foundation.{Foundation}
 
 abbrev pub no_foundation : Foundation
-no_foundation = record { start = map_with 0 0 []; order = Rows; room = 0 }
+no_foundation = record { start = map_of 0 0 []; order = Rows; room = 0 }
 
 -- what a seat knows of the board's foundation, which every seat does
 abbrev pub foundation_or : Option Foundation → Foundation

@@ -147,7 +147,7 @@ impl BoardState {
     pub fn count(&self) -> u64
         ensures { result ≡ length self.now.board.history }
     {
-        self.board.entries().len() as u64
+        u64::from(self.board.entries())
     }
 
     /// The published version for whoever holds one of that prefix.

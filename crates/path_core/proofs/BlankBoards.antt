@@ -1,5 +1,5 @@
 -- Boards of three blocked cells, on which edits change nothing. Only tests have them.
-use Rattle.std.proofs.Common.{◌≡◌, ◌⊎◌, inl, inr, ℕ, zero, suc, ◌+◌, ◌<◌, ◌≤◌, Bool, true, false, List, [], ◌∷◌, ◌++◌, length, get_or, set, take, replicate, arith, OnOk, OnErr, IfOk, Global, map, Result, Ok, Err, subst, refl, sym, ap, ◌∙◌}
+use Rattle.std.proofs.Common.{◌≡◌, inl, inr, ℕ, zero, suc, ◌+◌, ◌≤◌, true, false, List, [], ◌∷◌, ◌++◌, get_or, set, take, replicate, arith, OnOk, OnErr, IfOk, Global, map, Result, Ok, Err, subst, refl, sym, ap, ◌∙◌}
 use Rattle.std.specs.List.{fold}
 use Rattle.std.specs.Arc.{arc_value}
 use Rattle.std.specs.declared.sync.Arc.{Arc}
@@ -8,12 +8,13 @@ use Rattle.std.proofs.lemmas.Bool.{cases_lt}
 use Rattle.std.proofs.lemmas.List.{append-nil, get_or-replicate, get_or_past, take_all}
 use Rattle.std.proofs.lemmas.List.Sums.{fold_push}
 use Rattle.moves.specs.declared.Cell.{Cell}
-use Rattle.moves.specs.Maps.{Map, IsPassable, IsSearchable, blocked_map, map_with, place_of}
+use Rattle.moves.specs.declared.Terrain.TheVariants.{Blocked}
+use Rattle.moves.specs.Maps.{Map, IsPassable, blocked_map, map_of, place_of}
 use Rattle.cell_order.specs.declared.OrderKind.{OrderKind}
 use Rattle.cell_order.specs.declared.OrderKind.TheVariants.{Rows}
 use Rattle.versions.specs.Databases.{IsDatabase, IsVersion, Versioned, version_of}
 use Rattle.edit_log.specs.declared.edit.Edit.{Edit}
-use Rattle.edit_log.specs.Edits.{changed, changes_of, edited, map_after}
+use Rattle.edit_log.specs.Edits.{changed, edited, map_after}
 use Rattle.path_core.specs.declared.entry.Entry.{Entry}
 use Rattle.path_core.specs.declared.entry.Entry.TheVariants.{Accept, Publish}
 use Rattle.path_core.specs.BlankBoards.{IsBlank, blank_after}
@@ -47,14 +48,14 @@ blank_database order = record {
 }
 
 -- to block a blocked cell changes nothing
-set_blank : (place : ℕ) → set (replicate 3 false) place false ≡ replicate 3 false
+set_blank : (place : ℕ) → set (replicate 3 Blocked) place Blocked ≡ replicate 3 Blocked
 set_blank zero = refl
 set_blank (suc zero) = refl
 set_blank (suc (suc zero)) = refl
 set_blank (suc (suc (suc place))) = refl
 
-edited_blank : (edit : Edit) (cell : Cell) → changes_of edit ≡ record { cell = cell; passable = false } ∷ [] → edited blank edit ≡ blank
-edited_blank edit cell is = ap (fold changed blank) is ∙ ap (map_with 3 1) (set_blank (place_of 3 cell))
+edited_blank : (edit : Edit) (cell : Cell) → edit ≡ record { cell = cell; terrain = Blocked } ∷ [] → edited blank edit ≡ blank
+edited_blank edit cell is = ap (fold changed blank) is ∙ ap (map_of 3 1) (set_blank (place_of 3 cell))
 
 version_blank : (prefix : ℕ) → IsVersion (blank_after prefix)
 unfolding blank_after
@@ -88,7 +89,7 @@ unfolding blank_after
 map_blank prefix = refl
 
 entered_at : (board : Boarded) (pass : ℕ) (edit : Edit) (cell : Cell) → IsBlank board
-    → changes_of edit ≡ record { cell = cell; passable = false } ∷ [] → (prefix : ℕ)
+    → edit ≡ record { cell = cell; terrain = Blocked } ∷ [] → (prefix : ℕ)
     → IsVersionAt board.start board.order (board.history ++ Accept pass edit ∷ []) prefix (blank_after prefix)
 entered_at board pass edit cell all is prefix =
     let entry : Entry = Accept pass edit in
@@ -113,7 +114,7 @@ entered_at board pass edit cell all is prefix =
 
 -- an edit more that blocks
 pub entered_blank : (board : Boarded) (pass : ℕ) (edit : Edit) (cell : Cell) → IsBlank board
-    → changes_of edit ≡ record { cell = cell; passable = false } ∷ [] → IsBlank (with_entry board (Accept pass edit))
+    → edit ≡ record { cell = cell; terrain = Blocked } ∷ [] → IsBlank (with_entry board (Accept pass edit))
 entered_blank board pass edit cell all is = record { versions = λ prefix. entered_at board pass edit cell all is prefix }
 
 -- a publication more

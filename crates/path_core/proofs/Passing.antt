@@ -1,13 +1,12 @@
 -- What passes have seen, as the history grows, and the edits that were accepted.
-use Rattle.std.proofs.Common.{◌≡◌, ◌≢◌, ℕ, ◌+◌, ◌<◌, ◌≤◌, List, [], ◌∷◌, ◌++◌, length, get_or, take, drop, All, refl, sym, subst, ap, ◌∙◌, arith}
+use Rattle.std.proofs.Common.{◌≡◌, ◌≢◌, ℕ, ◌≤◌, List, [], ◌∷◌, ◌++◌, length, get_or, take, drop, sym, subst, ap, ◌∙◌, arith}
 use Rattle.std.proofs.lemmas.List.{append-nil, append_assoc, take-append-drop}
 use Rattle.std.proofs.lemmas.List.Elements.{All-append, All-drop, All-push}
 use Rattle.std.proofs.lemmas.List.Sums.{fold_push}
 use Rattle.moves.specs.Maps.{Map, IsSearchable}
-use Rattle.edit_log.specs.declared.edit.Edit.{Edit}
-use Rattle.edit_log.specs.Edits.{ChangesInside, EditsInside, changes_of, edited, map_after}
+use Rattle.edit_log.specs.Edits.{ChangesInside, EditsInside, edited, map_after}
 use Rattle.edit_log.specs.EditLaws.{HasSameSides}
-use Rattle.edit_log.proofs.EditedMaps.{edits_keep_sides, edits_go_on as maps_go_on, inside_too}
+use Rattle.edit_log.proofs.EditedMaps.{changes_inside_too, edits_keep_sides, edits_go_on as maps_go_on}
 use Rattle.path_core.specs.declared.entry.Entry.{Entry}
 use Rattle.path_core.specs.declared.entry.Entry.TheVariants.{Accept, Publish, Halt}
 use Rattle.path_core.specs.Histories.{accepted_count, edits_of, map_at, map_now, IsLegal, MayFollow}
@@ -56,15 +55,12 @@ count_grows old new p =
 back : (map other : Map) → HasSameSides map other → HasSameSides other map
 back map other same = record { width = sym same.width; height = sym same.height; cells = sym same.cells }
 
-changes_inside : (map other : Map) (edit : Edit) → HasSameSides map other → ChangesInside map edit → ChangesInside other edit
-changes_inside map other edit same all = λ k d lt. inside_too map other (get_or (changes_of edit) k d).cell same (all k d lt)
-
 -- an accepted edit lies inside the first map, as those before it do
 inside_more : (start : Map) (history : List Entry) (entry : Entry) → MayFollow start history entry
     → EditsInside start (edits_of history) → EditsInside start (edits_of (history ++ entry ∷ []))
 inside_more start history (Accept pass edit) may all =
     let sides = edits_keep_sides start (edits_of history) in
-    let inside = changes_inside (map_now start history) start edit (back _ _ sides) may.inside in
+    let inside = changes_inside_too (map_now start history) start edit (back _ _ sides) may.inside in
     subst (EditsInside start) (sym (edits_go_on history (Accept pass edit ∷ []))) (All-push (ChangesInside start) (edits_of history) edit all inside)
 inside_more start history (Publish pass prefix) may all =
     subst (EditsInside start) (sym (edits_go_on history (Publish pass prefix ∷ []) ∙ append-nil (edits_of history))) all
@@ -106,7 +102,7 @@ map_now_searchable start history known legal =
 pub job_inside : (start : Map) (history : List Entry) (known : ℕ) → IsLegal start history → EditsInside (map_at start history known) (drop known (edits_of history))
 job_inside start history known legal =
     let sides = edits_keep_sides start (take known (edits_of history)) in
-    λ k d lt. changes_inside start (map_at start history known) (get_or (drop known (edits_of history)) k d) sides
+    λ k d lt. changes_inside_too start (map_at start history known) (get_or (drop known (edits_of history)) k d) sides
     (All-drop (ChangesInside start) known (edits_of history) (edits_inside start history legal) k d lt)
 
 pub job_leads : (start : Map) (history : List Entry) (known : ℕ) → map_after (map_at start history known) (drop known (edits_of history)) ≡ map_now start history

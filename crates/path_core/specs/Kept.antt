@@ -1,17 +1,21 @@
 -- What a board keeps beside its history, so that nothing need be found anew.
-use Rattle.std.specs.Prelude.{◌≡◌, ◌↔◌, ℕ, ◌+◌, ◌≤◌, Bool, length, IsTrue}
+use Rattle.std.specs.Prelude.{◌≡◌, ◌↔◌, ℕ, ◌+◌, ◌≤◌, Bool, List, length, All, IsTrue}
 use Rattle.moves.specs.Maps.{Map}
 use Rattle.edit_log.specs.EditLists.{EditLog}
 use Rattle.path_core.specs.declared.TheConstants.{MAX_ENTRIES}
+use Rattle.path_core.specs.declared.kept_entry.KeptEntry.{KeptEntry}
 use Rattle.path_core.specs.Boards.{Boarded}
 use Rattle.path_core.specs.Histories.{edits_of, map_now, published_count, published_prefix, IsHalting, IsLegal, IsVersionAt}
+use Rattle.path_core.specs.KeptEntries.{IsPlaced}
 
 -- the running map, the accepted edits, the number of publications and whether a halt was entered are those of the history
-pub record IsKept (board : Boarded) (map : Map) (edits : EditLog) (published : ℕ) (halting : Bool) (capacity : ℕ) : Type 0 where
+pub record IsKept (board : Boarded) (map : Map) (edits : EditLog) (kept : List KeptEntry)
+    (published : ℕ) (halting : Bool) (capacity : ℕ) : Type 0 where
   pub legal : IsLegal board.start board.history
   pub version : IsVersionAt board.start board.order board.history (published_prefix board.history) board.version
   pub running : map ≡ map_now board.start board.history
   pub accepted : edits.edits ≡ edits_of board.history
+  pub placed : All (IsPlaced (length edits.edits)) kept
   pub published_is : published ≡ published_count board.history
   pub halts : IsTrue halting ↔ IsHalting board.history
   pub few : board.room ≤ MAX_ENTRIES

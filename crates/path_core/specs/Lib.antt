@@ -1,5 +1,6 @@
 pub mod Histories
 pub mod Boards
+pub mod KeptEntries
 pub mod Refusals
 pub mod Looks
 pub mod Kept

@@ -2,6 +2,7 @@
 
 ghost use Rattle.std.specs.Prelude.{◌≡◌, ◌↔◌, ℕ, ◌<◌, ◌≤◌, length, IsFalse, IsOk, IfOk, IfErr, OnOk, OnErr, cond};
 ghost use Rattle.std.specs.Arc.{arc_value};
+ghost use Rattle.std.specs.List.{slice_get};
 ghost use Rattle.path_core.specs.declared.TheConstants.{MAX_ENTRIES};
 ghost use Rattle.path_core.specs.declared.entry.Entry.TheVariants.{Accept, Halt};
 ghost use Rattle.path_core.specs.Boards.{IsFirst, MayBePublished, new_board, with_entry, with_version};
@@ -12,6 +13,7 @@ ghost use Rattle.path_core.specs.Refusals.{IsPublishError, IsRoomUsed, IsSubmitE
 
 use crate::entry::Entry;
 use crate::error::{PublishError, SubmitError};
+use crate::kept_entry::KeptEntry;
 use cell_order::OrderKind;
 use edit_log::{Edit, EditList, check};
 use moves::Grid;
@@ -50,7 +52,7 @@ pub struct Job {
 pub struct Board {
     start: Grid,
     running: Grid,
-    entries: Vec<Entry>,
+    entries: Vec<KeptEntry>,
     edits: EditList,
     published: u32,
     halting: bool,
@@ -63,13 +65,15 @@ impl Model for Board {
     ghost use Rattle.std.specs.Arc.{arc_value};
     ghost use Rattle.path_core.specs.Boards.{Boarded, board_of};
     ghost use Rattle.path_core.specs.Kept.{IsKept};
+    ghost use Rattle.path_core.specs.KeptEntries.{entries_of};
 
     ghost Value = { Boarded };
 
-    ghost view = { λ b. board_of b.start b.entries.items (arc_value b.version) b.room };
+    ghost view = { λ b. board_of b.start (entries_of b.edits.edits b.entries.items) (arc_value b.version) b.room };
 
-    ghost invariant = { λ b. IsKept (board_of b.start b.entries.items (arc_value b.version) b.room) b.running b.edits
-        b.published b.halting (vec_capacity b.entries) };
+    ghost invariant = { λ b. IsKept
+        (board_of b.start (entries_of b.edits.edits b.entries.items) (arc_value b.version) b.room)
+        b.running b.edits b.entries.items b.published b.halting (vec_capacity b.entries) };
 }
 
 impl Board {
@@ -131,12 +135,14 @@ impl Board {
         ensures refused { IfErr result (IsSubmitError self.old edit) }
         ensures as_before { OnErr result (self.new ≡ self.old) }
     {
-        check(&self.running, self.edits.len(), edit)?;
+        check(&self.running, self.edits.len(), &edit)?;
         self.edits.reserve_one()?;
         self.entries.reserve(1)?;
         edit.apply(&mut self.running);
-        self.edits.push_reserved(edit);
-        self.entries.push_reserved(Entry::Accept { pass, edit });
+        let place = self.edits.len();
+        self.edits.push_reserved(&edit);
+        self.entries
+            .push_reserved(KeptEntry::Accept { pass, place });
         Ok(self.edits.len())
     }
 
@@ -160,7 +166,8 @@ impl Board {
             return Err(PublishError::Overtaken { by });
         }
         self.entries.reserve(1)?;
-        self.entries.push_reserved(Entry::Publish { pass, prefix });
+        self.entries
+            .push_reserved(KeptEntry::Publish { pass, prefix });
         self.published += 1;
         self.version = version;
         Ok(prefix)
@@ -185,7 +192,7 @@ impl Board {
             return Ok(false);
         }
         self.entries.reserve(1)?;
-        self.entries.push_reserved(Entry::Halt { pass });
+        self.entries.push_reserved(KeptEntry::Halt { pass });
         self.halting = true;
         Ok(true)
     }
@@ -239,13 +246,28 @@ impl Board {
         })
     }
 
-    /// The history.
-    pub fn entries(&self) -> &[Entry]
-        ensures history { result.now ≡ self.now.history }
+    /// How many entries there are, at most [`MAX_ENTRIES`](crate::MAX_ENTRIES).
+    pub fn entries(&self) -> u32
+        ensures count { result ≡ length self.now.history }
         ensures legal { IsLegal self.now.start self.now.history }
         ensures limit { length self.now.history ≤ MAX_ENTRIES }
     {
-        &self.entries
+        self.entries.len() as u32
+    }
+
+    /// The entry at that place; `None` exactly past the end.
+    pub fn entry(&self, place: u32) -> Option<Entry>
+        ensures { result ≡ slice_get self.now.history place }
+    {
+        let entry = match *self.entries.get(place as usize)? {
+            KeptEntry::Accept { pass, place } => Entry::Accept {
+                pass,
+                edit: self.edits.get(place)?,
+            },
+            KeptEntry::Publish { pass, prefix } => Entry::Publish { pass, prefix },
+            KeptEntry::Halt { pass } => Entry::Halt { pass },
+        };
+        Some(entry)
     }
 
     /// How many edits were accepted, at most 1,048,576.

@@ -5,6 +5,7 @@
 pub mod board;
 pub mod entry;
 pub mod error;
+mod kept_entry;
 pub mod laws;
 
 pub use board::{Board, Job, Look};
