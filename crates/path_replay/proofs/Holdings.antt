@@ -7,10 +7,10 @@ use Rattle.moves.specs.Maps.{Map}
 use Rattle.versions.specs.Databases.{Versioned}
 use Rattle.version_build.specs.Builders.{Building}
 use Rattle.edit_log.specs.declared.edit.Edit.{Edit}
-use Rattle.edit_log.specs.Edits.{ChangesInside, EditsInside, changes_of, edited, map_after}
+use Rattle.edit_log.specs.Edits.{ChangesInside, EditsInside, edited, map_after}
 use Rattle.edit_log.specs.EditLaws.{HasSameSides}
 use Rattle.edit_log.specs.Verdicts.{MayBeAccepted}
-use Rattle.edit_log.proofs.EditedMaps.{edits_keep_sides, edits_go_on as maps_go_on, inside_too}
+use Rattle.edit_log.proofs.EditedMaps.{changes_inside_too, edits_keep_sides, edits_go_on as maps_go_on}
 use Rattle.path_core.specs.declared.entry.Entry.{Entry}
 use Rattle.path_core.specs.declared.entry.Entry.TheVariants.{Accept, Publish}
 use Rattle.path_core.specs.Boards.{Boarded, with_entry, with_version}
@@ -71,10 +71,6 @@ module _ (old new : Boarded) (g : Grows old new) where
 
 -- ---- edits lie inside, and the map may be searched
 
--- what lies inside a map after edits lies inside the map
-changes_inside : (map other : Map) (edit : Edit) → HasSameSides map other → ChangesInside map edit → ChangesInside other edit
-changes_inside map other edit same all = λ k d lt. inside_too map other (get_or (changes_of edit) k d).cell same (all k d lt)
-
 back : (map other : Map) → HasSameSides map other → HasSameSides other map
 back map other same = record { width = sym same.width; height = sym same.height; cells = sym same.cells }
 
@@ -85,7 +81,7 @@ accept_replayable old new pass edit is may made =
     let history : new.history ≡ old.history ++ Accept pass edit ∷ [] = ap (λ b. b.history) made in
     let edits : edits_of (old.history ++ Accept pass edit ∷ []) ≡ edits_of old.history ++ edit ∷ [] = edits_go_on old.history (Accept pass edit ∷ []) in
     let sides = edits_keep_sides old.start (edits_of old.history) in
-    let inside = changes_inside (map_now old.start old.history) old.start edit (back _ _ sides) may.inside in
+    let inside = changes_inside_too (map_now old.start old.history) old.start edit (back _ _ sides) may.inside in
     let last : map_after old.start (edits_of old.history ++ edit ∷ []) ≡ edited (map_now old.start old.history) edit = fold_push edited old.start (edits_of old.history) edit in
     record {
       inside = rw (start, history, edits) (All-push (ChangesInside old.start) (edits_of old.history) edit is.inside inside);
@@ -107,7 +103,7 @@ pub job_inside : (board : Boarded) (map : Map) (known : ℕ) (edits : List Edit)
     → edits ≡ drop known (edits_of board.history) → EditsInside map edits
 job_inside board map known edits is same rest =
     let sides = edits_keep_sides board.start (take known (edits_of board.history)) in
-    rw (same, rest) (λ k d lt. changes_inside board.start (map_at board.start board.history known) (get_or (drop known (edits_of board.history)) k d) sides
+    rw (same, rest) (λ k d lt. changes_inside_too board.start (map_at board.start board.history known) (get_or (drop known (edits_of board.history)) k d) sides
     (All-drop (ChangesInside board.start) known (edits_of board.history) is.inside k d lt))
 
 -- and lead to the map now

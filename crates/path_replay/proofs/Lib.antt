@@ -1,4 +1,6 @@
 pub mod LinesRead
+pub mod KeptEvents
+pub mod ChangesRead
 pub mod Holdings
 pub mod Looking
 pub mod Replaying

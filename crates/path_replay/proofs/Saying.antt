@@ -1,18 +1,19 @@
 -- What is said of an event, and the entry that it leaves.
 use Rattle.std.proofs.Common.{◌≡◌, ℕ, List, Option, Some, None, Result, Ok, Err, OnOk, OnErr, refl, ap, inr}
 use Rattle.std.specs.Option.{option_map}
+use Rattle.moves.specs.declared.Cell.{Cell}
 use Rattle.edit_log.specs.declared.edit.Edit.{Edit}
 use Rattle.path_core.specs.declared.entry.Entry.{Entry}
 use Rattle.path_core.specs.declared.entry.Entry.TheVariants.{Publish as PublishEntry, Halt as HaltEntry}
 use Rattle.path_core.specs.Boards.{Boarded}
 use Rattle.path_core.specs.Histories.{edits_of}
 use Rattle.path_replay.specs.declared.event.Event.{Event}
-use Rattle.path_replay.specs.declared.event.Event.TheVariants.{Submit, Publish, Halt}
+use Rattle.path_replay.specs.declared.event.Event.TheVariants.{Submit, Query, Publish, Halt}
 use Rattle.path_replay.specs.declared.reply.Reply.{Reply}
 use Rattle.path_replay.specs.declared.reply.Reply.TheVariants.{Accepted, Refused, Looked, NothingNew, Job, NoRow, RowLeft, NoJob, NotReady, Overtaken, Published, Halting, Halted}
 use Rattle.path_replay.specs.Replays.{OpenBuild, IsSubmitted, IsPublished, IsHalted}
-use Rattle.path_replay.specs.Texts.{reply_text}
-use Rattle.path_replay.specs.Inside.{Holding, build_of, standing_of, Grows, IsCutShort, IsReplayable}
+use Rattle.path_replay.specs.Texts.{query_text, reply_text}
+use Rattle.path_replay.specs.Inside.{AddsAnswer, AddsSaid, Holding, build_of, standing_of, Grows, IsCutShort, IsReplayable, IsSound}
 use Rattle.path_replay.proofs.Holdings.{no_edit, other_replayable}
 
 pub on_err : {T E P : Type 0} (result : Result T E) → P → OnErr result P
@@ -95,3 +96,12 @@ pub halt_entered : (old new : Boarded) (state : Holding) (event : Event) (pass :
     → IsHalted old.history pass reply new.history → IsCutShort old state event new
 halt_entered old new state event pass reply which is =
     rw which (inr (record { said = reply_text reply; state = standing_of state; is = (reply, (is, refl), refl) }))
+
+-- what is said of a query
+pub query_told : (board : Boarded) (pass : Holding) (event : Event) (number : ℕ) (start goal : Cell) (before text : List ℕ) → event ≡ Query number start goal
+    → IsSound board pass → AddsAnswer pass.version start goal before text → AddsSaid board pass event board pass before text
+query_told board pass event number start goal before text which sound adds = rw which (record {
+  said = query_text pass.version.prefix adds.answer;
+  is = (adds.answer, record { version = pass.version; is_version = sound.version; answers = adds.is }, refl, refl);
+  added = adds.added;
+})

@@ -2,14 +2,17 @@
 --
 --     submit 0 3 4 1      query 0 0 0 5 6      look 0      begin 0      row 0      publish 0      halt 0
 --
--- The edit of `submit` has a column, a row, and `0` for blocked or `1` for passable.
-use Rattle.std.specs.Prelude.{◌≡◌, ℕ, ◌+◌, ◌-◌, ◌<◌, ◌++◌, Bool, true, false, if◌then◌else◌, List, [], ◌∷◌, All, Option, Some, None, Result, Ok, Err, codes}
+-- The edit of `submit` has 1 to 64 changes, one after the other: a column, a row, and `0` for blocked, `1` for land or
+-- `2` for water. `submit 0 3 4 1 3 5 2` makes land of one cell and water of the next.
+use Rattle.std.specs.Prelude.{◌≡◌, ℕ, zero, suc, ◌+◌, ◌-◌, ◌<◌, ◌++◌, if◌then◌else◌, List, [], ◌∷◌, All, Option, Some, None, Result, Ok, Err, codes}
 use Rattle.std.specs.List.{AllZip}
 use Rattle.std.specs.Fmt.{decimal}
 use Rattle.std.specs.Str.{bytes_eq}
 use Rattle.moves.specs.declared.Cell.{Cell}
+use Rattle.moves.specs.declared.Terrain.{Terrain}
+use Rattle.moves.specs.declared.Terrain.TheVariants.{Blocked, Land, Water}
 use Rattle.edit_log.specs.declared.edit.CellChange.{CellChange}
-use Rattle.edit_log.specs.Edits.{changes_of}
+use Rattle.edit_log.specs.declared.TheConstants.{MAX_CHANGES}
 use Rattle.text_lines.specs.Lines.{lines_of}
 use Rattle.text_lines.specs.Numbers.{number_at_most}
 use Rattle.text_lines.specs.Words.{is_blank, words_of}
@@ -62,12 +65,34 @@ first_cell words = do
   y ← first_number MAX_COORDINATE x.1
   Some (record { x = x.0; y = y.0 }, y.1)
 
--- whether a cell is passable, in the first word: the one character `0` or `1`
-abbrev pub first_passable : List (List ℕ) → Read Bool
-first_passable [] = None
-first_passable (word ∷ words) =
-    if bytes_eq word (codes "0") then Some (false, words)
-    else (if bytes_eq word (codes "1") then Some (true, words) else None)
+-- what stands at a cell, in the first word: the one character `0`, `1` or `2`
+abbrev pub first_terrain : List (List ℕ) → Read Terrain
+first_terrain [] = None
+first_terrain (word ∷ words) =
+    if bytes_eq word (codes "0") then Some (Blocked, words)
+    else (if bytes_eq word (codes "1") then Some (Land, words)
+    else (if bytes_eq word (codes "2") then Some (Water, words) else None))
+
+-- the change in the first three words: its cell, and what stands there from then on
+abbrev pub first_change : List (List ℕ) → Read CellChange
+first_change words = do
+  cell ← first_cell words
+  terrain ← first_terrain cell.1
+  Some (record { cell = cell.0; terrain = terrain.0 }, terrain.1)
+
+-- the changes before these words and those that they say, up to so many, until no word is left
+abbrev pub changes_with : ℕ → List CellChange → List (List ℕ) → Option (List CellChange)
+changes_with most before [] = Some before
+changes_with zero before (word ∷ words) = None
+changes_with (suc most) before (word ∷ words) = do
+  change ← first_change (word ∷ words)
+  changes_with most (before ++ change.0 ∷ []) change.1
+
+-- the changes that the words say: one, and up to 63 more
+unfoldable pub changes_said : List (List ℕ) → Option (List CellChange)
+changes_said words = do
+  first ← first_change words
+  changes_with (MAX_CHANGES - 1) (first.0 ∷ []) first.1
 
 -- the value, if no word is left
 abbrev pub ended : {A : Type 0} → List (List ℕ) → A → Option A
@@ -76,9 +101,9 @@ ended (word ∷ words) value = None
 
 -- ---- a line
 
--- what a line says: an event, whose edit changes one cell
+-- what a line says: an event, whose edit has these changes
 pub data Said : Type 0 where
-  submit : ℕ → CellChange → Said
+  submit : ℕ → List CellChange → Said
   look : ℕ → Said
   query : ℕ → Cell → Cell → Said
   begin : ℕ → Said
@@ -101,9 +126,8 @@ pass_said event words = do
 unfoldable pub submit_said : List (List ℕ) → Option Said
 submit_said words = do
   pass ← first_pass words
-  cell ← first_cell pass.1
-  passable ← first_passable cell.1
-  ended passable.1 (submit pass.0 (record { cell = cell.0; passable = passable.0 }))
+  changes ← changes_said pass.1
+  Some (submit pass.0 changes)
 
 unfoldable pub query_said : List (List ℕ) → Option Said
 query_said words = do
@@ -131,7 +155,7 @@ words_said (name ∷ words) = named name words
 
 -- the event is what is said
 abbrev pub IsSaid : Said → Event → Type 0
-IsSaid (submit number change) (Submit pass edit) = (pass ≡ number) × (changes_of edit ≡ change ∷ [])
+IsSaid (submit number changes) (Submit pass edit) = (pass ≡ number) × (edit ≡ changes)
 IsSaid (look number) (Look pass) = pass ≡ number
 IsSaid (query number from to) (Query pass start goal) = (pass ≡ number) × (start ≡ from) × (goal ≡ to)
 IsSaid (begin number) (Begin pass) = pass ≡ number

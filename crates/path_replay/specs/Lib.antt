@@ -1,4 +1,5 @@
 pub mod Events
+pub mod KeptEvents
 pub mod Texts
 pub mod Replays
 pub mod Inside

@@ -54,10 +54,10 @@ pub enum Event {
 
 impl Event {
     /// The number of the pass.
-    pub fn pass(self) -> u32
-        ensures { result ≡ pass_of self }
+    pub fn pass(&self) -> u32
+        ensures { result ≡ pass_of self.now }
     {
-        match self {
+        match *self {
             Event::Submit { pass, .. }
             | Event::Look { pass }
             | Event::Query { pass, .. }

@@ -5,6 +5,8 @@
 mod answers;
 mod error;
 mod event;
+mod events;
+mod kept_event;
 mod pass;
 mod reading;
 mod reply;
@@ -12,6 +14,7 @@ mod running;
 
 pub use error::EventsError;
 pub use event::Event;
+pub use events::Events;
 pub use reading::read_events;
 pub use running::run_events;
 

@@ -1,20 +1,22 @@
 //! Reads events.
 
-ghost use Rattle.std.specs.Prelude.{◌≡◌, ◌-◌, ◌<◌, ◌≤◌, [], ◌∷◌, ◌++◌, None, Some, length};
+ghost use Rattle.std.specs.Prelude.{◌≡◌, ◌-◌, ◌<◌, ◌≤◌, [], ◌∷◌, None, Some, length};
 ghost use Rattle.std.specs.Prelude.{MatchOption, IfOk, IfErr, IfSome, OnOk};
 ghost use Rattle.text_lines.specs.Words.{words_of};
+ghost use Rattle.edit_log.specs.declared.TheConstants.{MAX_CHANGES};
 ghost use Rattle.path_replay.specs.declared.TheConstants.{PASSES, MAX_EVENTS_BYTES};
 ghost use Rattle.path_replay.specs.Events.{AreEventsOf, HavePasses, IsEventsError, ended, named, pass_of};
-ghost use Rattle.path_replay.specs.Events.{first_cell, first_number, first_pass, first_passable, only_pass};
+ghost use Rattle.path_replay.specs.Events.{changes_said, changes_with, first_cell, first_change, first_number, first_pass, first_terrain, only_pass};
 ghost use Rattle.path_replay.specs.Events.{query_said, submit_said, words_said};
 ghost use Rattle.path_replay.specs.Inside.{IsReadAs};
 
 use crate::error::EventsError;
 use crate::event::Event;
+use crate::events::Events;
 use crate::{MAX_EVENTS_BYTES, PASSES};
-use edit_log::{CellChange, Edit};
-use moves::Cell;
-use std::alloc::{AllocError, Global};
+use edit_log::{CellChange, Edit, MAX_CHANGES};
+use moves::{Cell, Terrain};
+use std::alloc::Global;
 use text_lines::{Lines, cut_word, is_blank, number_at_most};
 
 /// The greatest column or row that an event names.
@@ -28,33 +30,25 @@ type EventLines<'a> = Lines<'a, MAX_EVENTS_BYTES>;
 /// # Errors
 ///
 /// The first line that is neither blank nor an event, or want of memory.
-pub fn read_events(alloc: Global, bytes: &[u8]) -> Result<Vec<Event>, EventsError>
+pub fn read_events(alloc: Global, bytes: &[u8]) -> Result<Events, EventsError>
     requires { length bytes.now ≤ MAX_EVENTS_BYTES }
-    ensures events { IfOk result (λ events. AreEventsOf bytes.now events.items) }
-    ensures passes { IfOk result (λ events. HavePasses events.items) }
+    ensures events { IfOk result (λ events. AreEventsOf bytes.now events) }
+    ensures passes { IfOk result (λ events. HavePasses events) }
     ensures refused { IfErr result (IsEventsError bytes.now) }
 {
     let mut lines = EventLines::of(bytes);
-    let mut events = Vec::new(alloc);
+    let mut events = Events::new(alloc);
     let mut number = 1;
     while let Some(line) = lines.next() {
         if !is_blank(line) {
             match event_of(line) {
-                Some(event) => add(&mut events, event)?,
+                Some(event) => events.push(event)?,
                 None => return Err(EventsError::Line(number)),
             }
         }
         number += 1;
     }
     Ok(events)
-}
-
-/// Adds an event to the others.
-fn add(events: &mut Vec<Event>, event: Event) -> Result<(), AllocError>
-    ensures { OnOk result (events.new.items ≡ events.old.items ++ event ∷ []) }
-{
-    events.push(event)?;
-    Ok(())
 }
 
 /// The event that the line says; `None` exactly where it says none.
@@ -104,15 +98,49 @@ fn submit_of(words: &[u8]) -> Option<Event>
     ensures pass { IfSome result (λ event. pass_of event < PASSES) }
 {
     let (pass, words) = first_number(words, PASSES - 1)?;
-    let (cell, words) = first_cell(words)?;
-    let (passable, words) = first_passable(words)?;
-    if cut_word(words).is_some() {
+    let edit = edit_of(words)?;
+    Some(Event::Submit { pass, edit })
+}
+
+/// The edit of the changes that the words say.
+#[tactic(auto, unfolding(crate::specs::Events::changes_said))]
+fn edit_of(words: &[u8]) -> Option<Edit>
+    ensures { MatchOption result (changes_said (words_of words.now) ≡ None)
+        (λ edit. changes_said (words_of words.now) ≡ Some edit) }
+{
+    let (first, words) = first_change(words)?;
+    edit_with(first, words)
+}
+
+/// The edit of a change and of those that the words say.
+fn edit_with(first: CellChange, words: &[u8]) -> Option<Edit>
+    ensures { MatchOption result (changes_with (MAX_CHANGES - 1) (first ∷ []) (words_of words.now) ≡ None)
+        (λ edit. changes_with (MAX_CHANGES - 1) (first ∷ []) (words_of words.now) ≡ Some edit) }
+{
+    let mut changes = [first; MAX_CHANGES];
+    let mut left = words;
+    for count in 1..MAX_CHANGES {
+        if cut_word(left).is_none() {
+            return Edit::of(&changes[..count]);
+        }
+        let (change, next) = first_change(left)?;
+        changes[count] = change;
+        left = next;
+    }
+    if cut_word(left).is_some() {
         return None;
     }
-    Some(Event::Submit {
-        pass,
-        edit: Edit::one(CellChange { cell, passable }),
-    })
+    Edit::of(&changes)
+}
+
+/// The change in the first three words, and the words after it.
+fn first_change(words: &[u8]) -> Option<(CellChange, &[u8])>
+    ensures { MatchOption result (first_change (words_of words.now) ≡ None)
+        (λ first. first_change (words_of words.now) ≡ Some (first.0, words_of first.1.now)) }
+{
+    let (cell, words) = first_cell(words)?;
+    let (terrain, words) = first_terrain(words)?;
+    Some((CellChange { cell, terrain }, words))
 }
 
 /// The query that the words after `query` say.
@@ -168,17 +196,20 @@ fn first_cell(words: &[u8]) -> Option<(Cell, &[u8])>
     Some((cell, words))
 }
 
-/// Whether a cell is passable, in the first word, and the words after it.
-fn first_passable(words: &[u8]) -> Option<(bool, &[u8])>
-    ensures { MatchOption result (first_passable (words_of words.now) ≡ None)
-        (λ first. first_passable (words_of words.now) ≡ Some (first.0, words_of first.1.now)) }
+/// What stands at a cell, in the first word, and the words after it.
+fn first_terrain(words: &[u8]) -> Option<(Terrain, &[u8])>
+    ensures { MatchOption result (first_terrain (words_of words.now) ≡ None)
+        (λ first. first_terrain (words_of words.now) ≡ Some (first.0, words_of first.1.now)) }
 {
     let (word, words) = cut_word(words)?;
     if word == b"0".as_slice() {
-        return Some((false, words));
+        return Some((Terrain::Blocked, words));
     }
     if word == b"1".as_slice() {
-        return Some((true, words));
+        return Some((Terrain::Land, words));
+    }
+    if word == b"2".as_slice() {
+        return Some((Terrain::Water, words));
     }
     None
 }

@@ -10,6 +10,7 @@ ghost use Rattle.path_replay.specs.Inside.{IsCutOff, IsCutShort, IsReplayable, I
 
 use crate::PASSES;
 use crate::event::Event;
+use crate::events::Events;
 use crate::pass::Pass;
 use crate::reply::Reply;
 use cell_order::OrderKind;
@@ -31,7 +32,7 @@ pub fn run_events(
     alloc: Global,
     board: &mut Board,
     kind: OrderKind,
-    events: &[Event],
+    events: &Events,
 ) -> Result<Text, AllocError>
     requires board { MayBeReplayed board.old kind }
     requires passes { HavePasses events.now }
@@ -44,7 +45,8 @@ pub fn run_events(
     let mut passes = passes_of(alloc, board)?;
     let mut text = String::new(alloc);
     for place in 0..events.len() {
-        run_event(alloc, board, &mut passes, events[place], &mut text)?;
+        let event = events.get(place).unwrap();
+        run_event(alloc, board, &mut passes, &event, &mut text)?;
     }
     Ok(Text::new(text.into_bytes()))
 }
@@ -68,16 +70,16 @@ fn run_event(
     alloc: Global,
     board: &mut Board,
     passes: &mut Vec<Pass>,
-    event: Event,
+    event: &Event,
     text: &mut String,
 ) -> Result<(), AllocError>
-    requires pass { pass_of event < PASSES }
+    requires pass { pass_of event.now < PASSES }
     requires passes { ArePasses board.old passes.old.items }
-    ensures line { OnOk result (AddsLine board.old passes.old.items event board.new passes.new.items
+    ensures line { OnOk result (AddsLine board.old passes.old.items event.now board.new passes.new.items
         (string_bytes text.old) (string_bytes text.new)) }
     ensures passes { OnOk result (ArePasses board.new passes.new.items) }
     ensures grows { Grows board.old board.new }
-    ensures refused { OnErr result (IsCutOff board.old passes.old.items event board.new) }
+    ensures refused { OnErr result (IsCutOff board.old passes.old.items event.now board.new) }
 {
     let number = event.pass();
     write!(text, "{number} ")?;
@@ -91,19 +93,19 @@ fn say(
     alloc: Global,
     board: &mut Board,
     pass: &mut Pass,
-    event: Event,
+    event: &Event,
     text: &mut String,
 ) -> Result<(), AllocError>
     requires sound { IsSound board.old pass.old }
     requires replayable { IsReplayable board.old }
-    ensures said { OnOk result (AddsSaid board.old pass.old event board.new pass.new
+    ensures said { OnOk result (AddsSaid board.old pass.old event.now board.new pass.new
         (string_bytes text.old) (string_bytes text.new)) }
     ensures sound { OnOk result (IsSound board.new pass.new) }
     ensures replayable { OnOk result (IsReplayable board.new) }
     ensures grows { Grows board.old board.new }
-    ensures refused { OnErr result (IsCutShort board.old pass.old event board.new) }
+    ensures refused { OnErr result (IsCutShort board.old pass.old event.now board.new) }
 {
-    match event {
+    match *event {
         Event::Submit { pass, edit } => push_reply(text, submit(board, pass, edit)?),
         Event::Look { .. } => push_reply(text, pass.look(board)?),
         Event::Query { start, goal, .. } => pass.query(text, start, goal),
