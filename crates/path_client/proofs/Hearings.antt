@@ -13,7 +13,7 @@ use Rattle.query_proto.specs.Frames.{IsReplyFrame}
 use Rattle.query_proto.proofs.SpelledMoves.{same_moves}
 use Rattle.wire.specs.Talks.{Talk}
 use Rattle.path_client.specs.declared.fault.ClientFault.{ClientFault}
-use Rattle.path_client.specs.declared.fault.ClientFault.TheVariants.{Malformed, Closed, ReadFault, WriteFault, NoMemory}
+use Rattle.path_client.specs.declared.fault.ClientFault.TheVariants.{Malformed, Closed, ReadFault, WriteFault, OldServer, NoMemory}
 use Rattle.path_client.specs.declared.heard.Heard.{Heard}
 use Rattle.path_client.specs.Taking.{Takes, TakesPart}
 use Rattle.path_client.specs.Asking.{HearsFrom, HearsNothing, IsHeardIn, NotHeardIn, TakesSize}
@@ -36,6 +36,7 @@ frame_torn before between after size ReadFault p q = record {
 }
 frame_torn before between after size Malformed p q = absurd q.why
 frame_torn before between after size WriteFault p q = absurd q.why
+frame_torn before between after size (OldServer kind) p q = absurd q.why
 frame_torn before between after size NoMemory p q = absurd q.why
 
 pub torn_at : (before between after : Option Talk) (size wanted : ℕ) (fault : ClientFault) → wanted ≡ size
@@ -83,6 +84,7 @@ whole_unheard before between after size frame NoMemory p q long (told, (moves, a
 whole_unheard before between after size frame (Closed have) p q long h = absurd h
 whole_unheard before between after size frame ReadFault p q long h = absurd h
 whole_unheard before between after size frame WriteFault p q long h = absurd h
+whole_unheard before between after size frame (OldServer kind) p q long h = absurd h
 
 -- moves with the numbers behind the head of a path are its moves
 path_heard : (version : ℕ) (cost : Cost) (frame : List ℕ) (found : List Move) → IsReplyFrame (reply.Path version cost) frame

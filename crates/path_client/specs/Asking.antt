@@ -1,15 +1,18 @@
 -- Asking: what a client sends over a link, what it takes of it, and what it hears.
-use Rattle.std.specs.Prelude.{ℕ, ◌≡◌, ◌⊎◌, ◌^◌, ◌<◌, ◌≤◌, List, [], ◌++◌, length, take, map, Option, Result, IfOk, IfErr, IsErrOf}
+use Rattle.std.specs.Prelude.{ℕ, ◌≡◌, ◌≢◌, ◌⊎◌, ◌^◌, ◌<◌, ◌≤◌, List, [], ◌++◌, length, take, map, Option, Result, Ok, Err, IfOk, IfErr, IsErrOf}
 use Rattle.byteorder.specs.Endian.{big_bytes}
 use Rattle.moves.specs.declared.Move.{Move}
 use Rattle.moves.specs.Moves.{number_of}
 use Rattle.query_proto.specs.declared.TheConstants.{MAX_REPLY}
 use Rattle.query_proto.specs.declared.replies.Reply.{Reply}
+use Rattle.query_proto.specs.declared.replies.Reply.TheVariants as reply
+use Rattle.query_proto.specs.declared.protocols.Proto.TheVariants.{One}
 use Rattle.query_proto.specs.declared.requests.Request.{Request}
-use Rattle.query_proto.specs.Frames.{AreMovesOf, IsReplyFrame, IsRequestFrame, reply_frame, sent_reply, sent_request}
+use Rattle.query_proto.specs.declared.requests.Request.TheVariants.{Hello}
+use Rattle.query_proto.specs.Frames.{AreMovesOf, Fits, IsReplyFrame, kind_of, reply_frame, request_bytes, sent_reply, sent_request}
 use Rattle.wire.specs.Talks.{Talk, with_sent, with_taken, SendsPrefix}
 use Rattle.path_client.specs.declared.fault.ClientFault.{ClientFault}
-use Rattle.path_client.specs.declared.fault.ClientFault.TheVariants.{Malformed, Closed, ReadFault, WriteFault, NoMemory}
+use Rattle.path_client.specs.declared.fault.ClientFault.TheVariants.{Malformed, Closed, ReadFault, WriteFault, OldServer, NoMemory}
 use Rattle.path_client.specs.declared.heard.Heard.{Heard}
 use Rattle.path_client.specs.Taking.{BeginsLeft, NothingLeft, Takes}
 
@@ -67,36 +70,68 @@ NotHeard taken after Malformed = IsTooLong taken ⊎ SpellsNoReply taken
 NotHeard taken after (Closed have) = (have ≡ length taken) × IsTorn taken × NothingLeft after
 NotHeard taken after ReadFault = IsTorn taken
 NotHeard taken after WriteFault = taken ≡ []
+NotHeard taken after (OldServer kind) = ⊥
 NotHeard taken after NoMemory = IsSize taken ⊎ IsAnswer taken
 
 -- a first part of the text, which is less than the whole
 abbrev pub IsFirstPart : List ℕ → List ℕ → Type 0
 IsFirstPart part text = (count : ℕ) × (count < length text) × (part ≡ take count text)
 
--- A request is sent whole and once, but for a fault of writing; then an answer is taken, if it is allowed and comes whole,
--- and no byte more.
-pub record Asked (request : Request) (before : Option Talk) (result : Result Heard ClientFault) (after : Option Talk) : Type 0 where
-  pub frame : List ℕ
-  pub spells : IsRequestFrame request frame
+-- A request is sent whole and once, but for a fault of writing; then an answer is taken, if it is allowed and comes
+-- whole, and no byte more.
+pub record Exchanged (request : Request) (before : Option Talk) (result : Result Heard ClientFault)
+    (after : Option Talk) : Type 0 where
   pub taken : List ℕ
   pub sent : List ℕ
   pub passes : Passes before after taken sent
-  pub whole : (IsErrOf result WriteFault → ⊥) → sent ≡ sent_request frame
-  pub part : IsErrOf result WriteFault → IsFirstPart sent (sent_request frame)
+  pub whole : (IsErrOf result WriteFault → ⊥) → sent ≡ sent_request (request_bytes request)
+  pub part : IsErrOf result WriteFault → IsFirstPart sent (sent_request (request_bytes request))
   pub heard : IfOk result (λ heard. Hears taken heard.reply heard.moves)
   pub fault : IfErr result (NotHeard taken after)
 
+-- a Hello was answered by Welcome
+pub record IsGreeted (before after : Option Talk) : Type 0 where
+  pub heard : Heard
+  pub greeted : Exchanged Hello before (Ok heard) after
+  pub welcome : heard.reply ≡ reply.Welcome
+
+-- a Hello was answered by another reply, whose first byte is told
+pub record IsGreetedByOld (before after : Option Talk) (fault : ClientFault) : Type 0 where
+  pub heard : Heard
+  pub greeted : Exchanged Hello before (Ok heard) after
+  pub other : heard.reply ≢ reply.Welcome
+  pub told : fault ≡ OldServer (kind_of heard.reply)
+
+-- why a Hello was not answered by Welcome: no answer was heard, or another one
+abbrev pub IsNotGreeted : Option Talk → Option Talk → ClientFault → Type 0
+IsNotGreeted before after fault = Exchanged Hello before (Err fault) after ⊎ IsGreetedByOld before after fault
+
+-- a Hello was answered by Welcome, and behind it the request was asked
+pub record IsAskedBehind (request : Request) (before : Option Talk) (result : Result Heard ClientFault)
+    (after : Option Talk) : Type 0 where
+  pub between : Option Talk
+  pub greeted : IsGreeted before between
+  pub asked : Exchanged request between result after
+
+-- a Hello was not answered by Welcome, and the request was not asked
+pub record IsNotAsked (before : Option Talk) (result : Result Heard ClientFault) (after : Option Talk) : Type 0 where
+  pub fault : ClientFault
+  pub is : result ≡ Err fault
+  pub why : IsNotGreeted before after fault
+
+-- A request is asked at once where the first protocol has it, else behind a Hello that is answered by Welcome.
+pub record Asked (request : Request) (before : Option Talk) (result : Result Heard ClientFault)
+    (after : Option Talk) : Type 0 where
+  pub first : Fits One request → Exchanged request before result after
+  pub second : (Fits One request → ⊥) → IsAskedBehind request before result after ⊎ IsNotAsked before result after
+
 -- the request was sent whole and once
-pub record SendsRequest (request : Request) (before after : Option Talk) : Type 0 where
-  pub frame : List ℕ
-  pub spells : IsRequestFrame request frame
-  pub sends : after ≡ with_sent before (sent_request frame)
+abbrev pub SendsRequest : Request → Option Talk → Option Talk → Type 0
+SendsRequest request before after = after ≡ with_sent before (sent_request (request_bytes request))
 
 -- less than the whole request was sent
-pub record SendsRequestPart (request : Request) (before after : Option Talk) : Type 0 where
-  pub frame : List ℕ
-  pub spells : IsRequestFrame request frame
-  pub sends : SendsPrefix before after (sent_request frame)
+abbrev pub SendsRequestPart : Request → Option Talk → Option Talk → Type 0
+SendsRequestPart request before after = SendsPrefix before after (sent_request (request_bytes request))
 
 -- the length of a frame was taken, which some reply may have
 pub record TakesSize (before after : Option Talk) (size : ℕ) : Type 0 where
@@ -128,6 +163,7 @@ NotHeardIn frame NoMemory = (reply : Reply) × IsReplyFrame reply frame
 NotHeardIn frame (Closed have) = ⊥
 NotHeardIn frame ReadFault = ⊥
 NotHeardIn frame WriteFault = ⊥
+NotHeardIn frame (OldServer kind) = ⊥
 
 -- the bytes are the numbers of moves
 pub record AreNumbers (bytes : List ℕ) : Type 0 where

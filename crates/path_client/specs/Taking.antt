@@ -2,7 +2,7 @@
 use Rattle.std.specs.Prelude.{ℕ, ◌≡◌, ◌+◌, ◌<◌, List, [], ◌++◌, length, drop, Option, IfSome, ⊤}
 use Rattle.wire.specs.Talks.{Talk, with_taken}
 use Rattle.path_client.specs.declared.fault.ClientFault.{ClientFault}
-use Rattle.path_client.specs.declared.fault.ClientFault.TheVariants.{Malformed, Closed, ReadFault, WriteFault, NoMemory}
+use Rattle.path_client.specs.declared.fault.ClientFault.TheVariants.{Malformed, Closed, ReadFault, WriteFault, OldServer, NoMemory}
 
 -- what is left is these bytes and the rest behind them, where the talk is told
 abbrev pub BeginsLeft : Option Talk → List ℕ → Type 0
@@ -23,6 +23,7 @@ IsCutShort held after (Closed have) = (have ≡ held) × NothingLeft after
 IsCutShort held after ReadFault = ⊤
 IsCutShort held after Malformed = ⊥
 IsCutShort held after WriteFault = ⊥
+IsCutShort held after (OldServer kind) = ⊥
 IsCutShort held after NoMemory = ⊥
 
 -- fewer than so many bytes were taken, behind those that are held, and why no more

@@ -1,22 +1,26 @@
 //! One request out, one answer in.
 
-ghost use Rattle.std.specs.Prelude.{◌≡◌, ◌≤◌, IsErrOf, OnErr, OnOk};
+ghost use Rattle.std.specs.Prelude.{◌≡◌, ◌≢◌, ◌≤◌, IfErr, IsErrOf, OnErr, OnOk};
+ghost use Rattle.query_proto.specs.declared.replies.Reply.TheVariants.{Welcome};
+ghost use Rattle.query_proto.specs.Frames.{kind_of};
 ghost use Rattle.wire.specs.Causes.{Rose};
-ghost use Rattle.path_client.specs.Asking.{Asked, SendsRequest, SendsRequestPart};
+ghost use Rattle.path_client.specs.Asking.{Asked, Exchanged, IsGreeted, IsNotGreeted, SendsRequest, SendsRequestPart};
 
 use crate::hearing::hear;
 use crate::{ClientFault, Heard};
-use query_proto::{HEAD_ROOM, Request, encode_request};
+use query_proto::{Proto, REQUEST_ROOM, Reply, Request, encode_request, fits};
 use std::alloc::Global;
 use wire::{Failed, Link, send_all};
 
-/// Sends a request over a link and hears the answer: of what comes in it takes the answer and no byte more. It takes
-/// memory for the answer alone.
+/// Sends a request over a link and hears the answer: of what comes in it takes the answer and no byte more. A request
+/// that the first protocol does not have is sent behind a Hello, once Welcome has answered that. It takes memory for the
+/// answers alone.
 ///
 /// # Errors
 ///
 /// - `Malformed` exactly where what came in is no answer: a length above 32,780, or a whole frame that no reply has.
 /// - `Closed` exactly where the link ended before a whole answer, with the bytes that came in of it.
+/// - `OldServer` exactly where the answer to the Hello is not Welcome, with its first byte.
 /// - `ReadFault` and `WriteFault` only where the link's count of that direction rose in this call.
 /// - `NoMemory` for want of memory.
 pub fn ask<L: Link>(alloc: Global, link: &mut L, request: Request) -> Result<Heard, ClientFault>
@@ -28,7 +32,55 @@ pub fn ask<L: Link>(alloc: Global, link: &mut L, request: Request) -> Result<Hea
     ensures read_later { L.read_faults link.old ≤ L.read_faults link.new }
     ensures write_later { L.write_faults link.old ≤ L.write_faults link.new }
 {
-    match send_request(link, &request) {
+    if fits(&request, Proto::One) {
+        return exchange(alloc, link, &request);
+    }
+    match greet(alloc, link) {
+        Ok(()) => exchange(alloc, link, &request),
+        Err(fault) => Err(fault),
+    }
+}
+
+/// Asks for the second protocol.
+fn greet<L: Link>(alloc: Global, link: &mut L) -> Result<(), ClientFault>
+    ensures greeted { OnOk result (IsGreeted (L.talk link.old) (L.talk link.new)) }
+    ensures other { IfErr result (IsNotGreeted (L.talk link.old) (L.talk link.new)) }
+    ensures read_cause { IsErrOf result ClientFault.ReadFault
+        → Rose (L.read_faults link.old) (L.read_faults link.new) }
+    ensures write_cause { IsErrOf result ClientFault.WriteFault
+        → Rose (L.write_faults link.old) (L.write_faults link.new) }
+    ensures read_later { L.read_faults link.old ≤ L.read_faults link.new }
+    ensures write_later { L.write_faults link.old ≤ L.write_faults link.new }
+{
+    match exchange(alloc, link, &Request::Hello) {
+        Ok(heard) => welcomed(heard.reply),
+        Err(fault) => Err(fault),
+    }
+}
+
+/// What the answer to a Hello says.
+fn welcomed(reply: Reply) -> Result<(), ClientFault>
+    ensures welcome { OnOk result (reply ≡ Welcome) }
+    ensures other { IfErr result (λ _. reply ≢ Welcome) }
+    ensures told { IfErr result (λ fault. fault ≡ ClientFault.OldServer (kind_of reply)) }
+{
+    match reply {
+        Reply::Welcome => Ok(()),
+        _ => Err(ClientFault::OldServer { kind: reply.kind() }),
+    }
+}
+
+/// Sends a request and hears the answer, whatever the protocol.
+fn exchange<L: Link>(alloc: Global, link: &mut L, request: &Request) -> Result<Heard, ClientFault>
+    ensures exchanged { Exchanged request.now (L.talk link.old) result (L.talk link.new) }
+    ensures read_cause { IsErrOf result ClientFault.ReadFault
+        → Rose (L.read_faults link.old) (L.read_faults link.new) }
+    ensures write_cause { IsErrOf result ClientFault.WriteFault
+        → Rose (L.write_faults link.old) (L.write_faults link.new) }
+    ensures read_later { L.read_faults link.old ≤ L.read_faults link.new }
+    ensures write_later { L.write_faults link.old ≤ L.write_faults link.new }
+{
+    match send_request(link, request) {
         Ok(()) => hear(alloc, link),
         Err(Failed) => Err(ClientFault::WriteFault),
     }
@@ -42,7 +94,7 @@ fn send_request<L: Link>(link: &mut L, request: &Request) -> Result<(), Failed>
     ensures later { L.write_faults link.old ≤ L.write_faults link.new }
     ensures other { L.read_faults link.new ≡ L.read_faults link.old }
 {
-    let mut room = [0; HEAD_ROOM];
+    let mut room = [0; REQUEST_ROOM];
     let size = encode_request(request, &mut room);
     send_all(link, &room[..size])
 }

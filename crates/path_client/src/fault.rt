@@ -15,8 +15,13 @@ pub enum ClientFault {
     },
     /// The link failed to give bytes.
     ReadFault,
-    /// The link failed to send bytes. Less than the whole request was sent.
+    /// The link failed to send bytes. Less than all was sent that was to be.
     WriteFault,
+    /// The server does not know the second protocol, which the request wants: a Hello was not answered by Welcome.
+    OldServer {
+        /// The first byte of the reply in place of it.
+        kind: u8,
+    },
     /// Memory ran out.
     NoMemory,
 }

@@ -98,6 +98,7 @@ path_known (reply.Status version accepted cells comps runs) frame path (moves, a
 path_known reply.Done frame path (moves, are, e) = not_path frame 138 _ path (omega arith) e
 path_known (reply.Malformed frame_kind frame_length) frame path (moves, are, e) = not_path frame 139 _ path (omega arith) e
 path_known reply.NoMemory frame path (moves, are, e) = not_path frame 140 _ path (omega arith) e
+path_known reply.Welcome frame path (moves, are, e) = not_path frame 141 _ path (omega arith) e
 
 -- the bytes behind the head of a path's frame spell moves of the one cost that the frame tells
 known_cost : (frame : List ℕ) (cost : Cost) → 13 ≤ length frame

@@ -1,18 +1,24 @@
 -- Frames: how a request or a reply is spelled as bytes. In every number the highest byte comes first.
-use Rattle.std.specs.Prelude.{◌≡◌, ℕ, ◌+◌, ◌<◌, ◌≤◌, Bool, Option, MatchOption, cond, List, [], ◌∷◌, ◌++◌, drop, length, map, slice_index_or}
+use Rattle.std.specs.Prelude.{◌≡◌, ◌≢◌, ℕ, ◌+◌, ◌*◌, ◌<◌, ◌≤◌, ⊤, Bool, Option, MatchOption, cond, List, [], ◌∷◌, ◌++◌, drop, length, map, slice_index_or}
+use Rattle.std.specs.List.{flat_map}
 use Rattle.byteorder.specs.Endian.{big_bytes}
 use Rattle.root_cost.specs.declared.Cost.{Cost}
 use Rattle.moves.specs.declared.Cell.{Cell}
 use Rattle.moves.specs.declared.Move.{Move}
+use Rattle.moves.specs.declared.Terrain.{Terrain}
+use Rattle.moves.specs.declared.Terrain.TheVariants.{Blocked, Land, Water}
 use Rattle.moves.specs.Moves.{number_of}
 use Rattle.moves.specs.Paths.{cost_of}
+use Rattle.edit_log.specs.declared.TheConstants.{MAX_CHANGES}
 use Rattle.edit_log.specs.declared.edit.CellChange.{CellChange}
 use Rattle.edit_log.specs.declared.verdict.EditRefusal.{EditRefusal}
-use Rattle.edit_log.specs.declared.verdict.EditRefusal.TheVariants.{Outside, TooManyCells, EditsFull}
-use Rattle.edit_log.specs.Edits.{changes_of}
-use Rattle.query_proto.specs.declared.TheConstants.{MAX_MOVES}
+use Rattle.edit_log.specs.declared.verdict.EditRefusal.TheVariants.{Outside, TooManyCells, EditsFull, Repeated}
+use Rattle.query_proto.specs.declared.TheConstants.{MAX_MOVES, MAX_REQUEST}
 use Rattle.query_proto.specs.declared.kinds.TheConstants as kind
 use Rattle.query_proto.specs.declared.malformed.Malformed.{Malformed}
+use Rattle.query_proto.specs.declared.protocols.TheConstants.{FIRST_LIMIT}
+use Rattle.query_proto.specs.declared.protocols.Proto.{Proto}
+use Rattle.query_proto.specs.declared.protocols.Proto.TheVariants.{Start, One, Two}
 use Rattle.query_proto.specs.declared.replies.Reply.{Reply}
 use Rattle.query_proto.specs.declared.replies.Reply.TheVariants as reply
 use Rattle.query_proto.specs.declared.requests.Request.{Request}
@@ -26,25 +32,77 @@ cell_bytes cell = big_bytes 2 cell.x ++ big_bytes 2 cell.y
 abbrev pub flag_byte : Bool → ℕ
 flag_byte flag = cond flag 1 0
 
--- a change: its cell, and whether it is passable then
-abbrev pub change_bytes : CellChange → List ℕ
-change_bytes change = cell_bytes change.cell ++ flag_byte change.passable ∷ []
+-- a terrain
+abbrev pub terrain_byte : Terrain → ℕ
+terrain_byte Blocked = 0
+terrain_byte Land = 1
+terrain_byte Water = 2
 
--- The frame of a request: its kind, and what belongs to it. There is one spelling for each request.
-abbrev pub IsRequestFrame : Request → List ℕ → Type 0
-IsRequestFrame (request.Query start goal) frame = frame ≡ kind.QUERY ∷ cell_bytes start ++ cell_bytes goal
-IsRequestFrame (request.Change edit) frame =
-    (change : CellChange) × (changes_of edit ≡ change ∷ []) × (frame ≡ kind.CHANGE ∷ change_bytes change)
-IsRequestFrame request.Build frame = frame ≡ kind.BUILD ∷ []
-IsRequestFrame request.Status frame = frame ≡ kind.STATUS ∷ []
-IsRequestFrame request.Bye frame = frame ≡ kind.BYE ∷ []
-IsRequestFrame request.Stop frame = frame ≡ kind.STOP ∷ []
+-- a change: its cell, and what stands there then
+abbrev pub change_bytes : CellChange → List ℕ
+change_bytes change = cell_bytes change.cell ++ terrain_byte change.terrain ∷ []
+
+-- changes, one behind the other
+abbrev pub changes_bytes : List CellChange → List ℕ
+changes_bytes changes = flat_map change_bytes changes
+
+-- the frame of an edit: its one change, or several behind their number
+abbrev pub edit_bytes : List CellChange → List ℕ
+edit_bytes (change ∷ []) = kind.CHANGE ∷ change_bytes change
+edit_bytes changes = kind.CHANGES ∷ length changes ∷ changes_bytes changes
+
+-- The frame of a request: its kind, and what belongs to it. There is one spelling for each request, whatever the
+-- protocol.
+abbrev pub request_bytes : Request → List ℕ
+request_bytes (request.Query start goal) = kind.QUERY ∷ cell_bytes start ++ cell_bytes goal
+request_bytes (request.Change edit) = edit_bytes edit
+request_bytes request.Build = kind.BUILD ∷ []
+request_bytes request.Status = kind.STATUS ∷ []
+request_bytes request.Bye = kind.BYE ∷ []
+request_bytes request.Stop = kind.STOP ∷ []
+request_bytes request.Hello = kind.HELLO ∷ kind.SECOND ∷ []
+
+-- the most bytes that the frame of a request may have at a protocol
+abbrev pub limit_of : Proto → ℕ
+limit_of Start = FIRST_LIMIT
+limit_of One = FIRST_LIMIT
+limit_of Two = MAX_REQUEST
+
+-- as many changes as an edit may have
+abbrev pub IsEditSize : List CellChange → Type 0
+IsEditSize changes = (1 ≤ length changes) × (length changes ≤ MAX_CHANGES)
+
+-- one cell changes, to blocked or land
+abbrev pub IsPlainEdit : List CellChange → Type 0
+IsPlainEdit (change ∷ []) = change.terrain ≢ Water
+IsPlainEdit _ = ⊥
+
+-- the second protocol has every edit, the first one those that are plain
+abbrev pub FitsEdit : Proto → List CellChange → Type 0
+FitsEdit Two changes = IsEditSize changes
+FitsEdit _ changes = IsPlainEdit changes
+
+-- the protocol has the request; a Hello comes first or never
+abbrev pub Fits : Proto → Request → Type 0
+Fits proto (request.Change edit) = FitsEdit proto edit
+Fits proto request.Hello = proto ≡ Start
+Fits proto _ = ⊤
+
+-- some protocol has the request
+abbrev pub HasFrame : Request → Type 0
+HasFrame (request.Change edit) = IsEditSize edit
+HasFrame _ = ⊤
+
+-- the frame of a request at a protocol
+abbrev pub IsRequestFrame : Proto → Request → List ℕ → Type 0
+IsRequestFrame proto request frame = Fits proto request × (frame ≡ request_bytes request)
 
 -- the number of a refusal of an edit
 abbrev pub refusal_byte : EditRefusal → ℕ
 refusal_byte Outside = 1
 refusal_byte TooManyCells = 2
 refusal_byte EditsFull = 3
+refusal_byte Repeated = 4
 
 -- the state of a board but for its runs
 abbrev pub status_front : ℕ → ℕ → ℕ → ℕ → List ℕ
@@ -69,6 +127,11 @@ head_bytes (reply.Status version accepted cells comps runs) =
 head_bytes reply.Done = kind.DONE ∷ []
 head_bytes (reply.Malformed frame_kind frame_length) = kind.MALFORMED ∷ frame_kind ∷ big_bytes 2 frame_length
 head_bytes reply.NoMemory = kind.NO_MEMORY ∷ []
+head_bytes reply.Welcome = kind.WELCOME ∷ kind.SECOND ∷ []
+
+-- the first byte of the frame of a reply
+abbrev pub kind_of : Reply → ℕ
+kind_of reply = slice_index_or (head_bytes reply) 0 0
 
 -- the moves that stand behind the head of a reply: those of a path, which cost what it says; no other reply has any
 abbrev pub AreMovesOf : Reply → List Move → Type 0
@@ -87,10 +150,10 @@ IsReplyFrame reply frame = (moves : List Move) × AreMovesOf reply moves × (fra
 abbrev pub IsToldOf : List ℕ → Malformed → Type 0
 IsToldOf frame malformed = (malformed.kind ≡ slice_index_or frame 0 0) × (malformed.length ≡ length frame)
 
--- no request has this frame
-pub record IsNoRequest (frame : List ℕ) (malformed : Malformed) : Type 0 where
+-- no request of the protocol has this frame
+pub record IsNoRequest (proto : Proto) (frame : List ℕ) (malformed : Malformed) : Type 0 where
   pub told : IsToldOf frame malformed
-  pub none : (request : Request) → IsRequestFrame request frame → ⊥
+  pub none : (request : Request) → IsRequestFrame proto request frame → ⊥
 
 -- no reply has this frame
 pub record IsNoReply (frame : List ℕ) (malformed : Malformed) : Type 0 where
@@ -114,22 +177,44 @@ abbrev pub GrowsFront : List ℕ → ℕ → List ℕ → List ℕ → ℕ → T
 GrowsFront bytes at before after next = (front first : List ℕ)
     → StandsAtFront front first before at → StandsAtFront (front ++ bytes) first after next
 
--- a frame of the request stands at the front
-pub record FrameAtFront (request : Request) (before after : List ℕ) (count : ℕ) : Type 0 where
-  pub frame : List ℕ
-  pub spells : IsRequestFrame request frame
-  pub stands : StandsAtFront frame before after count
-
 -- the request as it is sent stands at the front
-pub record RequestAtFront (request : Request) (before after : List ℕ) (count : ℕ) : Type 0 where
-  pub frame : List ℕ
-  pub spells : IsRequestFrame request frame
-  pub stands : StandsAtFront (sent_request frame) before after count
+abbrev pub RequestAtFront : Request → List ℕ → List ℕ → ℕ → Type 0
+RequestAtFront request before after count = StandsAtFront (sent_request (request_bytes request)) before after count
 
--- what is read of a frame: the request that it spells, and none where it spells none
-abbrev pub IsRequestRead : List ℕ → Option Request → Type 0
-IsRequestRead frame found =
-    MatchOption found ((request : Request) → IsRequestFrame request frame → ⊥) (λ request. IsRequestFrame request frame)
+-- what is read of a frame: the request of the protocol that it spells, and none where it spells none
+abbrev pub IsRequestRead : Proto → List ℕ → Option Request → Type 0
+IsRequestRead proto frame found = MatchOption found
+    ((request : Request) → IsRequestFrame proto request frame → ⊥)
+    (λ request. IsRequestFrame proto request frame)
+
+-- what is read of a frame, whatever the protocol
+abbrev pub IsRequestSpelled : List ℕ → Option Request → Type 0
+IsRequestSpelled frame found = MatchOption found
+    ((request : Request) → HasFrame request → frame ≡ request_bytes request → ⊥)
+    (λ request. HasFrame request × (frame ≡ request_bytes request))
+
+-- a frame of so many changes, by their number and by its length
+pub record CountsChanges (frame : List ℕ) (count : ℕ) : Type 0 where
+  pub several : 2 ≤ count
+  pub few : count ≤ MAX_CHANGES
+  pub told : drop 1 frame ≡ count ∷ drop 2 frame
+  pub long : length frame ≡ 2 + 5 * count
+
+-- it is the frame of no number of changes
+abbrev pub CountsNoChanges : List ℕ → Type 0
+CountsNoChanges frame = (count : ℕ) → CountsChanges frame count → ⊥
+
+-- no changes have these bytes
+abbrev pub SpellsNoChanges : List ℕ → Type 0
+SpellsNoChanges bytes = (changes : List CellChange) → bytes ≡ changes_bytes changes → ⊥
+
+-- no change stands in front of these bytes
+abbrev pub BeginsWithNoChange : List ℕ → Type 0
+BeginsWithNoChange bytes = (change : CellChange) (rest : List ℕ) → bytes ≡ change_bytes change ++ rest → ⊥
+
+-- the terrain with that number, and none where no terrain has it
+abbrev pub IsTerrainOf : ℕ → Option Terrain → Type 0
+IsTerrainOf byte found = MatchOption found (2 < byte) (λ terrain. byte ≡ terrain_byte terrain)
 
 -- what is read of a frame: the reply that it spells, and none where it spells none
 abbrev pub IsReplyRead : List ℕ → Option Reply → Type 0

@@ -14,6 +14,10 @@ pub const STATUS: u8 = 0x04;
 pub const BYE: u8 = 0x05;
 /// The end of the server.
 pub const STOP: u8 = 0x06;
+/// The wish for the second protocol.
+pub const HELLO: u8 = 0x07;
+/// Changes of the map that are made together.
+pub const CHANGES: u8 = 0x08;
 
 // ---- replies
 
@@ -41,3 +45,8 @@ pub const DONE: u8 = 0x8A;
 pub const MALFORMED: u8 = 0x8B;
 /// There was no memory for it.
 pub const NO_MEMORY: u8 = 0x8C;
+/// The second protocol is spoken from now on.
+pub const WELCOME: u8 = 0x8D;
+
+/// The number of the second protocol, which a Hello and a Welcome name.
+pub const SECOND: u8 = 0x02;

@@ -2,10 +2,10 @@
 ghost use Rattle.std.specs.Prelude.{◌≡◌};
 
 use crate::kinds::{
-    ACCEPTED, BOARD, BUILD, BYE, CHANGE, DONE, EDIT_REFUSED, MALFORMED, NO_MEMORY, NOTHING_NEW,
-    OVERTAKEN, PATH, PUBLISHED, QUERY, REFUSED, STATUS, STOP, UNREACHABLE,
+    ACCEPTED, BOARD, BUILD, BYE, CHANGE, CHANGES, DONE, EDIT_REFUSED, HELLO, MALFORMED, NO_MEMORY,
+    NOTHING_NEW, OVERTAKEN, PATH, PUBLISHED, QUERY, REFUSED, STATUS, STOP, UNREACHABLE, WELCOME,
 };
-use crate::{MAX_MOVES, MAX_REPLY, MAX_REQUEST};
+use crate::{MAX_MOVES, MAX_REPLY, MAX_REQUEST, REQUEST_ROOM};
 
 /// The first byte of each request.
 pub fn request_kinds_are_these()
@@ -15,9 +15,11 @@ pub fn request_kinds_are_these()
     ensures status { STATUS ≡ 4 }
     ensures bye { BYE ≡ 5 }
     ensures stop { STOP ≡ 6 }
+    ensures hello { HELLO ≡ 7 }
+    ensures changes { CHANGES ≡ 8 }
 {}
 
-/// The first byte of each reply: 0x81 to 0x8C.
+/// The first byte of each reply: 0x81 to 0x8D.
 pub fn reply_kinds_are_these()
     ensures path { PATH ≡ 129 }
     ensures unreachable { UNREACHABLE ≡ 130 }
@@ -31,11 +33,13 @@ pub fn reply_kinds_are_these()
     ensures done { DONE ≡ 138 }
     ensures malformed { MALFORMED ≡ 139 }
     ensures no_memory { NO_MEMORY ≡ 140 }
+    ensures welcome { WELCOME ≡ 141 }
 {}
 
 /// How long a request and a reply may be, in bytes, and how many moves a path may have.
 pub fn sizes_are_these()
-    ensures request { MAX_REQUEST ≡ 64 }
+    ensures request { MAX_REQUEST ≡ 322 }
+    ensures sent { REQUEST_ROOM ≡ 324 }
     ensures reply { MAX_REPLY ≡ 32780 }
     ensures moves { MAX_MOVES ≡ 32767 }
 {}

@@ -4,20 +4,26 @@
 //! byte comes first. Nothing here takes memory.
 #![tactic(auto)]
 
+mod changes;
 mod kinds;
 pub mod laws;
 pub mod malformed;
+pub mod protocols;
 mod reading;
 pub mod replies;
 pub mod requests;
 mod writing;
 
 pub use malformed::Malformed;
+pub use protocols::{Proto, frame_limit};
 pub use replies::{QueryWhy, Reply, decode_reply, reply_head};
-pub use requests::{Request, decode_request, encode_request};
+pub use requests::{Request, decode_request, encode_request, fits};
 
-/// The most bytes that the frame of a request has.
-pub const MAX_REQUEST: usize = 64;
+/// The most bytes that the frame of a request has: those of 64 changes.
+pub const MAX_REQUEST: usize = 322;
+
+/// How much room a request wants at most as it is sent, its length before its frame.
+pub const REQUEST_ROOM: usize = 324;
 
 /// The most moves that a path has: one fewer than a map may have passable cells.
 pub const MAX_MOVES: u32 = 32_767;
@@ -25,5 +31,5 @@ pub const MAX_MOVES: u32 = 32_767;
 /// The most bytes that the frame of a reply has: those of a path with the most moves.
 pub const MAX_REPLY: usize = 32_780;
 
-/// How much room the length and the head of a frame want at most.
+/// How much room the length and the head of a reply's frame want at most.
 pub const HEAD_ROOM: usize = 64;

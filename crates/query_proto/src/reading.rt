@@ -1,9 +1,10 @@
 //! Numbers in the bytes of a frame.
 
-ghost use Rattle.std.specs.Prelude.{◌≡◌, ◌≢◌, ◌+◌, ◌<◌, ◌≤◌, ◌++◌, ◌∷◌, drop, length, IfNone, IfSome};
+ghost use Rattle.std.specs.Prelude.{◌≡◌, ◌≢◌, ◌+◌, ◌<◌, ◌≤◌, [], ◌++◌, ◌∷◌, drop, length, IfNone, IfSome};
 ghost use Rattle.query_proto.specs.Frames.{IsFlagOf, cell_bytes};
 ghost use Rattle.byteorder.specs.Endian.{big_bytes};
 
+use crate::kinds::SECOND;
 use byteorder::{BigEndian, ByteOrder};
 use moves::Cell;
 
@@ -14,6 +15,22 @@ pub fn alone<T: Copy>(frame: &[u8], what: T) -> Option<T>
     ensures none { IfNone result (length frame.now ≢ 1) }
 {
     if frame.len() != 1 {
+        return None;
+    }
+    Some(what)
+}
+
+/// What is spelled by the kind of a frame and the number of the second protocol.
+pub fn second<T: Copy>(frame: &[u8], what: T) -> Option<T>
+    requires { 0 < length frame.now }
+    ensures some { IfSome result (λ found. (found ≡ what) × (drop 1 frame.now ≡ SECOND ∷ [])) }
+    ensures none { IfNone result (drop 1 frame.now ≢ SECOND ∷ []) }
+{
+    if frame.len() != 2 {
+        return None;
+    }
+    let byte = byte_at(frame, 1);
+    if byte != SECOND {
         return None;
     }
     Some(what)

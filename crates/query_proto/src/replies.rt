@@ -5,15 +5,15 @@ ghost use Rattle.byteorder.specs.Endian.{big_bytes};
 ghost use Rattle.query_proto.specs.declared.replies.Reply.TheVariants.{EditRefused, Refused};
 ghost use Rattle.query_proto.specs.declared.replies.Reply.TheVariants as reply;
 ghost use Rattle.query_proto.specs.Frames.{CanBeSent, HeadAtFront, IsNoReply, IsRefusalOf, IsReplyFrame, IsReplyRead};
-ghost use Rattle.query_proto.specs.Frames.{IsSpelledCost, StandsAtFront, head_bytes, moves_behind, refusal_byte};
+ghost use Rattle.query_proto.specs.Frames.{IsSpelledCost, StandsAtFront, head_bytes, kind_of, moves_behind, refusal_byte};
 ghost use Rattle.query_proto.specs.Frames.{status_front};
 
 use crate::kinds::{
     ACCEPTED, BOARD, DONE, EDIT_REFUSED, MALFORMED, NO_MEMORY, NOTHING_NEW, OVERTAKEN, PATH,
-    PUBLISHED, REFUSED, UNREACHABLE,
+    PUBLISHED, REFUSED, UNREACHABLE, WELCOME,
 };
-use crate::reading::{alone, byte_at, flag_of, long_at, number_at, short_at};
-use crate::writing::{byte_of_flag, put_byte, put_long, put_number, put_short};
+use crate::reading::{alone, byte_at, flag_of, long_at, number_at, second, short_at};
+use crate::writing::{byte_of_flag, put_byte, put_long, put_number, put_second, put_short};
 use crate::{HEAD_ROOM, MAX_MOVES, MAX_REPLY, Malformed};
 use byteorder::{BigEndian, ByteOrder};
 use edit_log::EditRefusal;
@@ -104,6 +104,31 @@ pub enum Reply {
     },
     /// There was no memory for it, and nothing was changed.
     NoMemory,
+    /// The second protocol is spoken from now on.
+    Welcome,
+}
+
+impl Reply {
+    /// The first byte of the reply's frame.
+    pub fn kind(&self) -> u8
+        ensures { result ≡ kind_of self.now }
+    {
+        match self {
+            Reply::Path { .. } => PATH,
+            Reply::Unreachable { .. } => UNREACHABLE,
+            Reply::Refused { .. } => REFUSED,
+            Reply::Accepted { .. } => ACCEPTED,
+            Reply::EditRefused(_) => EDIT_REFUSED,
+            Reply::Published { .. } => PUBLISHED,
+            Reply::NothingNew { .. } => NOTHING_NEW,
+            Reply::Overtaken { .. } => OVERTAKEN,
+            Reply::Status { .. } => BOARD,
+            Reply::Done => DONE,
+            Reply::Malformed { .. } => MALFORMED,
+            Reply::NoMemory => NO_MEMORY,
+            Reply::Welcome => WELCOME,
+        }
+    }
 }
 
 /// The reply that a frame spells. The moves of a path are the frame's bytes from place 13 on. It takes no memory.
@@ -152,6 +177,7 @@ fn reply_in(frame: &[u8]) -> Option<Reply>
         }),
         DONE => alone(frame, Reply::Done),
         NO_MEMORY => alone(frame, Reply::NoMemory),
+        WELCOME => second(frame, Reply::Welcome),
         _ => None,
     }
 }
@@ -239,6 +265,7 @@ fn refusal_of(byte: u8) -> Option<EditRefusal>
         1 => Some(EditRefusal::Outside),
         2 => Some(EditRefusal::TooManyCells),
         3 => Some(EditRefusal::EditsFull),
+        4 => Some(EditRefusal::Repeated),
         _ => None,
     }
 }
@@ -251,6 +278,7 @@ fn number_of_refusal(why: EditRefusal) -> u8
         EditRefusal::Outside => 1,
         EditRefusal::TooManyCells => 2,
         EditRefusal::EditsFull => 3,
+        EditRefusal::Repeated => 4,
     }
 }
 
@@ -369,6 +397,7 @@ fn put_reply(out: &mut [u8], reply: Reply) -> usize
         Reply::Done => put_byte(out, 0, DONE),
         Reply::Malformed { kind, length } => put_malformed(out, kind, length),
         Reply::NoMemory => put_byte(out, 0, NO_MEMORY),
+        Reply::Welcome => put_second(out, WELCOME),
     }
 }
 

@@ -1,17 +1,17 @@
 //! Requests of a client.
 
-ghost use Rattle.std.specs.Prelude.{◌≡◌, ◌≢◌, ◌<◌, ◌≤◌, [], ◌∷◌, ◌++◌, length, slice_index, IfErr, IfOk, IfNone, IfSome};
-ghost use Rattle.edit_log.specs.Edits.{changes_of};
-ghost use Rattle.query_proto.specs.Frames.{FrameAtFront, IsNoRequest, IsRequestFrame, IsRequestRead, RequestAtFront};
-ghost use Rattle.query_proto.specs.Frames.{StandsAtFront, cell_bytes, change_bytes};
+ghost use Rattle.std.specs.Prelude.{◌≡◌, ◌≢◌, ◌↔◌, ◌<◌, ◌≤◌, [], ◌∷◌, ◌++◌, length, slice_index, IsTrue, IfErr, IfOk};
+ghost use Rattle.query_proto.specs.Frames.{Fits, FitsEdit, IsNoRequest, IsPlainEdit, IsRequestFrame, IsRequestRead};
+ghost use Rattle.query_proto.specs.Frames.{IsRequestSpelled, RequestAtFront, StandsAtFront, cell_bytes, request_bytes};
 
-use crate::kinds::{BUILD, BYE, CHANGE, QUERY, STATUS, STOP};
-use crate::reading::{alone, byte_at, cell_at, flag_of};
-use crate::writing::{byte_of_flag, put_byte, put_cell};
-use crate::{HEAD_ROOM, MAX_REQUEST, Malformed};
+use crate::changes::{change_at, count_in, edit_in, put_edit};
+use crate::kinds::{BUILD, BYE, CHANGE, CHANGES, HELLO, QUERY, STATUS, STOP};
+use crate::reading::{alone, cell_at, second};
+use crate::writing::{put_byte, put_cell, put_second};
+use crate::{MAX_REQUEST, Malformed, Proto, REQUEST_ROOM};
 use byteorder::{BigEndian, ByteOrder};
 use edit_log::{CellChange, Edit};
-use moves::Cell;
+use moves::{Cell, Terrain};
 
 /// What a client asks for.
 #[derive(Clone, Copy, Debug, PartialEq, Eq)]
@@ -33,27 +33,72 @@ pub enum Request {
     Bye,
     /// The end of the server.
     Stop,
+    /// The second protocol, from now on.
+    Hello,
 }
 
-/// The request that a frame spells. It takes no memory.
+/// Whether a protocol has the request. It takes no memory.
+pub fn fits(request: &Request, proto: Proto) -> bool
+    ensures { IsTrue result ↔ Fits proto request.now }
+{
+    match request {
+        Request::Change(edit) => fits_edit(edit, proto),
+        Request::Hello => proto == Proto::Start,
+        _ => true,
+    }
+}
+
+/// Whether a protocol has the change of these cells.
+fn fits_edit(edit: &Edit, proto: Proto) -> bool
+    ensures { IsTrue result ↔ FitsEdit proto edit.now }
+{
+    let changes = edit.changes();
+    match proto {
+        Proto::Start | Proto::One => is_plain(changes),
+        Proto::Two => true,
+    }
+}
+
+/// Whether it is one cell that changes, to blocked or land.
+fn is_plain(changes: &[CellChange]) -> bool
+    ensures { IsTrue result ↔ IsPlainEdit changes.now }
+{
+    match changes {
+        [change] => change.terrain != Terrain::Water,
+        _ => false,
+    }
+}
+
+/// The request that a frame spells at a protocol. It takes no memory.
 ///
 /// # Errors
 ///
-/// `Malformed` exactly where the frame spells none.
-pub fn decode_request(frame: &[u8]) -> Result<Request, Malformed>
+/// `Malformed` exactly where the frame spells none that the protocol has.
+pub fn decode_request(frame: &[u8], proto: Proto) -> Result<Request, Malformed>
     requires { length frame.now ≤ MAX_REQUEST }
-    ensures request { IfOk result (λ request. IsRequestFrame request frame.now) }
-    ensures malformed { IfErr result (IsNoRequest frame.now) }
+    ensures request { IfOk result (λ request. IsRequestFrame proto request frame.now) }
+    ensures malformed { IfErr result (IsNoRequest proto frame.now) }
 {
-    match request_in(frame) {
+    match request_in(frame, proto) {
         Some(request) => Ok(request),
         None => Err(Malformed::of(frame)),
     }
 }
 
-/// The request that a frame spells, if it spells one.
-fn request_in(frame: &[u8]) -> Option<Request>
-    ensures { IsRequestRead frame.now result }
+/// The request that a frame spells, if it spells one that the protocol has.
+fn request_in(frame: &[u8], proto: Proto) -> Option<Request>
+    ensures { IsRequestRead proto frame.now result }
+{
+    let request = spelled_in(frame)?;
+    if !fits(&request, proto) {
+        return None;
+    }
+    Some(request)
+}
+
+/// The request that a frame spells, whatever the protocol.
+fn spelled_in(frame: &[u8]) -> Option<Request>
+    ensures { IsRequestSpelled frame.now result }
 {
     if frame.is_empty() {
         return None;
@@ -61,10 +106,12 @@ fn request_in(frame: &[u8]) -> Option<Request>
     match frame[0] {
         QUERY => query_in(frame),
         CHANGE => change_in(frame),
+        CHANGES => changes_in(frame),
         BUILD => alone(frame, Request::Build),
         STATUS => alone(frame, Request::Status),
         BYE => alone(frame, Request::Bye),
         STOP => alone(frame, Request::Stop),
+        HELLO => second(frame, Request::Hello),
         _ => None,
     }
 }
@@ -72,7 +119,7 @@ fn request_in(frame: &[u8]) -> Option<Request>
 /// The query that a frame spells.
 fn query_in(frame: &[u8]) -> Option<Request>
     requires { slice_index frame.now 0 ≡ QUERY }
-    ensures { IsRequestRead frame.now result }
+    ensures { IsRequestSpelled frame.now result }
 {
     if frame.len() != 9 {
         return None;
@@ -82,23 +129,31 @@ fn query_in(frame: &[u8]) -> Option<Request>
     Some(Request::Query { start, goal })
 }
 
-/// The change that a frame spells.
+/// The change of one cell that a frame spells.
 fn change_in(frame: &[u8]) -> Option<Request>
     requires { slice_index frame.now 0 ≡ CHANGE }
-    ensures { IsRequestRead frame.now result }
+    ensures { IsRequestSpelled frame.now result }
 {
     if frame.len() != 6 {
         return None;
     }
-    let cell = cell_at(frame, 1);
-    let byte = byte_at(frame, 5);
-    let passable = flag_of(byte)?;
-    Some(Request::Change(Edit::one(CellChange { cell, passable })))
+    let change = change_at(frame, 1)?;
+    Some(Request::Change(Edit::one(change)))
+}
+
+/// The change of several cells that a frame spells.
+fn changes_in(frame: &[u8]) -> Option<Request>
+    requires { slice_index frame.now 0 ≡ CHANGES }
+    ensures { IsRequestSpelled frame.now result }
+{
+    let count = count_in(frame)?;
+    let edit = edit_in(frame, count)?;
+    Some(Request::Change(edit))
 }
 
 /// Writes a request as it is sent, its length and its frame, to the front of `room`, and says how many bytes that are.
 /// The others stay as they are. It takes no memory.
-pub fn encode_request(request: &Request, room: &mut [u8; HEAD_ROOM]) -> usize
+pub fn encode_request(request: &Request, room: &mut [u8; REQUEST_ROOM]) -> usize
     ensures { RequestAtFront request.now room.old room.new result }
 {
     let size = put_request(&mut room[2..], request);
@@ -106,20 +161,21 @@ pub fn encode_request(request: &Request, room: &mut [u8; HEAD_ROOM]) -> usize
     size + 2
 }
 
-/// Writes a frame of the request to the front of a piece, and says how many bytes it has.
+/// Writes the frame of the request to the front of a piece, and says how many bytes it has.
 fn put_request(out: &mut [u8], request: &Request) -> usize
-    requires { 62 ≤ length out.old }
-    ensures frame { FrameAtFront request.now out.old out.new result }
-    ensures limit { result ≤ 62 }
+    requires { 322 ≤ length out.old }
+    ensures frame { StandsAtFront (request_bytes request.now) out.old out.new result }
+    ensures limit { result ≤ 322 }
     ensures len { length out.new ≡ length out.old }
 {
     match request {
         Request::Query { start, goal } => put_query(out, *start, *goal),
-        Request::Change(edit) => put_change(out, change_of(edit)),
+        Request::Change(edit) => put_edit(out, edit.changes()),
         Request::Build => put_byte(out, 0, BUILD),
         Request::Status => put_byte(out, 0, STATUS),
         Request::Bye => put_byte(out, 0, BYE),
         Request::Stop => put_byte(out, 0, STOP),
+        Request::Hello => put_second(out, HELLO),
     }
 }
 
@@ -133,24 +189,4 @@ fn put_query(out: &mut [u8], start: Cell, goal: Cell) -> usize
     let at = put_byte(out, 0, QUERY);
     let next = put_cell(out, at, start);
     put_cell(out, next, goal)
-}
-
-/// Writes the frame of a change.
-fn put_change(out: &mut [u8], change: CellChange) -> usize
-    requires { 6 ≤ length out.old }
-    ensures frame { StandsAtFront (CHANGE ∷ change_bytes change) out.old out.new result }
-    ensures limit { result ≡ 6 }
-    ensures len { length out.new ≡ length out.old }
-{
-    let at = put_byte(out, 0, CHANGE);
-    let next = put_cell(out, at, change.cell);
-    put_byte(out, next, byte_of_flag(change.passable))
-}
-
-/// The change of an edit.
-#[tactic(auto, unfolding(edit_log::specs::Edits::changes_of))]
-fn change_of(edit: &Edit) -> CellChange
-    ensures { changes_of edit.now ≡ result ∷ [] }
-{
-    edit.changes()[0]
 }

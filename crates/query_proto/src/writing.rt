@@ -2,8 +2,9 @@
 
 ghost use Rattle.std.specs.Prelude.{◌≡◌, ◌+◌, ◌<◌, ◌≤◌, [], ◌∷◌, length};
 ghost use Rattle.byteorder.specs.Endian.{big_bytes};
-ghost use Rattle.query_proto.specs.Frames.{GrowsFront, cell_bytes, flag_byte};
+ghost use Rattle.query_proto.specs.Frames.{GrowsFront, StandsAtFront, cell_bytes, flag_byte};
 
+use crate::kinds::SECOND;
 use byteorder::{BigEndian, ByteOrder};
 use moves::Cell;
 
@@ -16,6 +17,17 @@ pub fn put_byte(out: &mut [u8], at: usize, byte: u8) -> usize
 {
     out[at] = byte;
     at + 1
+}
+
+/// Writes a kind and the number of the second protocol.
+pub fn put_second(out: &mut [u8], kind: u8) -> usize
+    requires { 2 ≤ length out.old }
+    ensures front { StandsAtFront (kind ∷ SECOND ∷ []) out.old out.new result }
+    ensures limit { result ≡ 2 }
+    ensures len { length out.new ≡ length out.old }
+{
+    let at = put_byte(out, 0, kind);
+    put_byte(out, at, SECOND)
 }
 
 /// Writes a number in two bytes.
