@@ -1,0 +1,10 @@
+pub mod Numbers
+pub mod TerrainBytes
+pub mod EditBytes
+pub mod Frames
+pub mod Spellings
+pub mod NextVersions
+pub mod Submitted
+pub mod Heard
+pub mod Taken
+pub mod Deciding

@@ -1,0 +1,6 @@
+pub mod Reading
+pub mod Following
+pub mod Hearing
+pub mod Streams
+pub mod Stages
+pub mod StreamLaws

@@ -1,0 +1,67 @@
+//! The message with accepted edits.
+
+ghost use Rattle.std.specs.Prelude.{◌≡◌, ℕ, ◌+◌, ◌*◌, ◌≤◌, ◌++◌, length, min, take};
+ghost use Rattle.edit_log.specs.declared.TheConstants.{MAX_CHANGES};
+ghost use Rattle.query_proto.specs.Frames.{StandsAtFront};
+ghost use Rattle.follow_proto.specs.Feeds.{all_edit_bytes, edit_bytes, edits_bytes};
+ghost use Rattle.follow_proto.specs.declared.TheConstants.{MAX_SENT};
+
+use crate::MAX_SENT;
+use crate::kinds::EDITS;
+use crate::writing::{put_byte, put_change, put_number};
+use edit_log::{CellChange, EditList};
+
+/// What a message has before its edits, and how many of these there are.
+#[derive(Clone, Copy, Debug, PartialEq, Eq)]
+pub struct EditsHead {
+    /// The length and the frame up to the edits.
+    pub bytes: [u8; 13],
+    /// How many edits follow, at most [`MAX_SENT`].
+    pub count: u32,
+}
+
+/// The message with the first of these edits, as many as one message may have, up to the bytes of the edits. The first
+/// of them is behind so many known ones.
+pub fn edits_head(known: u32, edits: &EditList) -> EditsHead
+    ensures count { result.count ≡ min MAX_SENT (length edits.now.edits) }
+    ensures head { result.bytes ++ all_edit_bytes (take result.count edits.now.edits)
+        ≡ edits_bytes known (take result.count edits.now.edits) }
+{
+    let count = edits.len().min(MAX_SENT);
+    let mut bytes = [0; 13];
+    let kind = put_number(&mut bytes, 0, 9 + size_of(edits, count));
+    let first = put_byte(&mut bytes, kind, EDITS);
+    let second = put_number(&mut bytes, first, known);
+    put_number(&mut bytes, second, count);
+    EditsHead { bytes, count }
+}
+
+/// How many bytes the first so many edits have.
+fn size_of(edits: &EditList, count: u32) -> u32
+    requires some { count ≤ length edits.now.edits }
+    requires few { count ≤ MAX_SENT }
+    ensures size { result ≡ length (all_edit_bytes (take count edits.now.edits)) }
+    ensures limit { result ≤ 321 * count }
+{
+    let mut size = 0;
+    for place in 0..count {
+        size += 1 + 5 * edits.changes_at(place).len() as u32;
+    }
+    size
+}
+
+/// Writes an edit, the number of its changes and these, to the front of `room`, and says how many bytes that are. The
+/// others stay as they are.
+pub fn edit_bytes(changes: &[CellChange], room: &mut [u8]) -> usize
+    requires room { 1 + 5 * length changes.now ≤ length room.old }
+    requires few { length changes.now ≤ MAX_CHANGES }
+    ensures bytes { StandsAtFront (edit_bytes changes.now) room.old room.new result }
+    ensures size { result ≡ 1 + 5 * length changes.now }
+    ensures len { length room.new ≡ length room.old }
+{
+    let mut next = put_byte(room, 0, changes.len() as u8);
+    for change in changes {
+        next = put_change(room, next, *change);
+    }
+    next
+}

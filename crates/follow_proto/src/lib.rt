@@ -1,0 +1,28 @@
+//! The bytes by which a follower gets the accepted edits of a leader: asks, and messages with one spelling each.
+//!
+//! An ask is five bytes: its kind, and how many edits are known. A message is sent behind the length of its frame in four
+//! bytes. In every number the highest byte comes first. Nothing here takes memory.
+#![tactic(auto)]
+
+mod asks;
+mod edits;
+pub mod kinds;
+pub mod laws;
+mod messages;
+mod writing;
+
+pub use asks::{Ask, read_ask, write_ask};
+pub use edits::{EditsHead, edit_bytes, edits_head};
+pub use messages::{ahead, no_memory, start_head, terrain_byte};
+
+/// The most edits that one message has.
+pub const MAX_SENT: u32 = 1024;
+
+/// How many bytes an ask has.
+pub const ASK_SIZE: usize = 5;
+
+/// The most bytes that an edit has in a message: the number of its changes, and 64 changes.
+pub const EDIT_ROOM: usize = 321;
+
+/// The most bytes that the frame of a message has: those of the largest map.
+pub const MAX_FRAME: u32 = 1_048_585;
