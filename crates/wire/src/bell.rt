@@ -13,13 +13,31 @@ pub enum Ring {
     Shut,
 }
 
-/// What is rung to wake whoever waits at its ear.
+/// What a build came to that published a version.
+#[derive(Debug, Clone, Copy, PartialEq, Eq)]
+pub struct Built {
+    /// How many edits the version comes after.
+    pub version: u32,
+    /// How many cells have rows that were built for it.
+    pub built: u32,
+    /// How many cells have rows that were kept of the version before.
+    pub kept: u32,
+}
+
+/// What is rung to wake whoever waits at its ear. Whoever builds at the same board stands in its queue of one: nothing is
+/// promised of that, and a bell that lets all build at once is one too.
 pub trait Bell: Sync {
     /// Wakes the ear, at once or at its next wait.
     fn ring<R: Wait>(&self, rt: &R);
 
     /// Ends the waiting for good.
     fn shut<R: Wait>(&self, rt: &R);
+
+    /// Waits until nobody builds, and begins a build.
+    fn begin_build<R: Wait>(&self, _rt: &R) {}
+
+    /// Ends a build, which has published that version or none: whoever waits may begin one.
+    fn end_build<R: Wait>(&self, _rt: &R, _built: Option<Built>) {}
 }
 
 /// Where a bell is heard.

@@ -1,14 +1,16 @@
 //! A bell between threads.
 ghost use Rattle.std.specs.Prelude.{◌≡◌, false};
 
-use crate::{Bell, Ear, Ring};
+use crate::{Bell, Built, Ear, Ring};
 use std::sync::{Condvar, Mutex, Wait};
 
-/// A bell that wakes a thread. Rings while nobody waits are kept, many as one.
+/// A bell that wakes a thread. Rings while nobody waits are kept, many as one. One build runs at a time.
 #[derive(Drop)]
 pub struct HostBell {
     heard: Mutex<Heard>,
     changed: Condvar,
+    is_building: Mutex<bool>,
+    built: Condvar,
 }
 
 /// What was done to a bell since its ear waited last.
@@ -33,6 +35,8 @@ impl HostBell {
                 shut: false,
             }),
             changed: Condvar::new(),
+            is_building: Mutex::new(false),
+            built: Condvar::new(),
         }
     }
 
@@ -58,6 +62,19 @@ impl Bell for HostBell {
     fn shut<R: Wait>(&self, rt: &R) {
         self.heard.lock(rt).shut = true;
         self.changed.notify_one();
+    }
+
+    fn begin_build<R: Wait>(&self, rt: &R) {
+        let is_building = self.is_building.lock(rt);
+        let mut is_building = self
+            .built
+            .wait_while(rt, is_building, |is_building| *is_building);
+        *is_building = true;
+    }
+
+    fn end_build<R: Wait>(&self, rt: &R, _built: Option<Built>) {
+        *self.is_building.lock(rt) = false;
+        self.built.notify_one();
     }
 }
 

@@ -5,23 +5,24 @@ use std::io::Read;
 use std::net::{Net, TcpListener};
 use std::os::unix::net::UnixStream;
 use std::sync::Wait;
-use std::thread;
 use std::thread::Threads;
+use std::{io, thread};
 
-/// Whether the system gives so many descriptors more than are open. They are closed again.
-pub(crate) fn has_descriptors(
+/// Why the system gives fewer than so many descriptors beside those that are open, where it does. What
+/// it gives is closed again.
+pub(crate) fn lack_of_descriptors(
     alloc: Global,
     listener: &TcpListener,
     count: usize,
-) -> Result<bool, AllocError> {
+) -> Result<Option<io::Error>, AllocError> {
     let mut spare = Vec::with_capacity(alloc, count)?;
     for _ in 0..count {
         match listener.try_clone() {
             Ok(handle) => spare.push(handle)?,
-            Err(_) => return Ok(false),
+            Err(error) => return Ok(Some(error)),
         }
     }
-    Ok(true)
+    Ok(None)
 }
 
 /// Whether the system gives so many threads more than there are. They end again.

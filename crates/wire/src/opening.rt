@@ -2,15 +2,32 @@
 ghost use Rattle.std.specs.Prelude.{◌≡◌, ◌≤◌, All, vec_len, IfOk};
 
 use crate::front::Front;
-use crate::limits::{has_descriptors, has_threads};
+use crate::limits::{has_threads, lack_of_descriptors};
+use crate::ticks::millis_since;
 use crate::{HouseError, Journal, TcpDoor};
-use std::alloc::Global;
+use std::alloc::{AllocError, Global};
+use std::io;
 use std::io::Eprint;
 use std::net::{Net, TcpListener, TcpStream};
 use std::sync::{Arc, Wait};
 use std::thread::Threads;
 use std::time::{Clock, Instant};
 use thiserror::Error;
+
+/// Why a port was not opened.
+#[derive(Debug, Clone, Copy)]
+pub(crate) enum PortError {
+    /// The system refuses it, or descriptors for its doors, in these words.
+    Refused(io::Error),
+    /// There is no memory for it, or the system refuses threads.
+    NoMemory,
+}
+
+impl From<AllocError> for PortError {
+    fn from(_: AllocError) -> PortError {
+        PortError::NoMemory
+    }
+}
 
 /// That a port was opened.
 #[derive(Debug, Clone, Copy, Error)]
@@ -40,32 +57,33 @@ struct FewDescriptors {
 ///
 /// # Errors
 ///
-/// `Failed` where the outside refuses the port or descriptors, and `NoMemory` where there is none, or
+/// `Refused` where the system refuses the port or descriptors, and `NoMemory` where there is none, or
 /// where it refuses threads.
 pub(crate) fn open_front<'a, R>(
     journal: &Journal<'a, R>,
     alloc: Global,
     port: u16,
     count: u32,
-) -> Result<Arc<Front<'a, R>>, HouseError>
+) -> Result<Arc<Front<'a, R>>, PortError>
 where
     R: Net<Listener = TcpListener, Stream = TcpStream> + Clock + Eprint + Threads + Wait,
 {
-    let Ok(front) = Front::at(journal.another(), port) else {
-        return Err(HouseError::Failed);
+    let front = match Front::at(journal.another(), port) {
+        Ok(front) => front,
+        Err(error) => return Err(PortError::Refused(error)),
     };
-    if !has_descriptors(alloc, front.listener(), count as usize)? {
+    if let Some(error) = lack_of_descriptors(alloc, front.listener(), count as usize)? {
         journal.tell(FewDescriptors { count });
-        return Err(HouseError::Failed);
+        return Err(PortError::Refused(error));
     }
     // The system does not say whether a thread was refused for want of memory or by a limit.
     if !has_threads(journal.rt(), count) {
         journal.tell(FewThreads { count });
-        return Err(HouseError::NoMemory);
+        return Err(PortError::NoMemory);
     }
     match Arc::new(alloc, front) {
         Ok(front) => Ok(front),
-        Err(_) => Err(HouseError::NoMemory),
+        Err(_) => Err(PortError::NoMemory),
     }
 }
 
@@ -101,15 +119,4 @@ pub(crate) fn tell_opened<R: Clock + Eprint>(
         count,
         millis,
     });
-}
-
-/// How many milliseconds have passed since then; 0 where the clock cannot be read.
-fn millis_since<R: Clock>(rt: &R, begun: Instant) -> u64 {
-    match begun.elapsed(rt) {
-        Ok(time) => time
-            .as_secs()
-            .saturating_mul(1000)
-            .saturating_add(u64::from(time.subsec_millis())),
-        Err(_) => 0,
-    }
 }

@@ -5,7 +5,7 @@ ghost use Rattle.wire.specs.Contents.{Tells, TellsAtMost, TellsMoreThan};
 ghost use Rattle.wire.specs.Devices.{FailsByError, IsHonest, new_files_over, with_read_over};
 
 use crate::faults::count_fault;
-use crate::{FileError, Files, Opener};
+use crate::{FileError, Files, Glimpse, Opener};
 use std::alloc::{AllocError, Global};
 use std::io;
 use std::io::{ErrorKind, Read};
@@ -18,6 +18,7 @@ pub struct ReaderFiles<O> {
     opener: O,
     faults: u64,
     reason: Option<ErrorKind>,
+    glimpse: Glimpse,
 }
 
 impl<O> Model for ReaderFiles<O> {
@@ -41,6 +42,7 @@ impl<O: Opener> ReaderFiles<O> {
             opener,
             faults: 0,
             reason: None,
+            glimpse: Glimpse::NONE,
         }
     }
 
@@ -49,6 +51,11 @@ impl<O: Opener> ReaderFiles<O> {
         ensures { result ≡ self.now.reason }
     {
         self.reason
+    }
+
+    /// What was seen of the files that were read.
+    pub fn glimpse(&self) -> Glimpse {
+        self.glimpse
     }
 }
 
@@ -75,7 +82,10 @@ impl<O: Opener> Files for ReaderFiles<O> {
     {
         self.reason = None;
         match read_file(&self.opener, alloc, name, limit) {
-            Ok(bytes) => Ok(bytes),
+            Ok(bytes) => {
+                self.glimpse = self.glimpse.and_of(&bytes);
+                Ok(bytes)
+            }
             Err(ReadError::TooLong) => Err(FileError::TooLong),
             Err(ReadError::NoMemory) => Err(FileError::NoMemory),
             Err(ReadError::Fault(kind)) => {

@@ -4,10 +4,11 @@ ghost use Rattle.wire.specs.Houses.{count_if, rose_once};
 
 use crate::faults::count_fault;
 use crate::front::Front;
-use crate::opening::{doors_of, open_front, tell_opened};
+use crate::opening::{PortError, doors_of, open_front, tell_opened};
 use crate::{DoorsAsked, Failed, House, HouseError, Journal, TcpCall, TcpDoor};
 use arrayvec::ArrayVec;
 use std::alloc::Global;
+use std::io;
 use std::io::Eprint;
 use std::net::{Net, TcpListener, TcpStream};
 use std::sync::{Arc, Wait};
@@ -25,6 +26,7 @@ pub struct TcpHouse<'a, R> {
     begun: Option<Instant>,
     asked: ArrayVec<DoorsAsked, 2>,
     called: Option<u16>,
+    refusal: Option<io::Error>,
     door_faults: u64,
     read_faults: u64,
     write_faults: u64,
@@ -45,10 +47,18 @@ impl<'a, R: Clock + Eprint> TcpHouse<'a, R> {
             front: None,
             asked: ArrayVec::new(),
             called: None,
+            refusal: None,
             door_faults: 0,
             read_faults: 0,
             write_faults: 0,
         }
+    }
+}
+
+impl<'a, R> TcpHouse<'a, R> {
+    /// Why the system refused a port or descriptors for its doors, if it did.
+    pub fn refusal(&self) -> Option<io::Error> {
+        self.refusal
     }
 }
 
@@ -71,7 +81,14 @@ where
         ensures reads { self.new.read_faults ≡ self.old.read_faults }
         ensures writes { self.new.write_faults ≡ self.old.write_faults }
     {
-        let front = open_front(&self.journal, alloc, port, count)?;
+        let front = match open_front(&self.journal, alloc, port, count) {
+            Ok(front) => front,
+            Err(PortError::NoMemory) => return Err(HouseError::NoMemory),
+            Err(PortError::Refused(error)) => {
+                self.refusal = Some(error);
+                return Err(HouseError::Failed);
+            }
+        };
         let doors = doors_of(&front, alloc, count as usize)?;
         tell_opened(&self.journal, self.begun, port, count);
         self.front = Some(front);

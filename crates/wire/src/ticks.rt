@@ -57,6 +57,17 @@ pub(crate) fn has_passed<R: Clock>(rt: &R, since: Instant, seconds: u64) -> bool
     }
 }
 
+/// How many milliseconds have passed since then; 0 where the clock cannot be read.
+pub(crate) fn millis_since<R: Clock>(rt: &R, since: Instant) -> u64 {
+    match since.elapsed(rt) {
+        Ok(time) => time
+            .as_secs()
+            .saturating_mul(1000)
+            .saturating_add(u64::from(time.subsec_millis())),
+        Err(_) => 0,
+    }
+}
+
 /// Begins to count time where none is counted yet.
 ///
 /// # Errors
