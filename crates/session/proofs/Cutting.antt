@@ -117,13 +117,13 @@ not_whole P Q true e p = absurd (false≢true (sym e))
 not_whole P Q false e p = p
 
 -- less than a length is held
-pub begun_short : (held : List ℕ) → length held < 2 → IsBegun held
-begun_short [] less = inl refl
-begun_short (byte ∷ []) less = inr (2, inl (refl, refl))
-begun_short (first ∷ second ∷ rest) less = absurd (omega (arith, less))
+pub begun_short : (limit : ℕ) (held : List ℕ) → length held < 2 → IsBegun limit held
+begun_short limit [] less = inl refl
+begun_short limit (byte ∷ []) less = inr (2, inl (refl, refl))
+begun_short limit (first ∷ second ∷ rest) less = absurd (omega (arith, less))
 
-module _ (before after : Option Talk) (old now : List ℕ) (size : ℕ) (fits : size ≤ MAX_REQUEST) (held : length old ≡ 2) (is : take 2 old ≡ big_bytes 2 size)
-    (p : HoldsMore before after old now) where
+module _ (before after : Option Talk) (old now : List ℕ) (size : ℕ) (short : size ≤ MAX_REQUEST) (held : length old ≡ 2) (is : take 2 old ≡ big_bytes 2 size)
+    (p : HoldsMore before after old now) (limit : ℕ) (fits : size ≤ limit) where
   size_still : take 2 now ≡ big_bytes 2 size
   size_still = ap (take 2) p.grown ∙ take-append-le 2 old p.more (omega (arith, held)) ∙ is
 
@@ -131,9 +131,10 @@ module _ (before after : Option Talk) (old now : List ℕ) (size : ℕ) (fits : 
   now_long = ap (λ (l : List ℕ). length l) p.grown ∙ length-append old p.more ∙ ap (λ n. n + length p.more) held
 
   pub frame_holds : (ahead : Bool) (most : ℕ) → 2 + size ≤ length now → length now ≤ most → most ≤ (2 + size) + 2 → (IsFalse ahead → most ≡ 2 + size)
-      → (2 + size ≡ 3 → most ≡ 2 + size) → HoldsFrame ahead now size
+      → (2 + size ≡ 3 → most ≡ 2 + size) → HoldsFrame limit ahead now size
   frame_holds ahead most whole few least last alone = record {
     fits = fits;
+    short = short;
     size_is = size_still;
     whole = whole;
     most = omega arith;
@@ -141,9 +142,9 @@ module _ (before after : Option Talk) (old now : List ℕ) (size : ℕ) (fits : 
     alone = λ e. let same = alone (omega (arith, e)) in omega arith;
   }
 
-  pub part_holds : length now < 2 + size → IsPart now (2 + size)
+  pub part_holds : length now < 2 + size → IsPart limit now (2 + size)
   part_holds less = inr (size, fits, size_still, omega (arith, now_long), refl, less)
 
   -- it is torn
-  pub stops_torn : (why : SessionFault) → why ≡ fault.Torn (length now) (2 + size) → length now < 2 + size → HasNone after → StopsSo now after why
-  stops_torn why e less none = subst (StopsSo now after) (sym e) (refl, part_holds less, none)
+  pub stops_torn : (why : SessionFault) → why ≡ fault.Torn (length now) (2 + size) → length now < 2 + size → HasNone after → StopsSo limit now after why
+  stops_torn why e less none = subst (StopsSo limit now after) (sym e) (refl, part_holds less, none)

@@ -9,6 +9,8 @@ use Rattle.path_core.specs.declared.entry.Entry.TheVariants.{Accept, Halt}
 use Rattle.path_core.specs.Histories.{IsHalting, is_halt}
 use Rattle.path_core.specs.Passes.{BeginsWith}
 use Rattle.path_core.proofs.Passing.{begins_then}
+use Rattle.query_proto.specs.declared.protocols.Proto.{Proto}
+use Rattle.query_proto.specs.declared.protocols.Proto.TheVariants.{Start}
 use Rattle.query_proto.specs.declared.replies.Reply.TheVariants as reply
 use Rattle.query_proto.specs.declared.replies.Reply.{Reply}
 use Rattle.query_proto.specs.declared.requests.Request.{Request}
@@ -19,7 +21,7 @@ use Rattle.wire.specs.Knocks.{TellsToo}
 use Rattle.wire.specs.Talks.{EndedTalk, IsFresh, Talk, with_ended, with_sent, with_taken}
 use Rattle.session.specs.declared.sessions.Ended.{Ended}
 use Rattle.session.specs.declared.sessions.SessionFault.{SessionFault}
-use Rattle.session.specs.Conversations.{Conversed, Exchange, HasCause, Rests, ServesFrame, ServesRun, bytes_taken}
+use Rattle.session.specs.Conversations.{Conversed, Exchange, HasCause, Rests, ServesFrame, ServesRun, bytes_taken, protocol_after}
 use Rattle.session.specs.Doors.{HasGoneOn, HasServed, HasServedOne, Lead, LeadsOn, LooksBetween, MayGoOn, SameWhereTold, ServesOne, as_begun}
 use Rattle.session.specs.Served.{Serves, ServesChange, ServesStatus, ServesStop}
 use Rattle.session.specs.Standing.{AddsOnlyOwn, HoldsSince, Place, Standing}
@@ -40,6 +42,7 @@ change_grows place edit before (reply.Overtaken by) after s = absurd s
 change_grows place edit before (reply.Status version accepted cells comps runs) after s = absurd s
 change_grows place edit before reply.Done after s = absurd s
 change_grows place edit before (reply.Malformed kind length) after s = absurd s
+change_grows place edit before reply.Welcome after s = absurd s
 change_grows place edit before reply.NoMemory after s = meanwhile_grows place before after s.0
 
 status_grows : (place : Place) (before : List Entry) (told : Reply) (after : List Entry) → ServesStatus place before told after → Grows place before after
@@ -54,6 +57,7 @@ status_grows place before (reply.Overtaken by) after s = absurd s
 status_grows place before (reply.Status version accepted cells comps runs) after s = meanwhile_grows place before after s.others
 status_grows place before reply.Done after s = absurd s
 status_grows place before (reply.Malformed kind length) after s = absurd s
+status_grows place before reply.Welcome after s = absurd s
 status_grows place before reply.NoMemory after s = absurd s
 
 stop_grows : (place : Place) (before : List Entry) (told : Reply) (after : List Entry) → ServesStop place before told after → Grows place before after
@@ -71,6 +75,7 @@ stop_grows place before reply.Done after s = elim s [
   | inr there ↦ meanwhile_grows place before after there.0
 ]
 stop_grows place before (reply.Malformed kind length) after s = absurd s
+stop_grows place before reply.Welcome after s = absurd s
 stop_grows place before reply.NoMemory after s = meanwhile_grows place before after s.0
 
 serves_grows : (place : Place) (asked : Request) (old : Standing) (told : Reply) (moves : List Move) (new : Standing) → Serves place asked old told moves new
@@ -81,6 +86,7 @@ serves_grows place request.Build old told moves new s = build_grows place old.se
 serves_grows place request.Status old told moves new s = status_grows place old.seen told new.seen s.0
 serves_grows place request.Bye old told moves new s = subst (λ (to : Standing). Grows place old.seen to.seen) (sym s.2) (grows_itself place old.seen)
 serves_grows place request.Stop old told moves new s = stop_grows place old.seen told new.seen s.0
+serves_grows place request.Hello old told moves new s = subst (λ (to : Standing). Grows place old.seen to.seen) (sym s.2) (grows_itself place old.seen)
 
 -- the history goes on, and the version that is held is the one from before or was published since
 record Onward (place : Place) (old new : Standing) : Type 0 where
@@ -99,21 +105,22 @@ onward_then place old mid new p q = record {
 rests_onward : (place : Place) (old new : Standing) → Rests place old new → Onward place old new
 rests_onward place old new p = record { extends = meanwhile_grows place old.seen new.seen p.others; holds = p.holds }
 
-frame_onward : (place : Place) (exchange : Exchange) (old new : Standing) → ServesFrame place exchange old new → Onward place old new
-frame_onward place exchange old new frame = elim frame [
+frame_onward : (place : Place) (proto : Proto) (exchange : Exchange) (old new : Standing) → ServesFrame place proto exchange old new → Onward place old new
+frame_onward place proto exchange old new frame = elim frame [
   | inl s ↦ record { extends = serves_grows place s.asked old exchange.told exchange.moves new s.serves.served; holds = s.serves.holds }
   | inr s ↦ subst (Onward place old) (sym s.same) (onward_itself place old)
 ]
 
-run_onward : (place : Place) (old : Standing) (exchanges : List Exchange) (new : Standing) → ServesRun place old exchanges new → Onward place old new
-run_onward place old [] new run = rests_onward place old new run
-run_onward place old (exchange ∷ rest) new (point, frame, run) =
-    onward_then place old point new (frame_onward place exchange old point frame) (run_onward place point rest new run)
+run_onward : (place : Place) (proto : Proto) (old : Standing) (exchanges : List Exchange) (new : Standing) → ServesRun place proto old exchanges new → Onward place old new
+run_onward place proto old [] new run = rests_onward place old new run
+run_onward place proto old (exchange ∷ rest) new (point, fits, frame, run) =
+    onward_then place old point new (frame_onward place proto exchange old point frame)
+    (run_onward place (protocol_after proto exchange.frame) point rest new run)
 
 -- on a board of one's own, a conversation adds entries of its pass alone
 pub talks_are_own : (place : Place) (old : Standing) (before : Option Talk) (result : Result Ended SessionFault) (new : Standing) (after : Option Talk)
     → Conversed place old before result new after → place.shared ≡ None → AddsOnlyOwn place.pass old.seen new.seen
-talks_are_own place old before result new after c alone = (run_onward place old c.exchanges new c.serves).extends.own alone
+talks_are_own place old before result new after c alone = (run_onward place Start old c.exchanges new c.serves).extends.own alone
 
 -- ---- talks
 
@@ -235,11 +242,11 @@ pub served_talk : (place : Place) (from to : Standing) (before : Option (List En
     → Conversed place from fresh result to told → IfErr result (HasCause reads_before reads writes_before writes) → reads_before ≡ 0 → writes_before ≡ 0
     → after ≡ with_ended before told reads writes → HasServedOne place from before to after
 served_talk place from to None fresh told result reads_before reads writes_before writes after new tells c cause r w is =
-    let onward = run_onward place from c.exchanges to c.serves in record { extends = onward.extends.begins; holds = onward.holds; told = tt }
+    let onward = run_onward place Start from c.exchanges to c.serves in record { extends = onward.extends.begins; holds = onward.holds; told = tt }
 served_talk place from to (Some talks) None told result reads_before reads writes_before writes after new tells c cause r w is =
     let clash : false ≡ true = tells in absurd (cc)
 served_talk place from to (Some talks) (Some talk) told result reads_before reads writes_before writes after new tells c cause r w is =
-    let onward = run_onward place from c.exchanges to c.serves in
+    let onward = run_onward place Start from c.exchanges to c.serves in
     record {
       extends = onward.extends.begins;
       holds = onward.holds;

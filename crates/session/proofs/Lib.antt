@@ -4,6 +4,7 @@ pub mod Queried
 pub mod Builds
 pub mod Ringing
 pub mod Seating
+pub mod Protocols
 pub mod Talking
 pub mod Replying
 pub mod Cutting

@@ -15,6 +15,7 @@ use Rattle.moves.proofs.LawsOfPaths.{leads_from, leads_to}
 use Rattle.root_cost.specs.declared.Cost.{Cost}
 use Rattle.byteorder.specs.Endian.{big_bytes}
 use Rattle.query_proto.specs.declared.TheConstants.{MAX_MOVES}
+use Rattle.query_proto.specs.declared.protocols.Proto.{Proto}
 use Rattle.query_proto.specs.declared.replies.Reply.{Reply}
 use Rattle.query_proto.specs.declared.replies.Reply.TheVariants as reply
 use Rattle.query_proto.specs.declared.requests.Request.{Request}
@@ -217,6 +218,7 @@ none_behind (reply.Status version accepted cells comps runs) other = refl
 none_behind reply.Done other = refl
 none_behind (reply.Malformed kind size) other = refl
 none_behind reply.NoMemory other = refl
+none_behind reply.Welcome other = refl
 
 no_moves : (told : Reply) (moves : List Move) → moves_behind told ≡ 0 → moves ≡ [] → moves_behind told ≡ length moves
 no_moves told moves none e = none ∙ sym (ap (λ (l : List Move). length l) e)
@@ -242,10 +244,11 @@ served_behind place request.Status old told moves new p =
 served_behind place request.Bye old told moves new p = no_moves told moves (ap moves_behind p.0) p.1
 served_behind place request.Stop old told moves new p =
     no_moves told moves (none_behind told (λ v c e. subst (λ t. ServesStop place old.seen t new.seen) e p.0)) p.1
+served_behind place request.Hello old told moves new p = no_moves told moves (ap moves_behind p.0) p.1
 
-frame_behind : (place : Place) (exchange : Exchange) (old new : Standing) → ServesFrame place exchange old new
+frame_behind : (place : Place) (proto : Proto) (exchange : Exchange) (old new : Standing) → ServesFrame place proto exchange old new
     → moves_behind exchange.told ≡ length exchange.moves
-frame_behind place exchange old new p = elim p [
+frame_behind place proto exchange old new p = elim p [
   | inl spelled ↦ served_behind place spelled.asked old exchange.told exchange.moves new spelled.serves.served
   | inr none ↦ no_moves exchange.told exchange.moves (ap moves_behind none.told_is) none.moves_are
 ]
@@ -257,11 +260,11 @@ few_behind version (Some at) moves whole walk =
     let few = few_moves version.map version.order version.comps whole.database at.start at.goal moves walk in omega arith
 
 -- what stands behind a reply to a frame
-pub moves_stand : (place : Place) (frame : List ℕ) (old new : Standing) (version : Versioned) (answered : Answered) (moves : List Move) → IsVersion version
-    → ServesFrame place (record { frame = frame; told = answered.reply; moves = moves }) old new
+pub moves_stand : (place : Place) (proto : Proto) (frame : List ℕ) (old new : Standing) (version : Versioned) (answered : Answered) (moves : List Move) → IsVersion version
+    → ServesFrame place proto (record { frame = frame; told = answered.reply; moves = moves }) old new
     → MatchOption answered.path (moves ≡ []) (λ at. IsWalk version.map version.comps at.start at.goal moves) → AreMovesBehind version answered moves
-moves_stand place frame old new version answered moves whole serves walk = record {
-  many = frame_behind place (record { frame = frame; told = answered.reply; moves = moves }) old new serves;
+moves_stand place proto frame old new version answered moves whole serves walk = record {
+  many = frame_behind place proto (record { frame = frame; told = answered.reply; moves = moves }) old new serves;
   few = few_behind version answered.path moves whole walk;
   walk = walk;
 }

@@ -108,6 +108,7 @@ build_behind place before mid (reply.Overtaken by) new first s = record {
 build_behind place before mid (reply.Status version accepted cells comps runs) new first s = absurd s
 build_behind place before mid reply.Done new first s = absurd s
 build_behind place before mid (reply.Malformed kind length) new first s = absurd s
+build_behind place before mid reply.Welcome new first s = absurd s
 build_behind place before mid reply.NoMemory new first s = (meanwhile_then place before mid new.seen first s.0, s.1)
 
 -- what a build sees goes on from what was seen before it
@@ -130,6 +131,7 @@ build_grows place before (reply.Overtaken by) new s =
 build_grows place before (reply.Status version accepted cells comps runs) new s = absurd s
 build_grows place before reply.Done new s = absurd s
 build_grows place before (reply.Malformed kind length) new s = absurd s
+build_grows place before reply.Welcome new s = absurd s
 build_grows place before reply.NoMemory new s = meanwhile_grows place before new.seen s.0
 
 pub request_behind : (place : Place) (old mid : Standing) (told : Reply) (new : Standing) → Rests place old mid

@@ -1,5 +1,5 @@
 -- What the calls of a desk give, by what those of its board give: of one's own, and of a shared one.
-use Rattle.std.proofs.Common.{◌≡◌, ℕ, IsTrue, IsFalse, List, None, Some, Result, Ok, Err, IfOk, OnOk, sym, subst, ap, ◌∙◌}
+use Rattle.std.proofs.Common.{◌≡◌, ℕ, IsTrue, IsFalse, List, None, Result, Ok, Err, IfOk, OnOk, sym, subst, ap, ◌∙◌}
 use Rattle.edit_log.specs.declared.edit.Edit.{Edit}
 use Rattle.edit_log.specs.Verdicts.{MayBeAccepted}
 use Rattle.path_core.specs.declared.entry.Entry.{Entry}

@@ -5,8 +5,10 @@ use Rattle.std.proofs.Math.Seq.{take-add}
 use Rattle.std.proofs.lemmas.Grind.{flat_map-append}
 use Rattle.std.proofs.lemmas.List.{append-nil, append_assoc, drop-drop, take-append-drop, length-drop}
 use Rattle.std.proofs.lemmas.List.Elements.{All-push}
-use Rattle.query_proto.specs.declared.TheConstants.{MAX_REQUEST}
-use Rattle.query_proto.specs.Frames.{sent_reply, sent_request}
+use Rattle.std.proofs.lemmas.List.Sums.{fold_push}
+use Rattle.query_proto.specs.declared.protocols.Proto.{Proto}
+use Rattle.query_proto.specs.declared.protocols.Proto.TheVariants.{Start}
+use Rattle.query_proto.specs.Frames.{limit_of, sent_reply, sent_request}
 use Rattle.wire.specs.Talks.{Talk, with_sent, with_taken}
 use Rattle.wire.proofs.Sending.{sent_none}
 use Rattle.session.specs.declared.sessions.TheConstants.{MAX_REQUESTS}
@@ -14,7 +16,7 @@ use Rattle.session.specs.declared.sessions.Ended.{Ended}
 use Rattle.session.specs.declared.sessions.Ended.TheVariants as ended
 use Rattle.session.specs.declared.sessions.SessionFault.{SessionFault}
 use Rattle.session.specs.declared.sessions.SessionFault.TheVariants as fault
-use Rattle.session.specs.Conversations.{Conversed, EndsSo, Exchange, GoesOn, NoFewer, Passes, Rests, ServesRun, bytes_sent, bytes_taken}
+use Rattle.session.specs.Conversations.{Conversed, EndsSo, Exchange, GoesOn, IsBegun, IsPart, NoFewer, Passes, Rests, ServesRun, bytes_sent, bytes_taken, protocol_after, protocol_behind}
 use Rattle.session.specs.Standing.{Place, Standing}
 use Rattle.session.specs.Turns.{Exchanges, HoldsMore, Steps, StepsNot, StepsOver, Takes}
 use Rattle.session.proofs.Meanwhile.{meanwhile_none}
@@ -114,22 +116,26 @@ rests_none place standing = record {
   looks = no_fewer standing.looks;
 }
 
--- a session under way: so many frames were answered, none of them ended it, and these bytes are held
-pub record InTalk (place : Place) (old : Standing) (before : Option Talk) (count : ℕ) (point : Standing) (now : Option Talk) (held : List ℕ) : Type 0 where
+-- the protocol behind one exchange more
+behind_push : (exchanges : List Exchange) (exchange : Exchange) → protocol_behind (exchanges ++ exchange ∷ []) ≡ protocol_after (protocol_behind exchanges) exchange.frame
+behind_push exchanges exchange = fold_push (λ proto (exchange : Exchange). protocol_after proto exchange.frame) Start exchanges exchange
+
+-- a session under way: so many frames were answered, none of them ended it, it is at this protocol, and these bytes are held
+pub record InTalk (place : Place) (old : Standing) (before : Option Talk) (count : ℕ) (proto : Proto) (point : Standing) (now : Option Talk) (held : List ℕ) : Type 0 where
   pub exchanges : List Exchange
-  pub run : (rest : List Exchange) (end : Standing) → ServesRun place point rest end → ServesRun place old (exchanges ++ rest) end
-  pub fits : All (λ exchange. length exchange.frame ≤ MAX_REQUEST) exchanges
+  pub run : (rest : List Exchange) (end : Standing) → ServesRun place proto point rest end → ServesRun place Start old (exchanges ++ rest) end
+  pub behind : proto ≡ protocol_behind exchanges
   pub goes : All GoesOn exchanges
   pub many : length exchanges ≡ count
   pub passes : Passes before now (bytes_taken exchanges ++ held) (bytes_sent exchanges)
   pub begun : length held ≤ 2
   pub spent : count ≡ MAX_REQUESTS → held ≡ []
 
-pub talk_none : (place : Place) (old : Standing) (before : Option Talk) → InTalk place old before 0 old before []
+pub talk_none : (place : Place) (old : Standing) (before : Option Talk) → InTalk place old before 0 Start old before []
 talk_none place old before = record {
   exchanges = [];
   run = λ rest end run. run;
-  fits = λ k d lt. absurd (omega arith);
+  behind = refl;
   goes = λ k d lt. absurd (omega arith);
   many = refl;
   passes = passes_none before;
@@ -137,10 +143,10 @@ talk_none place old before = record {
   spent = λ _. refl;
 }
 
-module _ (place : Place) (old : Standing) (before : Option Talk) (count : ℕ) (point : Standing) (now : Option Talk) (held : List ℕ)
-    (t : InTalk place old before count point now held) where
+module _ (place : Place) (old : Standing) (before : Option Talk) (count : ℕ) (proto : Proto) (point : Standing) (now : Option Talk) (held : List ℕ)
+    (t : InTalk place old before count proto point now held) where
   -- the bytes, where a frame was taken and this was sent for it
-  passes_over : (exchange : Exchange) (new : Standing) (mid after : Option Talk) (next part : List ℕ) → Exchanges place exchange point new now mid held next
+  passes_over : (exchange : Exchange) (new : Standing) (mid after : Option Talk) (next part : List ℕ) → Exchanges place proto exchange point new now mid held next
       → after ≡ with_sent mid part → Passes before after (bytes_taken (t.exchanges ++ exchange ∷ []) ++ next) (bytes_sent t.exchanges ++ part)
   passes_over exchange new mid after next part e sent =
       let taken = passes_taken before now mid (bytes_taken t.exchanges ++ held) (bytes_sent t.exchanges) e.more t.passes e.takes in
@@ -149,20 +155,17 @@ module _ (place : Place) (old : Standing) (before : Option Talk) (count : ℕ) (
       ∙ ap (λ (l : List ℕ). l ++ next) (sym (taken_push t.exchanges exchange)) in
       subst (λ l. Passes before after l (bytes_sent t.exchanges ++ part)) same whole
 
-  fits_over : (exchange : Exchange) → length exchange.frame ≤ MAX_REQUEST → All (λ exchange. length exchange.frame ≤ MAX_REQUEST) (t.exchanges ++ exchange ∷ [])
-  fits_over exchange fits = All-push (λ (exchange : Exchange). length exchange.frame ≤ MAX_REQUEST) t.exchanges exchange t.fits fits
-
   many_over : (exchange : Exchange) → length (t.exchanges ++ exchange ∷ []) ≡ count + 1
   many_over exchange = let many = t.many in let push = length-append t.exchanges (exchange ∷ []) in omega arith
 
   -- a frame that doesn't end the session
-  pub talk_more : (ahead : Bool) (new : Standing) (after : Option Talk) (next : List ℕ) → (count + 1 ≡ MAX_REQUESTS → IsFalse ahead)
-      → StepsOver place ahead point now held None new after next → InTalk place old before (count + 1) new after next
-  talk_more ahead new after next last s = record {
+  pub talk_more : (ahead : Bool) (then : Proto) (new : Standing) (after : Option Talk) (next : List ℕ) → (count + 1 ≡ MAX_REQUESTS → IsFalse ahead)
+      → StepsOver place ahead proto point now held None then new after next → InTalk place old before (count + 1) then new after next
+  talk_more ahead then new after next last s = record {
     exchanges = t.exchanges ++ s.exchange ∷ [];
-    run = λ rest end run. subst (λ l. ServesRun place old l end) (sym (append_assoc t.exchanges (s.exchange ∷ []) rest))
-        (t.run (s.exchange ∷ rest) end (new, s.exchanges.serves, run));
-    fits = fits_over s.exchange s.exchanges.fits;
+    run = λ rest end run. subst (λ l. ServesRun place Start old l end) (sym (append_assoc t.exchanges (s.exchange ∷ []) rest))
+        (t.run (s.exchange ∷ rest) end (new, s.exchanges.fits, s.exchanges.serves, subst (λ p. ServesRun place p new rest end) s.then_is run));
+    behind = s.then_is ∙ ap (λ p. protocol_after p s.exchange.frame) t.behind ∙ sym (behind_push t.exchanges s.exchange);
     goes = All-push GoesOn t.exchanges s.exchange t.goes s.ends;
     many = many_over s.exchange;
     passes = subst (λ l. Passes before after (bytes_taken (t.exchanges ++ s.exchange ∷ []) ++ next) l) (sym (sent_push t.exchanges s.exchange))
@@ -178,9 +181,8 @@ module _ (place : Place) (old : Standing) (before : Option Talk) (count : ℕ) (
     exchanges = t.exchanges;
     last = next;
     sent = bytes_sent t.exchanges;
-    serves = subst (λ l. ServesRun place old l new) (append-nil t.exchanges)
+    serves = subst (λ l. ServesRun place Start old l new) (append-nil t.exchanges)
         (t.run [] new (subst (λ end. Rests place point end) (sym s.same) (rests_none place point)));
-    fits = t.fits;
     few = let many = t.many in omega arith;
     passes = subst (λ l. Passes before after l (bytes_sent t.exchanges))
         (append_assoc (bytes_taken t.exchanges) held s.more.more ∙ ap (λ (l : List ℕ). bytes_taken t.exchanges ++ l) (sym s.more.grown))
@@ -190,14 +192,13 @@ module _ (place : Place) (old : Standing) (before : Option Talk) (count : ℕ) (
 
   -- it ends behind a frame
   ends_behind : (result : Result Ended SessionFault) (exchange : Exchange) (new : Standing) (mid after : Option Talk) (next part : List ℕ) → count < MAX_REQUESTS
-      → Exchanges place exchange point new now mid held next → after ≡ with_sent mid part
+      → Exchanges place proto exchange point new now mid held next → after ≡ with_sent mid part
       → EndsSo (t.exchanges ++ exchange ∷ []) next (bytes_sent t.exchanges ++ part) after result → Conversed place old before result new after
   ends_behind result exchange new mid after next part few e sent ends = record {
     exchanges = t.exchanges ++ exchange ∷ [];
     last = next;
     sent = bytes_sent t.exchanges ++ part;
-    serves = t.run (exchange ∷ []) new (new, e.serves, rests_none place new);
-    fits = fits_over exchange e.fits;
+    serves = t.run (exchange ∷ []) new (new, e.fits, e.serves, rests_none place new);
     few = let many = many_over exchange in omega arith;
     passes = passes_over exchange new mid after next part e sent;
     ends = ends;
@@ -214,9 +215,9 @@ module _ (place : Place) (old : Standing) (before : Option Talk) (count : ℕ) (
       (t.goes, t.many ∙ all, record { none = t.spent all; all = refl })
 
   -- it ends without a fault
-  pub talk_ends : (ahead : Bool) (end : Ended) (new : Standing) (after : Option Talk) (next : List ℕ) → count < MAX_REQUESTS
-      → Steps place ahead point now held (Ok (Some end)) new after next → Conversed place old before (Ok end) new after
-  talk_ends ahead ended.Bye new after next few s =
+  pub talk_ends : (ahead : Bool) (end : Ended) (then : Proto) (new : Standing) (after : Option Talk) (next : List ℕ) → count < MAX_REQUESTS
+      → Steps place ahead proto point now held (Ok (Some end)) then new after next → Conversed place old before (Ok end) new after
+  talk_ends ahead ended.Bye then new after next few s =
       ends_behind (Ok ended.Bye) s.exchange new s.mid after next (sent_reply s.exchange.told s.exchange.moves) few s.exchanges s.sent (record {
         front = t.exchanges;
         end = s.exchange;
@@ -224,7 +225,7 @@ module _ (place : Place) (old : Standing) (before : Option Talk) (count : ℕ) (
         bye = s.ends;
         even = record { none = s.leaves; all = sym (sent_push t.exchanges s.exchange) };
       })
-  talk_ends ahead ended.Stop new after next few s =
+  talk_ends ahead ended.Stop then new after next few s =
       ends_behind (Ok ended.Stop) s.exchange new s.mid after next (sent_reply s.exchange.told s.exchange.moves) few s.exchanges s.sent (record {
         front = t.exchanges;
         end = s.exchange;
@@ -232,33 +233,33 @@ module _ (place : Place) (old : Standing) (before : Option Talk) (count : ℕ) (
         stop = s.ends;
         even = record { none = s.leaves; all = sym (sent_push t.exchanges s.exchange) };
       })
-  talk_ends ahead ended.Quiet new after next few s =
+  talk_ends ahead ended.Quiet then new after next few s =
       ends_here (Ok ended.Quiet) new after next (omega arith) s.0
       (record { all = t.goes; fewer = go_on few }, record { none = s.1; all = refl }, s.2)
-  talk_ends ahead ended.Spent new after next few s = absurd s
+  talk_ends ahead ended.Spent then new after next few s = absurd s
 
   -- it ends by a fault
-  pub talk_fails : (ahead : Bool) (why : SessionFault) (new : Standing) (after : Option Talk) (next : List ℕ) → count < MAX_REQUESTS
-      → Steps place ahead point now held (Err why) new after next → Conversed place old before (Err why) new after
-  talk_fails ahead (fault.Torn have want) new after next few s =
+  pub talk_fails : (ahead : Bool) (why : SessionFault) (then : Proto) (new : Standing) (after : Option Talk) (next : List ℕ) → count < MAX_REQUESTS
+      → Steps place ahead proto point now held (Err why) then new after next → Conversed place old before (Err why) new after
+  talk_fails ahead (fault.Torn have want) then new after next few s =
       ends_here (Err (fault.Torn have want)) new after next (omega arith) s.0 (record {
         on = record { all = t.goes; fewer = go_on few };
         have_is = s.1.0;
-        part = s.1.1;
+        part = subst (λ p. IsPart (limit_of p) next want) t.behind s.1.1;
         none = s.1.2;
         all = refl;
       })
-  talk_fails ahead (fault.TooLong size) new after next few s =
+  talk_fails ahead (fault.TooLong size) then new after next few s =
       ends_here (Err (fault.TooLong size)) new after next (omega arith) s.0 (record {
         on = record { all = t.goes; fewer = go_on few };
-        above = s.1.0;
+        above = subst (λ p. limit_of p < size) t.behind s.1.0;
         last_is = s.1.1;
         all = refl;
       })
-  talk_fails ahead fault.ReadFault new after next few s =
+  talk_fails ahead fault.ReadFault then new after next few s =
       ends_here (Err fault.ReadFault) new after next (omega arith) s.0
-      (record { on = record { all = t.goes; fewer = go_on few }; begun = s.1; all = refl })
-  talk_fails ahead fault.WriteFault new after next few s =
+      (record { on = record { all = t.goes; fewer = go_on few }; begun = subst (λ p. IsBegun (limit_of p) next) t.behind s.1; all = refl })
+  talk_fails ahead fault.WriteFault then new after next few s =
       let text = sent_reply s.exchange.told s.exchange.moves in
       let count = s.unsent.0 in
       ends_behind (Err fault.WriteFault) s.exchange new s.mid after next (take count text) few s.exchanges s.unsent.2 (record {
@@ -276,22 +277,22 @@ module _ (place : Place) (old : Standing) (before : Option Talk) (count : ℕ) (
       })
 
   -- the same, as the code has them: the place of the desk is still the same
-  pub talk_more_at : (other : Place) (ahead : Bool) (found : Option Ended) (new : Standing) (after : Option Talk) (next : List ℕ) → other ≡ place → found ≡ None
-      → Steps other ahead point now held (Ok found) new after next → (count + 1 ≡ MAX_REQUESTS → IsFalse ahead) → InTalk place old before (count + 1) new after next
-  talk_more_at other ahead found new after next same is s last =
-      talk_more ahead new after next last
-      (subst (λ p. Steps p ahead point now held (Ok None) new after next) same (subst (λ o. Steps other ahead point now held (Ok o) new after next) is s))
+  pub talk_more_at : (other : Place) (ahead : Bool) (found : Option Ended) (then : Proto) (new : Standing) (after : Option Talk) (next : List ℕ) → other ≡ place → found ≡ None
+      → Steps other ahead proto point now held (Ok found) then new after next → (count + 1 ≡ MAX_REQUESTS → IsFalse ahead) → InTalk place old before (count + 1) then new after next
+  talk_more_at other ahead found then new after next same is s last =
+      talk_more ahead then new after next last
+      (subst (λ p. Steps p ahead proto point now held (Ok None) then new after next) same (subst (λ o. Steps other ahead proto point now held (Ok o) then new after next) is s))
 
-  pub talk_ends_at : (other : Place) (ahead : Bool) (found : Option Ended) (end : Ended) (new : Standing) (after : Option Talk) (next : List ℕ) → other ≡ place
-      → found ≡ Some end → Steps other ahead point now held (Ok found) new after next → count < MAX_REQUESTS → Conversed place old before (Ok end) new after
-  talk_ends_at other ahead found end new after next same is s few =
-      talk_ends ahead end new after next few
-      (subst (λ p. Steps p ahead point now held (Ok (Some end)) new after next) same (subst (λ o. Steps other ahead point now held (Ok o) new after next) is s))
+  pub talk_ends_at : (other : Place) (ahead : Bool) (found : Option Ended) (end : Ended) (then : Proto) (new : Standing) (after : Option Talk) (next : List ℕ) → other ≡ place
+      → found ≡ Some end → Steps other ahead proto point now held (Ok found) then new after next → count < MAX_REQUESTS → Conversed place old before (Ok end) new after
+  talk_ends_at other ahead found end then new after next same is s few =
+      talk_ends ahead end then new after next few
+      (subst (λ p. Steps p ahead proto point now held (Ok (Some end)) then new after next) same (subst (λ o. Steps other ahead proto point now held (Ok o) then new after next) is s))
 
-  pub talk_fails_at : (other : Place) (ahead : Bool) (why : SessionFault) (new : Standing) (after : Option Talk) (next : List ℕ) → other ≡ place
-      → Steps other ahead point now held (Err why) new after next → count < MAX_REQUESTS → Conversed place old before (Err why) new after
-  talk_fails_at other ahead why new after next same s few =
-      talk_fails ahead why new after next few (subst (λ p. Steps p ahead point now held (Err why) new after next) same s)
+  pub talk_fails_at : (other : Place) (ahead : Bool) (why : SessionFault) (then : Proto) (new : Standing) (after : Option Talk) (next : List ℕ) → other ≡ place
+      → Steps other ahead proto point now held (Err why) then new after next → count < MAX_REQUESTS → Conversed place old before (Err why) new after
+  talk_fails_at other ahead why then new after next same s few =
+      talk_fails ahead why then new after next few (subst (λ p. Steps p ahead proto point now held (Err why) then new after next) same s)
 
 -- no further frame may be taken
 pub no_more : (count : ℕ) → count ≡ MAX_REQUESTS → IsFalse (nat_lt count MAX_REQUESTS)

@@ -1,16 +1,18 @@
 -- A session over a link: how what comes in is cut into frames, what each gets, and how it ends.
-use Rattle.std.specs.Prelude.{◌≡◌, ◌⊎◌, ℕ, ◌+◌, ◌<◌, ◌≤◌, All, Err, IfSome, List, MatchOption, None, Ok, Option, Result, Some, [], ◌∷◌, ◌++◌, length, take}
+use Rattle.std.specs.Prelude.{◌≡◌, ◌⊎◌, ℕ, ◌+◌, ◌<◌, ◌≤◌, All, Err, IfSome, List, MatchOption, None, Ok, Option, Result, Some, [], ◌∷◌, ◌++◌, cond, length, take}
 use Rattle.std.specs.Io.{StartsWith}
-use Rattle.std.specs.List.{flat_map}
+use Rattle.std.specs.List.{flat_map, fold}
+use Rattle.std.specs.Str.{bytes_eq}
 use Rattle.byteorder.specs.Endian.{big_bytes}
 use Rattle.moves.specs.declared.Move.{Move}
-use Rattle.query_proto.specs.declared.TheConstants.{MAX_REQUEST}
 use Rattle.query_proto.specs.declared.malformed.Malformed.{Malformed}
+use Rattle.query_proto.specs.declared.protocols.Proto.{Proto}
+use Rattle.query_proto.specs.declared.protocols.Proto.TheVariants.{Start, One, Two}
 use Rattle.query_proto.specs.declared.replies.Reply.{Reply}
 use Rattle.query_proto.specs.declared.replies.Reply.TheVariants as reply
 use Rattle.query_proto.specs.declared.requests.Request.{Request}
 use Rattle.query_proto.specs.declared.requests.Request.TheVariants as request
-use Rattle.query_proto.specs.Frames.{IsNoRequest, IsRequestFrame, sent_reply, sent_request}
+use Rattle.query_proto.specs.Frames.{IsNoRequest, IsRequestFrame, limit_of, request_bytes, sent_reply, sent_request}
 use Rattle.wire.specs.Causes.{Rose}
 use Rattle.wire.specs.Talks.{Talk, with_sent, with_taken}
 use Rattle.session.specs.declared.sessions.TheConstants.{MAX_REQUESTS}
@@ -29,23 +31,34 @@ pub record Exchange : Type 0 where
   pub told : Reply
   pub moves : List Move
 
--- the frame spells a request, which is served so
-pub record ServesSpelled (place : Place) (exchange : Exchange) (old new : Standing) : Type 0 where
+-- the frame spells a request of the protocol, which is served so
+pub record ServesSpelled (place : Place) (proto : Proto) (exchange : Exchange) (old new : Standing) : Type 0 where
   pub asked : Request
-  pub spells : IsRequestFrame asked exchange.frame
+  pub spells : IsRequestFrame proto asked exchange.frame
   pub serves : ServesRequest place asked old exchange.told exchange.moves new
 
 -- it spells none, and that is told
-pub record TellsMalformed (exchange : Exchange) (old new : Standing) : Type 0 where
+pub record TellsMalformed (proto : Proto) (exchange : Exchange) (old new : Standing) : Type 0 where
   pub what : Malformed
-  pub none : IsNoRequest exchange.frame what
+  pub none : IsNoRequest proto exchange.frame what
   pub told_is : exchange.told ≡ reply.Malformed what.kind what.length
   pub moves_are : exchange.moves ≡ []
   pub same : new ≡ old
 
--- what a frame gets
-abbrev pub ServesFrame : Place → Exchange → Standing → Standing → Type 0
-ServesFrame place exchange old new = ServesSpelled place exchange old new ⊎ TellsMalformed exchange old new
+-- what a frame gets, which is read at a protocol
+abbrev pub ServesFrame : Place → Proto → Exchange → Standing → Standing → Type 0
+ServesFrame place proto exchange old new =
+    ServesSpelled place proto exchange old new ⊎ TellsMalformed proto exchange old new
+
+-- the protocol behind a frame: the second one where the first frame is a Hello, and where it is another one the first
+abbrev pub protocol_after : Proto → List ℕ → Proto
+protocol_after Start frame = cond (bytes_eq frame (request_bytes request.Hello)) Two One
+protocol_after One frame = One
+protocol_after Two frame = Two
+
+-- the protocol behind the frames of a session
+abbrev pub protocol_behind : List Exchange → Proto
+protocol_behind exchanges = fold (λ proto (exchange : Exchange). protocol_after proto exchange.frame) Start exchanges
 
 -- told looks are not fewer than before
 abbrev pub NoFewer : Option ℕ → Option ℕ → Type 0
@@ -57,11 +70,13 @@ pub record Rests (place : Place) (old new : Standing) : Type 0 where
   pub holds : HoldsSince old new
   pub looks : NoFewer old.looks new.looks
 
--- A SERVED RUN: one exchange after the other, through points of one history; others may add entries behind the last
-abbrev pub ServesRun : Place → Standing → List Exchange → Standing → Type 0
-ServesRun place old [] new = Rests place old new
-ServesRun place old (exchange ∷ rest) new =
-    (point : Standing) × ServesFrame place exchange old point × ServesRun place point rest new
+-- A SERVED RUN: one exchange after the other, through points of one history, each frame within the limit of the protocol
+-- that stands there, and read at it; others may add entries behind the last
+abbrev pub ServesRun : Place → Proto → Standing → List Exchange → Standing → Type 0
+ServesRun place proto old [] new = Rests place old new
+ServesRun place proto old (exchange ∷ rest) new =
+    (point : Standing) × (length exchange.frame ≤ limit_of proto) × ServesFrame place proto exchange old point
+    × ServesRun place (protocol_after proto exchange.frame) point rest new
 
 -- ---- bytes
 
@@ -82,15 +97,16 @@ pub record Passes (before after : Option Talk) (taken sent : List ℕ) : Type 0 
 abbrev pub HasNone : Option Talk → Type 0
 HasNone told = IfSome told (λ talk. talk.left ≡ [])
 
--- a part of a frame, which wants so many bytes: one byte of its length, or its length and fewer bytes than that says
-abbrev pub IsPart : List ℕ → ℕ → Type 0
-IsPart last want = ((length last ≡ 1) × (want ≡ 2))
-    ⊎ ((size : ℕ) × (size ≤ MAX_REQUEST) × (take 2 last ≡ big_bytes 2 size) × (2 ≤ length last)
+-- a part of a frame within the limit, which wants so many bytes: one byte of its length, or its length and fewer bytes
+-- than that says
+abbrev pub IsPart : ℕ → List ℕ → ℕ → Type 0
+IsPart limit last want = ((length last ≡ 1) × (want ≡ 2))
+    ⊎ ((size : ℕ) × (size ≤ limit) × (take 2 last ≡ big_bytes 2 size) × (2 ≤ length last)
     × (want ≡ 2 + size) × (length last < want))
 
 -- nothing, or a part of a frame
-abbrev pub IsBegun : List ℕ → Type 0
-IsBegun last = (last ≡ []) ⊎ ((want : ℕ) × IsPart last want)
+abbrev pub IsBegun : ℕ → List ℕ → Type 0
+IsBegun limit last = (last ≡ []) ⊎ ((want : ℕ) × IsPart limit last want)
 
 -- the bytes of a text but for its last ones: at least one is missing
 pub record IsProperPrefix (text part : List ℕ) : Type 0 where
@@ -100,13 +116,13 @@ pub record IsProperPrefix (text part : List ℕ) : Type 0 where
 
 -- ---- how a session ends
 
--- the frame spells a Bye
+-- the frame spells a Bye, which every protocol has
 abbrev pub IsBye : Exchange → Type 0
-IsBye exchange = IsRequestFrame request.Bye exchange.frame
+IsBye exchange = exchange.frame ≡ request_bytes request.Bye
 
--- the frame spells a Stop, and it was done
+-- the frame spells a Stop, which every protocol has, and it was done
 abbrev pub IsStop : Exchange → Type 0
-IsStop exchange = IsRequestFrame request.Stop exchange.frame × (exchange.told ≡ reply.Done)
+IsStop exchange = (exchange.frame ≡ request_bytes request.Stop) × (exchange.told ≡ reply.Done)
 
 -- the session goes on behind it
 pub record GoesOn (exchange : Exchange) : Type 0 where
@@ -150,21 +166,21 @@ pub record EndsTorn (exchanges : List Exchange) (last sent : List ℕ) (after : 
     (have want : ℕ) : Type 0 where
   pub on : GoOn exchanges
   pub have_is : have ≡ length last
-  pub part : IsPart last want
+  pub part : IsPart (limit_of (protocol_behind exchanges)) last want
   pub none : HasNone after
   pub all : sent ≡ bytes_sent exchanges
 
--- a length above the most was taken, and nothing behind it
+-- a length above the limit of the protocol was taken, and nothing behind it
 pub record EndsTooLong (exchanges : List Exchange) (last sent : List ℕ) (size : ℕ) : Type 0 where
   pub on : GoOn exchanges
-  pub above : MAX_REQUEST < size
+  pub above : limit_of (protocol_behind exchanges) < size
   pub last_is : last ≡ big_bytes 2 size
   pub all : sent ≡ bytes_sent exchanges
 
 -- the link failed while a frame was to come in: all whole frames were answered
 pub record EndsUnread (exchanges : List Exchange) (last sent : List ℕ) : Type 0 where
   pub on : GoOn exchanges
-  pub begun : IsBegun last
+  pub begun : IsBegun (limit_of (protocol_behind exchanges)) last
   pub all : sent ≡ bytes_sent exchanges
 
 -- The link failed while a reply was sent: the replies before it were sent, and less than the whole of it. No more than the
@@ -190,14 +206,14 @@ EndsSo exchanges last sent after (Err (fault.TooLong size)) = EndsTooLong exchan
 EndsSo exchanges last sent after (Err fault.ReadFault) = EndsUnread exchanges last sent
 EndsSo exchanges last sent after (Err fault.WriteFault) = EndsUnsent exchanges last sent
 
--- A CONVERSATION: the frames that were taken, each served, the bytes that were taken and sent, and the end
+-- A CONVERSATION, which begins at Start: the frames that were taken, each served, the bytes that were taken and sent, and
+-- the end
 pub record Conversed (place : Place) (old : Standing) (before : Option Talk) (result : Result Ended SessionFault)
     (new : Standing) (after : Option Talk) : Type 0 where
   pub exchanges : List Exchange
   pub last : List ℕ
   pub sent : List ℕ
-  pub serves : ServesRun place old exchanges new
-  pub fits : All (λ exchange. length exchange.frame ≤ MAX_REQUEST) exchanges
+  pub serves : ServesRun place Start old exchanges new
   pub few : length exchanges ≤ MAX_REQUESTS
   pub passes : Passes before after (bytes_taken exchanges ++ last) sent
   pub ends : EndsSo exchanges last sent after result

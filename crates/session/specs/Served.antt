@@ -142,10 +142,12 @@ Serves place request.Build old told moves new = ServesBuild place old.seen told 
 Serves place request.Status old told moves new = ServesStatus place old.seen told new.seen × (moves ≡ [])
 Serves place request.Bye old told moves new = (told ≡ reply.Done) × (moves ≡ []) × (new ≡ old)
 Serves place request.Stop old told moves new = ServesStop place old.seen told new.seen × (moves ≡ [])
+Serves place request.Hello old told moves new = (told ≡ reply.Welcome) × (moves ≡ []) × (new ≡ old)
 
--- each request but a Bye is answered after a look
+-- each request but a Bye and a Hello is answered after a look
 abbrev pub LooksFor : Request → Standing → Standing → Type 0
 LooksFor request.Bye old new = Unit {0}
+LooksFor request.Hello old new = Unit {0}
 LooksFor _ old new = Raises old.looks new.looks
 
 -- THE SERVED STEP: a request is answered so, the version that is held then is the one from before or was published since, on

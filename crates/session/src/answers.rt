@@ -84,6 +84,7 @@ pub fn answer<K: Desk, R: Threads + Wait + Sync, G: Gate>(
             let reply = answer_stop(rt, desk);
             told_at(desk, reply)
         }
+        Request::Hello => told_at(desk, Reply::Welcome),
     }
 }
 

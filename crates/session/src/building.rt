@@ -19,9 +19,45 @@ use std::sync::{Arc, Wait};
 use std::thread::Threads;
 use version_build::{BuildReport, build, plan};
 use versions::Version;
+use wire::Built;
 
-/// Builds a version after all accepted edits and publishes it, where the published one lacks some.
+/// Builds a version after all accepted edits and publishes it, where the published one lacks some. Who comes while
+/// another build of the board runs waits for its end, and then looks: most often there is nothing new.
 pub(crate) fn answer_build<K: Desk, R: Threads + Wait + Sync, G: Gate>(
+    means: &Means<'_, R, G>,
+    desk: &mut K,
+) -> Reply
+    ensures place { K.place desk.new ≡ K.place desk.old }
+    ensures looks { Raises (K.looks desk.old) (K.looks desk.new) }
+    ensures holds { IsHeldSince (K.seen desk.old) (K.version desk.old).prefix (K.seen desk.new)
+        (K.version desk.new).prefix }
+    ensures served { ServesBuild (K.place desk.old) (K.seen desk.old) result
+        (stands K.seen K.version K.looks desk.new) }
+{
+    desk.begin_build(means.rt);
+    let reply = build_and_publish(means, desk);
+    desk.end_build(means.rt, published(reply));
+    reply
+}
+
+/// What was published, where that is the reply.
+fn published(reply: Reply) -> Option<Built> {
+    match reply {
+        Reply::Published {
+            prefix,
+            built,
+            kept,
+        } => Some(Built {
+            version: prefix,
+            built,
+            kept,
+        }),
+        _ => None,
+    }
+}
+
+/// Looks, builds a version after all accepted edits and publishes it, where the published one lacks some.
+fn build_and_publish<K: Desk, R: Threads + Wait + Sync, G: Gate>(
     means: &Means<'_, R, G>,
     desk: &mut K,
 ) -> Reply

@@ -14,6 +14,7 @@ use path_core::{Job, Look, PublishError, SubmitError};
 use std::alloc::AllocError;
 use std::sync::{Arc, Wait};
 use versions::Version;
+use wire::Built;
 
 /// A place at a board. Its pass has seen a history and holds a version of it. At each call that changes it the pass
 /// looks at the board, and others may have added entries before.
@@ -108,6 +109,12 @@ pub trait Desk {
         ensures halted { IfOk result (IsHalted (place self.old) (seen self.old) (seen self.new)) }
         ensures refused { OnErr result (IsNotHalted (place self.old) (seen self.old)
             (seen self.new)) };
+
+    /// Waits, where others build at the board, until no build runs, and begins one. Nothing is promised of it.
+    fn begin_build<R: Wait>(&self, _rt: &R) {}
+
+    /// Ends a build, which has published that version or none.
+    fn end_build<R: Wait>(&self, _rt: &R, _built: Option<Built>) {}
 
     /// The version that is held.
     fn held(&self) -> &Version

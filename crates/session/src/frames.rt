@@ -50,9 +50,9 @@ impl Held {
         }
     }
 
-    /// Takes the next frame: how many bytes it has behind its length, which is held too. `None` where the input ends
-    /// between frames. Where a further frame may be taken and this one can't end the session, the next length may come
-    /// with it.
+    /// Takes the next frame, of at most `limit` bytes: how many bytes it has behind its length, which is held too.
+    /// `None` where the input ends between frames. Where a further frame may be taken and this one can't end the
+    /// session, the next length may come with it.
     ///
     /// # Errors
     ///
@@ -60,24 +60,26 @@ impl Held {
     pub(crate) fn next_frame<L: Link>(
         &mut self,
         link: &mut L,
+        limit: u16,
         ahead: bool,
     ) -> Result<Option<usize>, SessionFault>
-        requires { length self.old ≤ 2 }
+        requires begun { length self.old ≤ 2 }
+        requires limit { limit ≤ MAX_REQUEST }
         ensures more { HoldsMore (L.talk link.old) (L.talk link.new) self.old self.new }
-        ensures next { IsNext ahead self.new (L.talk link.new) result }
+        ensures next { IsNext limit ahead self.new (L.talk link.new) result }
         ensures cause { IfErr result (HasCause (L.read_faults link.old) (L.read_faults link.new)
             (L.write_faults link.old) (L.write_faults link.new)) }
         ensures reads { L.read_faults link.old ≤ L.read_faults link.new }
         ensures writes { L.write_faults link.new ≡ L.write_faults link.old }
     {
         match self.fill(link, LENGTH, LENGTH) {
-            Ok(true) => self.rest_of_frame(link, ahead),
+            Ok(true) => self.rest_of_frame(link, limit, ahead),
             Ok(false) => self.without_length(),
             Err(_) => Err(SessionFault::ReadFault),
         }
     }
 
-    /// Takes the rest of a frame, whose length is held.
+    /// Takes the rest of a frame of at most `limit` bytes, whose length is held.
     ///
     /// # Errors
     ///
@@ -85,18 +87,20 @@ impl Held {
     fn rest_of_frame<L: Link>(
         &mut self,
         link: &mut L,
+        limit: u16,
         ahead: bool,
     ) -> Result<Option<usize>, SessionFault>
-        requires { length self.old ≡ 2 }
+        requires held { length self.old ≡ 2 }
+        requires limit { limit ≤ MAX_REQUEST }
         ensures more { HoldsMore (L.talk link.old) (L.talk link.new) self.old self.new }
-        ensures next { IsNext ahead self.new (L.talk link.new) result }
+        ensures next { IsNext limit ahead self.new (L.talk link.new) result }
         ensures cause { IfErr result (HasCause (L.read_faults link.old) (L.read_faults link.new)
             (L.write_faults link.old) (L.write_faults link.new)) }
         ensures reads { L.read_faults link.old ≤ L.read_faults link.new }
         ensures writes { L.write_faults link.new ≡ L.write_faults link.old }
     {
         let size = self.size();
-        if usize::from(size) > MAX_REQUEST {
+        if size > limit {
             return Err(SessionFault::TooLong { length: size });
         }
         self.body(link, usize::from(size), ahead)
@@ -117,7 +121,8 @@ impl Held {
         requires held { length self.old ≡ 2 }
         requires size { take 2 self.old ≡ big_bytes 2 size }
         ensures more { HoldsMore (L.talk link.old) (L.talk link.new) self.old self.new }
-        ensures next { IsNext ahead self.new (L.talk link.new) result }
+        ensures next { (limit : ℕ) → size ≤ limit
+            → IsNext limit ahead self.new (L.talk link.new) result }
         ensures cause { IfErr result (HasCause (L.read_faults link.old) (L.read_faults link.new)
             (L.write_faults link.old) (L.write_faults link.new)) }
         ensures reads { L.read_faults link.old ≤ L.read_faults link.new }
@@ -149,8 +154,8 @@ impl Held {
     /// `Torn` where one byte of a length is held.
     fn without_length(&self) -> Result<Option<usize>, SessionFault>
         requires { length self.now < 2 }
-        ensures next { (ahead : Bool) (told : Option Talk) → HasNone told →
-            IsNext ahead self.now told result }
+        ensures next { (limit : ℕ) (ahead : Bool) (told : Option Talk) → HasNone told →
+            IsNext limit ahead self.now told result }
         ensures cause { (a b c d : ℕ) → IfErr result (HasCause a b c d) }
     {
         if self.have == 0 {

@@ -12,7 +12,7 @@ use path_core::{Job, Look, PublishError, SubmitError};
 use std::alloc::AllocError;
 use std::sync::{Arc, Wait};
 use versions::Version;
-use wire::Bell;
+use wire::{Bell, Built};
 
 /// A pass of a shared board, and the bell of whoever builds there.
 #[derive(Drop)]
@@ -21,7 +21,7 @@ pub struct Seated<'a, B: Bell> {
     pub board: &'a SharedBoard,
     /// The pass, which is one of that board.
     pub pass: Pass,
-    /// The bell, which is rung after each accepted edit.
+    /// The bell, which is rung after each accepted edit, and at which builds stand in a queue of one.
     pub bell: &'a B,
     ghost of_board: { IsPassOf (board_id board.now) pass },
 }
@@ -59,6 +59,14 @@ impl<B: Bell> Desk for Seated<'_, B> {
 
     fn halt<R: Wait>(&mut self, rt: &R) -> Result<bool, AllocError> {
         self.board.halt(rt, &mut self.pass)
+    }
+
+    fn begin_build<R: Wait>(&self, rt: &R) {
+        self.bell.begin_build(rt);
+    }
+
+    fn end_build<R: Wait>(&self, rt: &R, built: Option<Built>) {
+        self.bell.end_build(rt, built);
     }
 
     fn held(&self) -> &Version {

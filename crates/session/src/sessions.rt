@@ -3,10 +3,12 @@
 ghost use Rattle.std.specs.Prelude.{◌≡◌, ◌<◌, ◌≤◌, ◌+◌, [], length, IfErr, OnErr};
 ghost use Rattle.build_pool.specs.declared.TheConstants.{MAX_WORKERS};
 ghost use Rattle.query_proto.specs.declared.TheConstants.{MAX_REQUEST};
+ghost use Rattle.query_proto.specs.declared.protocols.Proto.TheVariants.{Start};
+ghost use Rattle.query_proto.specs.declared.requests.Request.TheVariants.{Stop};
 ghost use Rattle.wire.specs.Causes.{Rose};
-ghost use Rattle.session.specs.Conversations.{Conversed, HasCause};
+ghost use Rattle.session.specs.Conversations.{Conversed, HasCause, protocol_after};
 ghost use Rattle.session.specs.Standing.{stands};
-ghost use Rattle.session.specs.Turns.{AnswersSo, EndsBy, Steps, TellsBack};
+ghost use Rattle.session.specs.Turns.{AnswersSo, EndsBy, Steps, TellsBack, protocol_of};
 
 use crate::answers::{Answered, answer};
 use crate::desk::Desk;
@@ -14,7 +16,7 @@ use crate::frames::Held;
 use crate::means::Means;
 use crate::sending::send_reply;
 use build_pool::Gate;
-use query_proto::{Reply, Request, decode_request};
+use query_proto::{Proto, Reply, Request, decode_request, frame_limit};
 use std::alloc::Global;
 use std::sync::Wait;
 use std::thread::Threads;
@@ -46,7 +48,7 @@ pub enum SessionFault {
         /// How many it has; 2 where its length is torn.
         want: u32,
     },
-    /// A frame is longer than a request can be.
+    /// A frame is longer than a request of the session's protocol can be.
     TooLong {
         /// Its length in bytes.
         length: u16,
@@ -60,9 +62,12 @@ pub enum SessionFault {
 /// Answers the frames that come in over a link, one after the other, until one of them ends the session, the input
 /// ends, or the link fails. It takes memory for a change, a build and a stop alone.
 ///
+/// It speaks the first protocol, and behind a Hello that comes first the second one.
+///
 /// # Errors
 ///
-/// `Torn` where the input ends inside a frame, `TooLong` where a length is above 64, and a fault where the link fails.
+/// `Torn` where the input ends inside a frame, `TooLong` where a length is above the limit of the protocol, and a fault
+/// where the link fails.
 pub fn serve_link<K: Desk, L: Link, R: Threads + Wait + Sync, G: Gate>(
     rt: &R,
     alloc: Global,
@@ -102,9 +107,10 @@ fn serve_frames<K: Desk, L: Link, R: Threads + Wait + Sync, G: Gate>(
     ensures reads { L.read_faults link.old ≤ L.read_faults link.new }
     ensures writes { L.write_faults link.old ≤ L.write_faults link.new }
 {
+    let mut proto = Proto::Start;
     for count in 0..MAX_REQUESTS {
         let ahead = count + 1 < MAX_REQUESTS;
-        match serve_next(means, desk, link, held, ahead) {
+        match serve_next(means, desk, link, held, &mut proto, ahead) {
             Ok(None) => {}
             Ok(Some(ended)) => return Ok(ended),
             Err(fault) => return Err(fault),
@@ -113,33 +119,68 @@ fn serve_frames<K: Desk, L: Link, R: Threads + Wait + Sync, G: Gate>(
     Ok(Ended::Spent)
 }
 
-/// Takes the next frame and answers it. `None` where the session goes on. `ahead` says that a further frame may be
-/// taken.
+/// Takes the next frame and answers it. `None` where the session goes on, at the protocol behind the frame. `ahead`
+/// says that a further frame may be taken.
 fn serve_next<K: Desk, L: Link, R: Threads + Wait + Sync, G: Gate>(
     means: &Means<'_, R, G>,
     desk: &mut K,
     link: &mut L,
     held: &mut Held,
+    proto: &mut Proto,
     ahead: bool,
 ) -> Result<Option<Ended>, SessionFault>
     requires begun { length held.old ≤ 2 }
     ensures place { K.place desk.new ≡ K.place desk.old }
-    ensures steps { Steps (K.place desk.old) ahead (stands K.seen K.version K.looks desk.old)
-        (L.talk link.old) held.old result
+    ensures steps { Steps (K.place desk.old) ahead proto.old
+        (stands K.seen K.version K.looks desk.old) (L.talk link.old) held.old result proto.new
         (stands K.seen K.version K.looks desk.new) (L.talk link.new) held.new }
     ensures cause { IfErr result (HasCause (L.read_faults link.old) (L.read_faults link.new)
         (L.write_faults link.old) (L.write_faults link.new)) }
     ensures reads { L.read_faults link.old ≤ L.read_faults link.new }
     ensures writes { L.write_faults link.old ≤ L.write_faults link.new }
 {
-    let Some(size) = held.next_frame(link, ahead)? else {
+    let Some(size) = held.next_frame(link, frame_limit(*proto), ahead)? else {
         return Ok(Some(Ended::Quiet));
     };
-    let served = serve_frame(means, desk, link, held.frame(size));
+    let frame = held.frame(size);
+    let served = serve_frame(means, desk, link, *proto, frame);
+    *proto = protocol_after(*proto, frame);
     held.pass(size);
     match served {
         Ok(ended) => Ok(ended),
         Err(_) => Err(SessionFault::WriteFault),
+    }
+}
+
+/// The protocol behind a frame.
+fn protocol_after(proto: Proto, frame: &[u8]) -> Proto
+    requires { length frame.now ≤ MAX_REQUEST }
+    ensures { result ≡ protocol_after proto frame.now }
+{
+    match proto {
+        Proto::Start => protocol_behind_first(frame),
+        Proto::One | Proto::Two => proto,
+    }
+}
+
+/// The protocol behind the first frame.
+fn protocol_behind_first(frame: &[u8]) -> Proto
+    requires { length frame.now ≤ MAX_REQUEST }
+    ensures { result ≡ protocol_after Start frame.now }
+{
+    match decode_request(frame, Proto::Start) {
+        Ok(request) => protocol_of(&request),
+        Err(_) => Proto::One,
+    }
+}
+
+/// The protocol behind the first request.
+fn protocol_of(first: &Request) -> Proto
+    ensures { result ≡ protocol_of first.now }
+{
+    match first {
+        Request::Hello => Proto::Two,
+        _ => Proto::One,
     }
 }
 
@@ -152,37 +193,39 @@ fn serve_frame<K: Desk, L: Link, R: Threads + Wait + Sync, G: Gate>(
     means: &Means<'_, R, G>,
     desk: &mut K,
     link: &mut L,
+    proto: Proto,
     frame: &[u8],
 ) -> Result<Option<Ended>, Failed>
     requires fits { length frame.now ≤ MAX_REQUEST }
     ensures place { K.place desk.new ≡ K.place desk.old }
-    ensures tells { TellsBack (K.place desk.old) frame.now
+    ensures tells { TellsBack (K.place desk.old) proto frame.now
         (stands K.seen K.version K.looks desk.old) (L.talk link.old) result
         (stands K.seen K.version K.looks desk.new) (L.talk link.new) }
     ensures cause { OnErr result (Rose (L.write_faults link.old) (L.write_faults link.new)) }
     ensures writes { L.write_faults link.old ≤ L.write_faults link.new }
     ensures reads { L.read_faults link.new ≡ L.read_faults link.old }
 {
-    let (answered, ended) = answer_frame(means, desk, frame);
+    let (answered, ended) = answer_frame(means, desk, proto, frame);
     match send_reply(link, &answered, desk.held()) {
         Ok(()) => Ok(ended),
         Err(failed) => Err(failed),
     }
 }
 
-/// Answers a frame, and says whether the session ends behind the reply.
+/// Answers a frame, read at the protocol, and says whether the session ends behind the reply.
 fn answer_frame<K: Desk, R: Threads + Wait + Sync, G: Gate>(
     means: &Means<'_, R, G>,
     desk: &mut K,
+    proto: Proto,
     frame: &[u8],
 ) -> (Answered, Option<Ended>)
     requires fits { length frame.now ≤ MAX_REQUEST }
     ensures place { K.place desk.new ≡ K.place desk.old }
-    ensures answers { AnswersSo (K.place desk.old) frame.now
+    ensures answers { AnswersSo (K.place desk.old) proto frame.now
         (stands K.seen K.version K.looks desk.old) (K.version desk.new) result.0 result.1
         (stands K.seen K.version K.looks desk.new) }
 {
-    match decode_request(frame) {
+    match decode_request(frame, proto) {
         Ok(request) => {
             let answered = answer(
                 means.rt,
@@ -192,7 +235,7 @@ fn answer_frame<K: Desk, R: Threads + Wait + Sync, G: Gate>(
                 means.workers,
                 means.gate,
             );
-            (answered, end_of(request, answered.reply))
+            (answered, end_of(&request, answered.reply))
         }
         Err(what) => {
             let told = Reply::Malformed {
@@ -205,12 +248,22 @@ fn answer_frame<K: Desk, R: Threads + Wait + Sync, G: Gate>(
 }
 
 /// How a session ends behind a request with this reply; `None` where it goes on.
-fn end_of(request: Request, reply: Reply) -> Option<Ended>
-    ensures { EndsBy request reply result }
+fn end_of(request: &Request, reply: Reply) -> Option<Ended>
+    ensures { EndsBy request.now reply result }
 {
-    match (request, reply) {
-        (Request::Bye, _) => Some(Ended::Bye),
-        (Request::Stop, Reply::Done) => Some(Ended::Stop),
+    match request {
+        Request::Bye => Some(Ended::Bye),
+        Request::Stop => end_of_stop(reply),
+        _ => None,
+    }
+}
+
+/// How a session ends behind a stop with this reply.
+fn end_of_stop(reply: Reply) -> Option<Ended>
+    ensures { EndsBy Stop reply result }
+{
+    match reply {
+        Reply::Done => Some(Ended::Stop),
         _ => None,
     }
 }

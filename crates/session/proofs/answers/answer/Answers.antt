@@ -41,3 +41,8 @@ returns-in-Stop-clause-answers g c =
       own = subst (λ p. HoldsItsOwn p (standing (g.K.Desk.seen c.answer_stop-reply.new.desk) (g.K.Desk.version c.answer_stop-reply.new.desk) (g.K.Desk.looks c.answer_stop-reply.new.desk))) then.place c.told_at-in-Stop.ensures.own;
       looks = then.looks;
     })
+
+pub returns-in-Hello-clause-answers : goal.returns-in-Hello-clause-answers
+returns-in-Hello-clause-answers g c =
+    told_for _ _ request.Hello _ _ _ _ _ c.in-Hello.is c.told_at-in-Hello.ensures.reply c.told_at-in-Hello.ensures.path refl
+    (record { served = (refl, refl, refl); holds = inl refl; own = c.told_at-in-Hello.ensures.own; looks = tt })

@@ -14,7 +14,7 @@ stand g c =
     let new = stands g.K.Desk.seen g.K.Desk.version g.K.Desk.looks desk in
     let a = c.answer_frame-ended.ensures.answers in
     subst (λ v. AreMovesBehind v answered a.moves) (sym c.held.ensures.version)
-    (moves_stand (g.K.Desk.place c.args.desk.now) c.args.frame.now old new (g.K.Desk.version desk) answered a.moves
+    (moves_stand (g.K.Desk.place c.args.desk.now) c.args.proto c.args.frame.now old new (g.K.Desk.version desk) answered a.moves
     c.held.ensures.sound.is.whole a.serves a.walk)
 
 pub send_reply-requires-after_bounds : goal.send_reply-requires-after_bounds

@@ -1,4 +1,5 @@
 use Rattle.std.proofs.Common.{◌+◌, nat_lt, refl, subst, sym, ◌∙◌, arith}
+use Rattle.query_proto.specs.declared.protocols.Proto.TheVariants.{Start}
 use Rattle.session.specs.declared.sessions.TheConstants.{MAX_REQUESTS}
 use Rattle.session.specs.Standing.{standing}
 use Rattle.session.proofs.Talking.{InTalk, no_more, talk_ends_at, talk_fails_at, talk_more_at, talk_none, talk_spent}
@@ -10,7 +11,7 @@ loop-count-init g c =
     let old = standing (g.K.Desk.seen c.args.desk.now) (g.K.Desk.version c.args.desk.now) (g.K.Desk.looks c.args.desk.now) in
     let before = g.L.Link.talk c.args.link.now in
     record {
-      talk = subst (InTalk place old before 0 old before) (sym c.requires.none) (talk_none place old before);
+      talk = subst (InTalk place old before 0 Start old before) (sym c.requires.none) (talk_none place old before);
       place = refl;
       reads = omega arith;
       writes = omega arith;
@@ -19,20 +20,20 @@ loop-count-init g c =
 pub returns-in-Ok-Some-clause-talk : goal.returns-in-Ok-Some-clause-talk
 returns-in-Ok-Some-clause-talk g c =
     let inv = c.loop-count.invariant in
-    talk_ends_at _ _ _ _ _ _ _ inv.talk _ _ _ _ _ _ c.serve_next.new.held inv.place c.in-Ok-Some.field-0-is
+    talk_ends_at _ _ _ _ _ _ _ _ inv.talk _ _ _ _ _ _ _ c.serve_next.new.held inv.place c.in-Ok-Some.field-0-is
     c.in-Ok-Some.ensures.steps c.loop-count-test.true
 
 pub returns-in-Err-clause-talk : goal.returns-in-Err-clause-talk
 returns-in-Err-clause-talk g c =
     let inv = c.loop-count.invariant in
-    talk_fails_at _ _ _ _ _ _ _ inv.talk _ (nat_lt (c.loop-count.count + 1) MAX_REQUESTS) c.in-Err.fault _ _ c.serve_next.new.held
+    talk_fails_at _ _ _ _ _ _ _ _ inv.talk _ (nat_lt (c.loop-count.count + 1) MAX_REQUESTS) c.in-Err.fault _ _ _ c.serve_next.new.held
     inv.place c.in-Err.ensures.steps c.loop-count-test.true
 
 pub loop-count-preserved : goal.loop-count-preserved
 loop-count-preserved g c =
     let inv = c.loop-count.invariant in
     record {
-      talk = talk_more_at _ _ _ _ _ _ _ inv.talk _ _ _ _ _ c.serve_next.new.held inv.place c.in-Ok-None.field-0-is
+      talk = talk_more_at _ _ _ _ _ _ _ _ inv.talk _ _ _ _ _ _ c.serve_next.new.held inv.place c.in-Ok-None.field-0-is
           c.in-Ok-None.ensures.steps (λ e. no_more (c.loop-count.count + 1) e);
       place = c.in-Ok-None.ensures.place ∙ inv.place;
       reads = omega (arith, inv.reads, c.in-Ok-None.ensures.reads);
@@ -41,5 +42,5 @@ loop-count-preserved g c =
 
 pub returns-clause-talk : goal.returns-clause-talk
 returns-clause-talk g c =
-    talk_spent _ _ _ _ _ _ _ c.loop-count.invariant.talk
+    talk_spent _ _ _ _ _ _ _ _ c.loop-count.invariant.talk
     (omega (arith, c.loop-count-test.false, c.loop-count.auto.count-end))

@@ -6,7 +6,7 @@ use Rattle.session.proofs.sessions.serve_frames.Given as goal
 abbrev pub invariant-loop-count : goal.invariant-loop-count
 invariant-loop-count g l = record {
   talk : InTalk (g.K.Desk.place l.fn.desk) (standing (g.K.Desk.seen l.fn.desk) (g.K.Desk.version l.fn.desk) (g.K.Desk.looks l.fn.desk)) (g.L.Link.talk l.fn.link)
-      l.count (standing (g.K.Desk.seen l.desk) (g.K.Desk.version l.desk) (g.K.Desk.looks l.desk)) (g.L.Link.talk l.link) l.held;
+      l.count l.proto (standing (g.K.Desk.seen l.desk) (g.K.Desk.version l.desk) (g.K.Desk.looks l.desk)) (g.L.Link.talk l.link) l.held;
   place : g.K.Desk.place l.desk ≡ g.K.Desk.place l.fn.desk;
   reads : g.L.Link.read_faults l.fn.link ≤ g.L.Link.read_faults l.link;
   writes : g.L.Link.write_faults l.fn.link ≤ g.L.Link.write_faults l.link;

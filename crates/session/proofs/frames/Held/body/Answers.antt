@@ -3,17 +3,21 @@ use Rattle.session.proofs.Cutting.{frame_holds, is_whole, not_whole, part_holds,
 use Rattle.session.proofs.frames.Held.body.Goals as goal
 
 pub returns-in-Ok-true-clause-next : goal.returns-in-Ok-true-clause-next
-returns-in-Ok-true-clause-next g c =
+returns-in-Ok-true-clause-next g c = λ limit within.
     frame_holds _ _ c.args.self.now c.fill.new.self c.args.size c.requires.fits c.requires.held c.requires.size c.in-Ok-true.ensures.more
-    c.args.ahead c.most_wanted.result (is_whole _ _ c.in-Ok-true.field-0 c.in-Ok-true.field-0-test c.in-Ok-true.ensures.whole) c.in-Ok-true.ensures.most
+    limit within c.args.ahead c.most_wanted.result (is_whole _ _ c.in-Ok-true.field-0 c.in-Ok-true.field-0-test c.in-Ok-true.ensures.whole) c.in-Ok-true.ensures.most
     c.most_wanted.ensures.most c.most_wanted.ensures.last c.most_wanted.ensures.alone
 
 pub returns-in-Ok-false-clause-next : goal.returns-in-Ok-false-clause-next
-returns-in-Ok-false-clause-next g c =
+returns-in-Ok-false-clause-next g c = λ limit within.
     let short = not_whole _ _ c.in-Ok-false.field-0 c.in-Ok-false.field-0-test c.in-Ok-false.ensures.whole in
     stops_torn (g.L.Link.talk c.args.link.now) (g.L.Link.talk c.fill.new.link) c.args.self.now c.fill.new.self c.args.size c.requires.fits c.requires.held c.requires.size
-    c.in-Ok-false.ensures.more c.torn.result c.torn.ensures short.0 short.1
+    c.in-Ok-false.ensures.more limit within c.torn.result c.torn.ensures short.0 short.1
 
 pub returns-in-Err-clause-next : goal.returns-in-Err-clause-next
-returns-in-Err-clause-next g c =
-    inr (_, part_holds _ _ c.args.self.now c.fill.new.self c.args.size c.requires.fits c.requires.held c.requires.size c.in-Err.ensures.more c.in-Err.ensures.fault)
+returns-in-Err-clause-next g c = λ limit within.
+    inr (
+      _,
+      part_holds _ _ c.args.self.now c.fill.new.self c.args.size c.requires.fits c.requires.held c.requires.size c.in-Err.ensures.more
+          limit within c.in-Err.ensures.fault,
+    )

@@ -13,8 +13,8 @@ use Rattle.session.specs.Standing.{IsSound, Meanwhile}
 use Rattle.session.proofs.Builds.{builds_version, may_publish, no_memory, nothing_new, published_begins, published_held, taken_begins, taken_inside, taken_searchable}
 use Rattle.session.proofs.Holding.{holds_either, holds_later}
 use Rattle.session.proofs.Meanwhile.{meanwhile_begin, meanwhile_none}
-use Rattle.session.proofs.building.answer_build.Goals as goal
-use Rattle.session.proofs.building.answer_build.Goals.{After-prefix}
+use Rattle.session.proofs.building.build_and_publish.Goals as goal
+use Rattle.session.proofs.building.build_and_publish.Goals.{After-prefix}
 
 -- the version that is held is that of accepted edits
 sound : (g : _) (c : After-prefix g)
