@@ -22,6 +22,7 @@ module _ (D C : Type 0) (words : List Text) (house : RunHouse D C) where
   right_line (status.TooLong limit) is other = absurd is
   right_line (status.Broken why) is other = absurd is
   right_line (status.Events line) is other = absurd is
+  right_line (status.Db fault) is other = absurd is
   right_line status.BadAnswer is other = (is, refl)
 
   -- the line of the cause is right, and so is that of want of memory

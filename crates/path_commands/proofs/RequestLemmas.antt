@@ -13,7 +13,7 @@ use Rattle.clap.specs.Words.{Text, first_value, found_of, is_simple_and_free}
 use Rattle.clap.specs.declared.parser.matches.ArgMatches.{ArgMatches}
 use Rattle.clap.proofs.OnLiterals.{clap_on_literals}
 use Rattle.path_commands.specs.declared.commands.Verb.{Verb}
-use Rattle.path_commands.specs.declared.commands.Verb.TheVariants.{Path, Check, Near, NearPath, Scen, Made, Replay, Talk, Serve, Ask}
+use Rattle.path_commands.specs.declared.commands.Verb.TheVariants.{Path, Check, Near, NearPath, Scen, Made, Replay, Talk, Serve, Ask, Export, Verify}
 use Rattle.path_commands.specs.declared.request.Request.{Request}
 use Rattle.path_commands.specs.declared.request.RequestError.TheVariants.{Usage}
 use Rattle.path_commands.specs.Commands.{app_for, verb_named, verb_of}
@@ -33,6 +33,8 @@ simple_app Replay = refl
 simple_app Talk = refl
 simple_app Serve = refl
 simple_app Ask = refl
+simple_app Export = refl
+simple_app Verify = refl
 
 -- the first word names the command
 pub named_first : (words : List (String Global)) (name : String Global) → Some name ≡ slice_get words 0 → verb_of (texts_of words) ≡ verb_named (string_bytes name)

@@ -66,10 +66,11 @@ pub record HearsText (D C : Type 0) (house : RunHouse D C) (port : ℕ) (request
   pub once : CallsOnce D C house port request (Ok heard)
   pub tells : TellsHeard heard.reply heard.moves text
 
--- what came in is no answer, or ended before an answer was whole
+-- what came in is no answer, or ended before an answer was whole, or came of a server that does not know what was asked
 abbrev pub IsBad : ClientFault → Type 0
 IsBad fault.Malformed = Unit {0}
 IsBad (fault.Closed have) = Unit {0}
+IsBad (fault.OldServer kind) = Unit {0}
 IsBad _ = ⊥
 
 -- why there is no text: each status other than want of memory has its cause

@@ -4,7 +4,7 @@ use Rattle.std.specs.Str.{bytes_eq}
 use Rattle.clap.specs.Walk.{Rule, Text}
 use Rattle.clap.specs.Simple.{App}
 use Rattle.path_commands.specs.declared.commands.Verb.{Verb}
-use Rattle.path_commands.specs.declared.commands.Verb.TheVariants.{Path, Check, Near, NearPath, Scen, Made, Replay, Talk, Serve, Ask}
+use Rattle.path_commands.specs.declared.commands.Verb.TheVariants.{Path, Check, Near, NearPath, Scen, Made, Replay, Talk, Serve, Ask, Export, Verify}
 use Rattle.path_commands.specs.declared.commands.Field.{Field}
 use Rattle.path_commands.specs.declared.commands.Field.TheVariants.{Argument, Setting, Several}
 use Rattle.path_commands.specs.declared.commands.Value.{Value}
@@ -42,7 +42,7 @@ with_build arguments =
     map required_rule arguments ++ option_rule (codes "order") ∷ option_rule (codes "workers") ∷ []
 
 abbrev pub verbs : List Verb
-verbs = Path ∷ Check ∷ Scen ∷ Made ∷ Replay ∷ Talk ∷ Serve ∷ Ask ∷ Near ∷ NearPath ∷ []
+verbs = Path ∷ Check ∷ Scen ∷ Made ∷ Replay ∷ Talk ∷ Serve ∷ Ask ∷ Export ∷ Verify ∷ Near ∷ NearPath ∷ []
 
 -- the word that names the command
 abbrev pub verb_name : Verb → Text
@@ -56,6 +56,8 @@ verb_name Replay = codes "replay"
 verb_name Talk = codes "talk"
 verb_name Serve = codes "serve"
 verb_name Ask = codes "ask"
+verb_name Export = codes "export"
+verb_name Verify = codes "verify"
 
 -- its arguments in order, and its options
 abbrev pub verb_rules : Verb → List Rule
@@ -72,6 +74,8 @@ verb_rules Talk = with_build (codes "MAP" ∷ []) ++ option_rule (codes "room") 
 verb_rules Serve =
     with_build (codes "MAP" ∷ codes "PORT" ∷ codes "DOORS" ∷ []) ++ option_rule (codes "room") ∷ []
 verb_rules Ask = required_rule (codes "PORT") ∷ several_rule (codes "WORDS") ∷ []
+verb_rules Export = with_build (codes "MAP" ∷ [])
+verb_rules Verify = required_rule (codes "DB") ∷ []
 
 -- how they are shown
 abbrev pub verb_synopsis : Verb → Text
@@ -85,6 +89,8 @@ verb_synopsis Replay = codes " MAP EVENTS [--order rows|dfs] [--workers N]"
 verb_synopsis Talk = codes " MAP [--order rows|dfs] [--workers N] [--room N]"
 verb_synopsis Serve = codes " MAP PORT DOORS [--order rows|dfs] [--workers N] [--room N]"
 verb_synopsis Ask = codes " PORT WORDS.."
+verb_synopsis Export = codes " MAP [--order rows|dfs] [--workers N]"
+verb_synopsis Verify = codes " DB"
 
 -- the command as clap reads it
 unfoldable pub app_for : Verb → App

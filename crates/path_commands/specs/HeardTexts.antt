@@ -42,6 +42,7 @@ reply_text (reply.Status version accepted cells comps runs) =
     line (codes "version " ++ decimal version ++ codes " accepted " ++ decimal accepted ++ codes " cells " ++ decimal cells
     ++ codes " components " ++ decimal comps ++ codes " runs " ++ decimal runs)
 reply_text reply.Done = line (codes "done")
+reply_text reply.Welcome = line (codes "welcome")
 reply_text (reply.Malformed kind size) = line (codes "malformed " ++ decimal kind ++ codes " " ++ decimal size)
 reply_text reply.NoMemory = line (codes "server out of memory")
 

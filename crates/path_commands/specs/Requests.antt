@@ -14,7 +14,7 @@ use Rattle.path_commands.specs.declared.commands.Verb.{Verb}
 use Rattle.path_commands.specs.declared.commands.Verb.TheVariants as verb
 use Rattle.path_commands.specs.declared.request.BuildOptions.{BuildOptions}
 use Rattle.path_commands.specs.declared.request.Request.{Request}
-use Rattle.path_commands.specs.declared.request.Request.TheVariants.{Path, Check, Near, NearPath, Scen, Made, Replay, Talk, Serve, Ask}
+use Rattle.path_commands.specs.declared.request.Request.TheVariants.{Path, Check, Near, NearPath, Scen, Made, Replay, Talk, Serve, Ask, Export, Verify}
 use Rattle.path_commands.specs.declared.request.Sides.{Sides}
 use Rattle.path_commands.specs.declared.words.TheConstants.{STANDARD_ROOM}
 use Rattle.path_commands.specs.declared.words.NumberKind.{NumberKind}
@@ -22,14 +22,15 @@ use Rattle.path_commands.specs.declared.words.NumberKind.TheVariants as number
 use Rattle.path_commands.specs.Commands.{app_for, verb_of}
 use Rattle.path_commands.specs.Words.{coordinate_in, is_taken, number_as, order_in, path_in, room_in}
 use Rattle.path_commands.specs.Words.{texts_of, value_of, values_of, workers_in}
-use Rattle.path_commands.specs.SaidRequests.{Said, request_said, said_of}
+use Rattle.path_commands.specs.SaidRequests.{Said, request_said, said_by}
 
 -- What is asked for, each with how a database is built: a best path between two cells of a map;
 -- whether a file is a map; how many runs a map has where compass moves need none; a best path by such
 -- moves; what a map says of a file of scenarios; the map that is made of two sides
 -- and a seed; what a file of events prints on a board that begins with a map; a session on such
 -- a board, with its room; sessions at so many doors of a port on such a board; and, without a
--- database, one request to the server at a port.
+-- database, one request to the server at a port; the file of the database of a map; and, without one that
+-- is built, whether a file is that of a database.
 pub data Asked : Type 0 where
   path : Text → Cell → Cell → BuildOptions → Asked
   check : Text → BuildOptions → Asked
@@ -41,6 +42,8 @@ pub data Asked : Type 0 where
   talk : Text → ℕ → BuildOptions → Asked
   serve : Text → DoorsAsked → ℕ → BuildOptions → Asked
   ask : ℕ → Said → Asked
+  export : Text → BuildOptions → Asked
+  verify : Text → Asked
 
 -- a request of the program, with the bytes of its texts
 abbrev pub asked : Request → Asked
@@ -53,7 +56,9 @@ asked (Made sides seed build) = made sides seed build
 asked (Replay map events build) = replay map.now events.now build
 asked (Talk map room build) = talk map.now room build
 asked (Serve map doors room build) = serve map.now doors room build
-asked (Ask port request) = ask port (said_of request)
+asked (Ask port asking) = ask port (said_by asking)
+asked (Export map build) = export map.now build
+asked (Verify db) = verify db.now
 
 -- the command that asks for it
 abbrev pub verb_asked : Asked → Verb
@@ -67,6 +72,8 @@ verb_asked (replay map events build) = verb.Replay
 verb_asked (talk map room build) = verb.Talk
 verb_asked (serve map doors room build) = verb.Serve
 verb_asked (ask port said) = verb.Ask
+verb_asked (export map build) = verb.Export
+verb_asked (verify db) = verb.Verify
 
 -- how the first version of the map is built; as without options where there is none
 abbrev pub build_of : Asked → BuildOptions
@@ -80,6 +87,8 @@ build_of (replay map events build) = build
 build_of (talk map room build) = build
 build_of (serve map doors room build) = build
 build_of (ask port said) = record { order = Rows; workers = 1 }
+build_of (export map build) = build
+build_of (verify db) = record { order = Rows; workers = 1 }
 
 -- so many doors a port may have
 pub record AreDoors (count : ℕ) : Type 0 where
@@ -264,6 +273,22 @@ said_at lists id = option_and_then request_said (lists id)
 unfoldable pub ask_by : Values → Lists → Option Asked
 ask_by values lists = ask_from (number_at number.Port values (codes "PORT")) (said_at lists (codes "WORDS"))
 
+abbrev pub export_from : Option Text → Option BuildOptions → Option Asked
+export_from (Some map) (Some build) = Some (export map build)
+export_from _ _ = None
+
+-- `export MAP`
+unfoldable pub export_by : Values → Option Asked
+export_by values = export_from (path_at values (codes "MAP")) (build_at values)
+
+abbrev pub verify_from : Option Text → Option Asked
+verify_from (Some db) = Some (verify db)
+verify_from None = None
+
+-- `verify DB`
+unfoldable pub verify_by : Values → Option Asked
+verify_by values = verify_from (path_at values (codes "DB"))
+
 -- what each command makes of its values
 abbrev pub asked_by : Verb → Values → Lists → Option Asked
 asked_by verb.Path values lists = path_by values
@@ -276,6 +301,8 @@ asked_by verb.Replay values lists = replay_by values
 asked_by verb.Talk values lists = talk_by values
 asked_by verb.Serve values lists = serve_by values
 asked_by verb.Ask values lists = ask_by values lists
+asked_by verb.Export values lists = export_by values
+asked_by verb.Verify values lists = verify_by values
 
 -- ---- the command line
 

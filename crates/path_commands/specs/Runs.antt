@@ -19,6 +19,10 @@ use Rattle.scen_read.specs.ScenText.{scenarios_of}
 use Rattle.scen_run.specs.declared.made.Made.TheVariants.{Map as Whole, TooMany}
 use Rattle.scen_run.specs.Made.{IsMade, formula_map}
 use Rattle.scen_run.specs.Results.{HaveLengths}
+use Rattle.path_file.specs.declared.TheConstants.{MAX_DB}
+use Rattle.path_file.specs.declared.fault.DbFault.{DbFault}
+use Rattle.path_file.specs.Files.{HasFile, file_of}
+use Rattle.path_file.specs.Faults.{IsFirstDbFault}
 use Rattle.path_replay.specs.declared.event.Event.{Event}
 use Rattle.path_replay.specs.declared.TheConstants.{MAX_EVENTS_BYTES}
 use Rattle.path_replay.specs.Events.{AreEventsOf, HavePasses, text_said}
@@ -31,8 +35,8 @@ use Rattle.path_commands.specs.declared.status.Status.TheVariants as status
 use Rattle.path_commands.specs.declared.task.Task.{Task}
 use Rattle.path_commands.specs.declared.task.Task.TheVariants as task
 use Rattle.path_commands.specs.Words.{texts_of}
-use Rattle.path_commands.specs.Requests.{Asked, path, check, near, nearpath, scen, made, replay, talk, serve, ask, build_of, request_of}
-use Rattle.path_commands.specs.Texts.{check_text}
+use Rattle.path_commands.specs.Requests.{Asked, path, check, near, nearpath, scen, made, replay, talk, serve, ask, export, verify, build_of, request_of}
+use Rattle.path_commands.specs.Texts.{check_text, version_text}
 use Rattle.path_commands.specs.Queries.{TellsAnswer, TellsReplay, TellsResults, TellsTotals}
 use Rattle.path_commands.specs.NearQueries.{TellsNear, TellsNearAnswer}
 use Rattle.path_commands.specs.Statuses.{status_text}
@@ -117,7 +121,7 @@ HasFailed file = Rose file.before file.after
 abbrev pub map_made : Sides → ℕ → Map
 map_made sides seed = formula_map sides.width sides.height seed
 
--- where each command has its map from; `ask` has none
+-- where each command has its map from; `ask` and `verify` have none
 abbrev pub GivesMap : (Text → RunFile) → Asked → Map → Type 0
 GivesMap file (path name start goal build) map = HoldsMap (file name) map
 GivesMap file (check name build) map = HoldsMap (file name) map
@@ -129,6 +133,8 @@ GivesMap file (replay name events build) map = HoldsMap (file name) map
 GivesMap file (talk name room build) map = HoldsMap (file name) map
 GivesMap file (serve name doors room build) map = HoldsMap (file name) map
 GivesMap file (ask port said) map = ⊥
+GivesMap file (export name build) map = HoldsMap (file name) map
+GivesMap file (verify name) map = ⊥
 
 -- the task is that of the scenarios in a file
 pub record GivesScenarios (file : RunFile) (asked : Task) : Type 0 where
@@ -138,12 +144,12 @@ pub record GivesScenarios (file : RunFile) (asked : Task) : Type 0 where
 
 -- the task is that of the events in a file
 pub record GivesEvents (file : RunFile) (asked : Task) : Type 0 where
-  pub events : Vec Event Global
+  pub events : List Event
   pub is : asked ≡ task.Replay events
-  pub holds : HoldsEvents file events.items
+  pub holds : HoldsEvents file events
 
 -- what each command does with the first version of its map, and where it has that from; sessions are
--- no such task
+-- no such task, and the check of a database is none
 abbrev pub GivesTask : (Text → RunFile) → Asked → Task → Type 0
 GivesTask file (path name start goal build) asked = asked ≡ task.Path start goal
 GivesTask file (check name build) asked = asked ≡ task.Check
@@ -155,6 +161,8 @@ GivesTask file (replay name events build) asked = GivesEvents (file events) aske
 GivesTask file (talk name room build) asked = ⊥
 GivesTask file (serve name doors room build) asked = ⊥
 GivesTask file (ask port said) asked = ⊥
+GivesTask file (export name build) asked = asked ≡ task.Export
+GivesTask file (verify name) asked = ⊥
 
 -- the first version of a map in an order: the one that comes after no edit
 pub record IsFirstVersion (map : Map) (order : OrderKind) (version : Versioned) : Type 0 where
@@ -182,7 +190,8 @@ IsAnswerOn version task.Near text = TellsNear version text
 IsAnswerOn version (task.NearPath start goal) text = TellsNearAnswer version start goal text
 IsAnswerOn version (task.Scen lines) text = TellsResults version lines.items text
 IsAnswerOn version (task.Made seed) text = TellsTotals version seed text
-IsAnswerOn version (task.Replay events) text = TellsReplay version events.items text
+IsAnswerOn version (task.Replay events) text = TellsReplay version events text
+IsAnswerOn version task.Export text = text ≡ file_of version
 
 -- the text tells what the first version of a map in that order answers, of which there is just one
 abbrev pub TellsFirstAnswer : Map → OrderKind → Cell → Cell → List ℕ → Type 0
@@ -196,11 +205,33 @@ pub record IsFirstAnswer (map : Map) (order : OrderKind) (task : Task) (text : L
   pub answers : IsAnswerOn version task text
 
 -- the words ask for something of a map, and the text is what its first version answers
-pub record IsAnswerTo (run : Run) (text : List ℕ) : Type 0 where
+pub record AnswersOfMap (run : Run) (text : List ℕ) : Type 0 where
   pub task : Task
   pub version : Versioned
   pub of : AsksOf run task version
   pub answers : IsAnswerOn version task text
+
+-- told bytes are the file of this version, and not more than there may be
+abbrev pub HoldsVersion : RunFile → Versioned → Type 0
+HoldsVersion file version =
+    HasFile version × IfSome file.held (λ bytes. (length bytes ≤ MAX_DB) × (bytes ≡ file_of version))
+
+-- told bytes are not too many, and this is the first fault that keeps them from being the file of a version
+abbrev pub HoldsNoVersion : RunFile → DbFault → Type 0
+HoldsNoVersion file fault =
+    IfSome file.held (λ bytes. (length bytes ≤ MAX_DB) × IsFirstDbFault bytes fault)
+
+-- the words ask whether a file is that of a database, it is that of a version, and the text tells its size
+pub record TellsVersion (run : Run) (text : List ℕ) : Type 0 where
+  pub name : Text
+  pub asks : Asks run (verify name)
+  pub version : Versioned
+  pub holds : HoldsVersion (run.file name) version
+  pub told : text ≡ version_text version
+
+-- the text answers what the words ask for
+abbrev pub IsAnswerTo : Run → List ℕ → Type 0
+IsAnswerTo run text = AnswersOfMap run text ⊎ TellsVersion run text
 
 -- ---- the causes of the other statuses. Want of memory alone is free.
 
@@ -232,6 +263,11 @@ abbrev pub IsEventsFileCause : RunFile → Status → Type 0
 IsEventsFileCause file (status.Events line) = HoldsNoEvents file line
 IsEventsFileCause file cause = IsFileCause file MAX_EVENTS_BYTES cause
 
+-- why a file gives no version
+abbrev pub IsDbFileCause : RunFile → Status → Type 0
+IsDbFileCause file (status.Db fault) = HoldsNoVersion file fault
+IsDbFileCause file cause = IsFileCause file MAX_DB cause
+
 -- why what was asked for has no map
 abbrev pub GivesNoMap : (Text → RunFile) → Asked → Status → Type 0
 GivesNoMap file (path name start goal build) cause = IsMapFileCause (file name) cause
@@ -244,6 +280,8 @@ GivesNoMap file (replay name events build) cause = IsMapFileCause (file name) ca
 GivesNoMap file (talk name room build) cause = IsMapFileCause (file name) cause
 GivesNoMap file (serve name doors room build) cause = IsMapFileCause (file name) cause
 GivesNoMap file (ask port said) cause = ⊥
+GivesNoMap file (export name build) cause = IsMapFileCause (file name) cause
+GivesNoMap file (verify name) cause = ⊥
 
 -- why what was asked for has a map, and cannot be done for want of another file
 abbrev pub GivesNoTask : (Text → RunFile) → Asked → Status → Type 0
@@ -288,9 +326,15 @@ pub record FailsByTask (run : Run) (cause : Status) : Type 0 where
   pub gives : GivesMap run.file asked map
   pub fails : GivesNoTask run.file asked cause
 
--- one of the two files
+-- the words ask whether a file is that of a database, and it gives no version
+pub record FailsByDb (run : Run) (cause : Status) : Type 0 where
+  pub name : Text
+  pub asks : Asks run (verify name)
+  pub fails : IsDbFileCause (run.file name) cause
+
+-- one of the files
 abbrev pub FailsByFile : Run → Status → Type 0
-FailsByFile run cause = FailsByMap run cause ⊎ FailsByTask run cause
+FailsByFile run cause = FailsByMap run cause ⊎ (FailsByTask run cause ⊎ FailsByDb run cause)
 
 -- the words ask for something of a map, and its first version has no answer
 pub record FailsByVersion (run : Run) (cause : Status) : Type 0 where
@@ -313,14 +357,23 @@ IsCause run (status.TooLong limit) = FailsByFile run (status.TooLong limit)
 IsCause run (status.Events line) = FailsByTask run (status.Events line)
 IsCause run (status.Broken fault) = ⊥
 IsCause run status.BadAnswer = ⊥
+IsCause run (status.Db fault) = FailsByDb run (status.Db fault)
 
 -- ---- what a task needs
 
 -- scenarios have lengths that may be compared, and events have passes of a replay
 abbrev pub MayBeDone : Task → Type 0
 MayBeDone (task.Scen lines) = HaveLengths lines.items
-MayBeDone (task.Replay events) = HavePasses events.items
+MayBeDone (task.Replay events) = HavePasses events
 MayBeDone _ = Unit {0}
+
+-- the task is done by a version alone: a path needs less, and a near version has more
+abbrev pub NeedsVersion : Task → Type 0
+NeedsVersion (task.Path start goal) = ⊥
+NeedsVersion task.Near = ⊥
+NeedsVersion (task.NearPath start goal) = ⊥
+NeedsVersion task.Export = ⊥
+NeedsVersion _ = Unit {0}
 
 -- ---- how a run ends
 

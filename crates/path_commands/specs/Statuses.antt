@@ -3,6 +3,9 @@ use Rattle.std.specs.Prelude.{ℕ, List, [], ◌++◌, codes}
 use Rattle.std.specs.Fmt.{decimal}
 use Rattle.map_read.specs.Faults.{fault_text}
 use Rattle.scen_read.specs.Faults.{fault_text as scenario_fault_text}
+use Rattle.path_file.specs.declared.fault.DbError.{DbError}
+use Rattle.path_file.specs.declared.fault.DbError.TheVariants as db
+use Rattle.path_file.specs.Texts.{fault_text as db_fault_text}
 use Rattle.path_client.specs.declared.fault.ClientFault.{ClientFault}
 use Rattle.path_client.specs.declared.fault.ClientFault.TheVariants as client
 use Rattle.session.specs.declared.sessions.SessionFault.{SessionFault}
@@ -20,7 +23,7 @@ use Rattle.path_commands.specs.Texts.{line}
 -- output fails, and where a session broke off
 abbrev pub status_words : Status → List ℕ
 status_words status.Done = []
-status_words status.Usage = codes "usage: path check scen made replay talk serve ask near nearpath"
+status_words status.Usage = codes "usage: path check scen made replay talk serve ask export verify near nearpath"
 status_words (status.Map fault) = codes "map refused: " ++ fault_text fault
 status_words (status.Scen fault) = codes "scenario refused: " ++ scenario_fault_text fault
 status_words (status.Query refusal) = refusal_text refusal
@@ -31,6 +34,7 @@ status_words (status.TooLong limit) = codes "file too long: " ++ decimal limit
 status_words (status.Events line) = codes "events refused: line " ++ decimal line
 status_words (status.Broken fault) = []
 status_words status.BadAnswer = codes "bad answer"
+status_words (status.Db fault) = codes "database refused: " ++ db_fault_text fault
 
 -- the same as a line
 abbrev pub status_text : Status → List ℕ
@@ -50,6 +54,7 @@ status_code (status.TooLong limit) = 8
 status_code (status.Broken fault) = 9
 status_code status.BadAnswer = 10
 status_code (status.Events line) = 11
+status_code (status.Db fault) = 12
 
 -- the status of words that ask for nothing
 abbrev pub status_of : RequestError → Status
@@ -60,6 +65,11 @@ status_of error.NoMemory = status.NoMemory
 abbrev pub status_of_walk : WalkError → Status
 status_of_walk (walk.Refused why) = status.Query why
 status_of_walk walk.NoMemory = status.NoMemory
+
+-- the status where a file is not that of a database
+abbrev pub status_of_db : DbError → Status
+status_of_db (db.Fault fault) = status.Db fault
+status_of_db db.NoMemory = status.NoMemory
 
 -- the status of a session that ended in a fault
 abbrev pub status_for : SessionFault → Status
@@ -72,6 +82,7 @@ status_for fault.WriteFault = status.WriteFault
 abbrev pub status_heard : ClientFault → Status
 status_heard client.Malformed = status.BadAnswer
 status_heard (client.Closed have) = status.BadAnswer
+status_heard (client.OldServer kind) = status.BadAnswer
 status_heard client.ReadFault = status.ReadFault
 status_heard client.WriteFault = status.WriteFault
 status_heard client.NoMemory = status.NoMemory

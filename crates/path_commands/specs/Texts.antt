@@ -64,3 +64,7 @@ totals_text totals =
 -- what `made` prints of a version and of its answers to the queries
 abbrev pub made_text : Versioned → QueryTotals → List ℕ
 made_text version totals = size_text version ++ totals_text totals
+
+-- what `verify` prints of a version: how many edits it comes after, and its size
+abbrev pub version_text : Versioned → List ℕ
+version_text version = line (codes "version " ++ decimal version.prefix) ++ size_text version

@@ -56,10 +56,10 @@ fn hear<H: House>(alloc: Global, words: &[String], house: &mut H) -> Result<Stri
     ensures door_faults { H.door_faults house.new ≡ H.door_faults house.old }
 {
     let request = read_request(alloc, words)?;
-    let Request::Ask { port, request } = request else {
+    let Request::Ask { port, asking } = request else {
         unreachable!()
     };
-    ask_at(alloc, house, port, request)
+    ask_at(alloc, house, port, asking.request())
 }
 
 /// Asks the server at the port, and gives the text of its answer. The link is hung up by then.

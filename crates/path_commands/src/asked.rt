@@ -1,27 +1,64 @@
-//! The request that words spell.
+//! What words ask of a server.
 
 ghost use Rattle.std.specs.Prelude.{◌≡◌, ◌∷◌, [], Bool, Option, None, Some, MatchOption, map, option_map};
-ghost use Rattle.path_replay.specs.Events.{first_passable};
-ghost use Rattle.path_commands.specs.SaidRequests.{change_said, first_cell, first_coordinate, named_said, query_said};
-ghost use Rattle.path_commands.specs.SaidRequests.{request_said, said_of, spelled};
+ghost use Rattle.path_commands.specs.SaidRequests.{change_said, first_cell, first_coordinate, first_passable, named_said, query_said};
+ghost use Rattle.path_commands.specs.SaidRequests.{request_said, said_by, said_of, spelled};
 
 use crate::words::coordinate;
 use edit_log::{CellChange, Edit};
-use moves::Cell;
+use moves::{Cell, Terrain};
 use query_proto::Request;
 
-/// The request that the words spell; `None` exactly where they spell none.
-#[tactic(auto, unfolding(crate::specs::SaidRequests::request_said))]
-pub fn request_in(words: &[&str]) -> Option<Request>
-    ensures { option_map said_of result ≡ request_said (spelled words.now) }
-{
-    let (name, words) = cut_word(words)?;
-    request_named(name, words)
+/// What words can ask of a server: a request of the first protocol.
+#[derive(Clone, Copy, Debug, PartialEq, Eq)]
+pub enum Asking {
+    /// A best path between two cells.
+    Query {
+        /// The cell that the path begins with.
+        start: Cell,
+        /// The cell that the path ends with.
+        goal: Cell,
+    },
+    /// A change of one cell.
+    Change(CellChange),
+    /// The building and publication of a version after all accepted edits.
+    Build,
+    /// The state of the board.
+    Status,
+    /// The end of the session.
+    Bye,
+    /// The end of the server.
+    Stop,
 }
 
-/// The request of that name, with the words after it.
-fn request_named(name: &str, words: &[&str]) -> Option<Request>
-    ensures { option_map said_of result ≡ named_said name.now (spelled words.now) }
+impl Asking {
+    /// The request that asks for it.
+    pub fn request(self) -> Request
+        ensures { said_of result ≡ said_by self }
+    {
+        match self {
+            Asking::Query { start, goal } => Request::Query { start, goal },
+            Asking::Change(change) => Request::Change(Edit::one(change)),
+            Asking::Build => Request::Build,
+            Asking::Status => Request::Status,
+            Asking::Bye => Request::Bye,
+            Asking::Stop => Request::Stop,
+        }
+    }
+}
+
+/// What the words ask for; `None` exactly where they ask for nothing.
+#[tactic(auto, unfolding(crate::specs::SaidRequests::request_said))]
+pub fn asking_in(words: &[&str]) -> Option<Asking>
+    ensures { option_map said_by result ≡ request_said (spelled words.now) }
+{
+    let (name, words) = cut_word(words)?;
+    asking_named(name, words)
+}
+
+/// What is asked for by that name, with the words after it.
+fn asking_named(name: &str, words: &[&str]) -> Option<Asking>
+    ensures { option_map said_by result ≡ named_said name.now (spelled words.now) }
 {
     if name == "query" {
         return query_in(words);
@@ -33,44 +70,45 @@ fn request_named(name: &str, words: &[&str]) -> Option<Request>
         return None;
     }
     if name == "build" {
-        return Some(Request::Build);
+        return Some(Asking::Build);
     }
     if name == "status" {
-        return Some(Request::Status);
+        return Some(Asking::Status);
     }
     if name == "bye" {
-        return Some(Request::Bye);
+        return Some(Asking::Bye);
     }
     if name == "stop" {
-        return Some(Request::Stop);
+        return Some(Asking::Stop);
     }
     None
 }
 
 /// The query that the words after `query` spell.
 #[tactic(auto, unfolding(crate::specs::SaidRequests::query_said))]
-fn query_in(words: &[&str]) -> Option<Request>
-    ensures { option_map said_of result ≡ query_said (spelled words.now) }
+fn query_in(words: &[&str]) -> Option<Asking>
+    ensures { option_map said_by result ≡ query_said (spelled words.now) }
 {
     let (start, words) = first_cell(words)?;
     let (goal, words) = first_cell(words)?;
     if !words.is_empty() {
         return None;
     }
-    Some(Request::Query { start, goal })
+    Some(Asking::Query { start, goal })
 }
 
 /// The change that the words after `change` spell.
 #[tactic(auto, unfolding(crate::specs::SaidRequests::change_said))]
-fn change_in(words: &[&str]) -> Option<Request>
-    ensures { option_map said_of result ≡ change_said (spelled words.now) }
+fn change_in(words: &[&str]) -> Option<Asking>
+    ensures { option_map said_by result ≡ change_said (spelled words.now) }
 {
     let (cell, words) = first_cell(words)?;
     let (passable, words) = first_passable(words)?;
     if !words.is_empty() {
         return None;
     }
-    Some(Request::Change(Edit::one(CellChange { cell, passable })))
+    let terrain = Terrain::land_if(passable);
+    Some(Asking::Change(CellChange { cell, terrain }))
 }
 
 /// The cell in the first two words, its column before its row, and the words after it.
@@ -94,7 +132,7 @@ fn first_coordinate<'w, 'a>(words: &'w [&'a str]) -> Option<(u16, &'w [&'a str])
     Some((number, words))
 }
 
-/// Whether a cell is passable, in the first word, and the words after it.
+/// Whether a cell is land, in the first word, and the words after it.
 fn first_passable<'w, 'a>(words: &'w [&'a str]) -> Option<(bool, &'w [&'a str])>
     ensures { MatchOption result (first_passable (spelled words.now) ≡ None)
         (λ first. first_passable (spelled words.now) ≡ Some (first.0, spelled first.1.now)) }

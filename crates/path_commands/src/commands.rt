@@ -35,6 +35,10 @@ pub enum Verb {
     Serve,
     /// One request to a server, and its answer.
     Ask,
+    /// The file of the database of a map.
+    Export,
+    /// Whether a file is that of a database.
+    Verify,
 }
 
 /// An argument or an option of a command, and what its value may be.
@@ -118,9 +122,11 @@ static ASK_FIELDS: [Field; 2] = [
     Field::Several("WORDS"),
 ];
 
+static VERIFY_FIELDS: [Field; 1] = [Field::Argument("DB", Value::File)];
+
 impl Verb {
     /// All commands.
-    pub const ALL: [Verb; 10] = [
+    pub const ALL: [Verb; 12] = [
         Verb::Path,
         Verb::Check,
         Verb::Scen,
@@ -129,6 +135,8 @@ impl Verb {
         Verb::Talk,
         Verb::Serve,
         Verb::Ask,
+        Verb::Export,
+        Verb::Verify,
         Verb::Near,
         Verb::NearPath,
     ];
@@ -148,6 +156,8 @@ impl Verb {
             Verb::Talk => "talk",
             Verb::Serve => "serve",
             Verb::Ask => "ask",
+            Verb::Export => "export",
+            Verb::Verify => "verify",
         }
     }
 
@@ -158,7 +168,7 @@ impl Verb {
     {
         match self {
             Verb::Path => PATH_FIELDS.as_slice(),
-            Verb::Check | Verb::Near => CHECK_FIELDS.as_slice(),
+            Verb::Check | Verb::Near | Verb::Export => CHECK_FIELDS.as_slice(),
             Verb::NearPath => PATH_FIELDS.as_slice(),
             Verb::Scen => SCEN_FIELDS.as_slice(),
             Verb::Made => MADE_FIELDS.as_slice(),
@@ -166,6 +176,7 @@ impl Verb {
             Verb::Talk => TALK_FIELDS.as_slice(),
             Verb::Serve => SERVE_FIELDS.as_slice(),
             Verb::Ask => ASK_FIELDS.as_slice(),
+            Verb::Verify => VERIFY_FIELDS.as_slice(),
         }
     }
 
@@ -183,6 +194,9 @@ impl Verb {
             Verb::Talk => "answers frames of requests on standard input until it ends",
             Verb::Serve => "answers the same requests over TCP at a port of this machine",
             Verb::Ask => "prints what a server answers to one request",
+            Verb::Export => "puts the file of the map's database on standard output",
+            Verb::Verify =>
+                "checks such a file without a search: each path that it spells is optimal",
             Verb::Near =>
                 "prints what check prints, and how many runs are left where the compass is right",
             Verb::NearPath => "prints an optimal path that goes by the compass where that is right",
@@ -200,6 +214,8 @@ impl Verb {
             Verb::Talk => "path_server talk maps/tutorial.map --room 1000",
             Verb::Serve => "path_server serve maps/tutorial.map 4000 8",
             Verb::Ask => "path_server ask 4000 change 20 9 0",
+            Verb::Export => "path_server export maps/tutorial.map > tutorial.db",
+            Verb::Verify => "path_server verify tutorial.db",
             Verb::Near => "path_server near maps/tutorial.map",
             Verb::NearPath => "path_server nearpath maps/tutorial.map 2 2 37 17",
         }
@@ -242,6 +258,7 @@ impl Field {
         let (Field::Argument(id, _) | Field::Setting(id, _) | Field::Several(id)) = self;
         match id {
             "MAP" => "the map, in the format of MovingAI",
+            "DB" => "the file of a database, as export puts it",
             "SX" => "the column of the start, from the left",
             "SY" => "the row of the start, from above",
             "GX" => "the column of the goal",

@@ -1,6 +1,7 @@
-//! The first version of a map, from which its paths are read, and the board that begins with it.
+//! The first version of a map, from which its paths are read, its near version, and the board that begins with it.
 ghost use Rattle.std.specs.Prelude.{◌≡◌, ◌≤◌, IfErr, IfOk};
 ghost use Rattle.moves.specs.Maps.{IsSearchable};
+ghost use Rattle.near_rows.specs.NearVersions.{IsNearVersion};
 ghost use Rattle.path_core.specs.Boards.{new_board};
 ghost use Rattle.path_core.specs.declared.TheConstants.{MAX_ENTRIES};
 ghost use Rattle.path_commands.specs.Runs.{IsFirstVersion, IsMapFileCause, file_over};
@@ -11,8 +12,9 @@ use crate::map_file::read_grid;
 use crate::means::Means;
 use crate::request::BuildOptions;
 use crate::status::Status;
-use build_pool::Gate;
+use crate::watch::Watch;
 use moves::Grid;
+use near_rows::NearVersion;
 use path_core::Board;
 use std::alloc::{AllocError, Global};
 use std::sync::Arc;
@@ -23,7 +25,7 @@ use wire::{Bell, Files};
 
 /// The version of a map that comes after no edit, built as the options say. It is the same one for
 /// any number of threads.
-pub fn first_version<R: Threads + Sync, B: Bell, G: Gate>(
+pub fn first_version<R: Threads + Sync, B: Bell, G: Watch>(
     means: &Means<R, B, G>,
     grid: Grid,
     options: BuildOptions,
@@ -33,12 +35,40 @@ pub fn first_version<R: Threads + Sync, B: Bell, G: Gate>(
     ensures { IfOk result (IsFirstVersion grid options.order) }
 {
     let plan = plan(means.alloc, None, grid, 0, options.order)?;
-    let (version, _) = build(means.rt, means.alloc, plan, options.workers, means.gate)?;
+    means.gate.begin(plan.rows());
+    let built = build(means.rt, means.alloc, plan, options.workers, means.gate);
+    means.gate.end();
+    let (version, _) = built?;
     Ok(version)
 }
 
+/// The near version of that version, both built in one go as the options say. It is the same one for
+/// any number of threads.
+pub fn first_near<R: Threads + Sync, B: Bell, G: Watch>(
+    means: &Means<R, B, G>,
+    grid: Grid,
+    options: BuildOptions,
+) -> Result<NearVersion, AllocError>
+    requires small { IsSearchable grid }
+    requires workers { AreWorkers options.workers }
+    ensures first { IfOk result (λ near. IsFirstVersion grid options.order near.version) }
+    ensures near { IfOk result (λ near. IsNearVersion near) }
+{
+    means.gate.begin(grid.passable_count());
+    let near = NearVersion::build(
+        means.rt,
+        means.alloc,
+        grid,
+        options.order,
+        options.workers,
+        means.gate,
+    );
+    means.gate.end();
+    near
+}
+
 /// The board that begins with the map in the file of that name, with this room.
-pub fn first_board<R: Threads + Sync, F: Files, B: Bell, G: Gate>(
+pub fn first_board<R: Threads + Sync, F: Files, B: Bell, G: Watch>(
     means: &Means<R, B, G>,
     files: &mut F,
     name: &str,

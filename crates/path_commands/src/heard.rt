@@ -98,6 +98,7 @@ fn push_reply(text: &mut String, reply: Reply) -> Result<(), AllocError>
             runs,
         } => push_board(text, version, accepted, cells, comps, runs),
         Reply::Done => text.push_str("done\n"),
+        Reply::Welcome => text.push_str("welcome\n"),
         Reply::Malformed { kind, length } => write!(text, "malformed {kind} {length}\n"),
         Reply::NoMemory => text.push_str("server out of memory\n"),
     }

@@ -10,26 +10,29 @@ use crate::pages::{
     asks_for_help, asks_for_version, nearest, push_page, push_page_of, push_version,
 };
 use crate::request::{Request, RequestError, first_verb, read_request};
+use crate::seen::Seen;
 use crate::status::Status;
 use clap::ArgMatches;
-use map_read::{MAX_MAP_BYTES, MapFault};
+use map_read::MapFault;
 use moves::{Cell, MAX_CELLS, MAX_PASSABLE, MAX_SIDE};
-use query_proto::MAX_REQUEST;
+use path_file::DbFault;
+use query_proto::{Proto, frame_limit};
 use scen_read::ScenFault;
 use session::SessionFault;
 use std::alloc::{AllocError, Global};
 use std::fmt::Write;
+use std::io;
 use std::io::ErrorKind;
 use versions::{End, QueryRefusal};
 use wire::DoorsAsked;
 
-/// What to tell of a run over these words that ended so; `reason` is why the last file was not
-/// read. The text is empty where the work was done, and ends with a line feed where it is not.
+/// What to tell of a run over these words that ended so, by what was seen outside. The text is empty
+/// where the work was done, and ends with a line feed where it is not.
 pub fn advice(
     alloc: Global,
     words: &[String],
     status: &Status,
-    reason: Option<ErrorKind>,
+    seen: Seen,
 ) -> Result<String, AllocError>
     ensures { status.now ≡ Status.Done → IfOk result (λ text. string_bytes text ≡ []) }
 {
@@ -43,7 +46,7 @@ pub fn advice(
         }
         (Status::WriteFault, _) => text.push_str("path_server: the output failed\n")?,
         (Status::Broken(fault), _) => push_broken(&mut text, *fault)?,
-        (_, Ok(request)) => push_on_file(&mut text, request, status, reason)?,
+        (_, Ok(request)) => push_on_file(&mut text, request, status, seen)?,
         (_, Err(_)) => {}
     }
     Ok(text)
@@ -66,7 +69,11 @@ fn push_broken(text: &mut String, fault: SessionFault) -> Result<(), AllocError>
         }
         SessionFault::TooLong { length } => {
             text.push_str("path_server talk: a frame of ")?;
-            write!(text, "{length} bytes is longer than {MAX_REQUEST}\n")
+            let (short, long) = (frame_limit(Proto::One), frame_limit(Proto::Two));
+            write!(
+                text,
+                "{length} bytes is longer than {short}, and {long} behind a Hello\n"
+            )
         }
         SessionFault::ReadFault | SessionFault::WriteFault => Ok(()),
     }
@@ -77,14 +84,14 @@ fn push_on_file(
     text: &mut String,
     request: Request,
     status: &Status,
-    reason: Option<ErrorKind>,
+    seen: Seen,
 ) -> Result<(), AllocError> {
     match (status, request) {
-        (Status::ReadFault, Request::Talk { .. }) if reason.is_none() => {
+        (Status::ReadFault, Request::Talk { .. }) if seen.reason.is_none() => {
             text.push_str("path_server talk: the input failed\n")
         }
-        (Status::ReadFault, Request::Serve { doors, .. }) if reason.is_none() => {
-            push_door_fault(text, doors)
+        (Status::ReadFault, Request::Serve { doors, .. }) if seen.reason.is_none() => {
+            push_door_fault(text, doors, seen.refusal)
         }
         (Status::ReadFault, Request::Ask { port, .. }) => {
             write!(
@@ -93,22 +100,21 @@ fn push_on_file(
             )
         }
         (Status::BadAnswer, Request::Ask { port, .. }) => push_bad_answer(text, port),
-        (Status::ReadFault, _) => push_read_fault(text, request, reason),
-        (Status::TooLong { limit }, _) => push_too_long(text, request, *limit),
-        (Status::Map(fault), Request::Made { .. }) => push_made_fault(text, *fault),
-        (Status::Map(fault), Request::Path { map, .. }) => push_map_fault(text, map, *fault),
-        (Status::Map(fault), Request::Check { map, .. }) => push_map_fault(text, map, *fault),
-        (Status::Map(fault), Request::Near { map, .. }) => push_map_fault(text, map, *fault),
-        (Status::Map(fault), Request::NearPath { map, .. }) => push_map_fault(text, map, *fault),
-        (Status::Map(fault), Request::Scen { map, .. }) => push_map_fault(text, map, *fault),
-        (Status::Map(fault), Request::Replay { map, .. }) => push_map_fault(text, map, *fault),
-        (Status::Map(fault), Request::Talk { map, .. }) => push_map_fault(text, map, *fault),
-        (Status::Map(fault), Request::Serve { map, .. }) => push_map_fault(text, map, *fault),
-        (Status::Scen(fault), Request::Scen { scenarios, .. }) => {
-            push_scenario_fault(text, scenarios, *fault)
+        (Status::ReadFault, _) => {
+            push_read_fault(text, file_at(request, seen.files.files), seen.reason)
         }
+        (Status::TooLong { limit }, _) => {
+            let file = file_at(request, seen.files.files);
+            write!(text, "{file}: expected at most {limit} bytes\n")
+        }
+        (Status::Map(fault), Request::Made { .. }) => push_made_fault(text, *fault),
+        (Status::Map(fault), _) => push_map_fault(text, file_at(request, 0), *fault, seen),
+        (Status::Scen(fault), Request::Scen { scenarios, .. }) => {
+            push_scenario_fault(text, scenarios, *fault, seen)
+        }
+        (Status::Db(fault), Request::Verify { db }) => push_db_fault(text, db, *fault, seen),
         (Status::Events { line }, Request::Replay { events, .. }) => {
-            push_events_fault(text, events, *line)
+            push_events_fault(text, events, *line, seen)
         }
         (
             Status::Query(refusal),
@@ -132,14 +138,23 @@ fn push_on_file(
     }
 }
 
-/// What is wrong with the doors of a port.
-fn push_door_fault(text: &mut String, doors: DoorsAsked) -> Result<(), AllocError> {
-    let port = doors.port;
-    text.push_str("path_server serve: port ")?;
-    write!(
-        text,
-        "{port} is taken or may not be opened, or a door of it failed\n"
-    )
+/// What is wrong with the doors of a port, in the system's words where it refused the port.
+fn push_door_fault(
+    text: &mut String,
+    doors: DoorsAsked,
+    refusal: Option<io::Error>,
+) -> Result<(), AllocError> {
+    let DoorsAsked { port, count } = doors;
+    let Some(error) = refusal else {
+        return write!(text, "path_server serve: a door of port {port} failed\n");
+    };
+    write!(text, "path_server serve: port {port} ")?;
+    match error.kind() {
+        ErrorKind::AddrInUse => text.push_str("is taken")?,
+        ErrorKind::PermissionDenied => text.push_str("is forbidden")?,
+        _ => write!(text, "cannot have {count} doors")?,
+    }
+    write!(text, ": {error}\n")
 }
 
 /// What is wrong with what came in from a port.
@@ -150,58 +165,81 @@ fn push_bad_answer(text: &mut String, port: u16) -> Result<(), AllocError> {
 
 // ---- files
 
-/// The names of the files that a request is about, where there are two the later one behind the
-/// other.
-fn push_files(text: &mut String, request: Request) -> Result<(), AllocError> {
+/// The name of the file that is read behind so many others.
+fn file_at<'a>(request: Request<'a>, others: u32) -> &'a str {
+    if others > 0
+        && let Some(file) = second_file(request)
+    {
+        return file;
+    }
+    map_file(request)
+}
+
+/// The name of the file that is read behind the map's.
+fn second_file<'a>(request: Request<'a>) -> Option<&'a str> {
     match request {
-        Request::Path { map, .. } | Request::Check { map, .. } => text.push_str(map),
-        Request::Near { map, .. } | Request::NearPath { map, .. } => text.push_str(map),
-        Request::Talk { map, .. } | Request::Serve { map, .. } => text.push_str(map),
-        Request::Scen { map, scenarios, .. } => write!(text, "{map} or {scenarios}"),
-        Request::Replay { map, events, .. } => write!(text, "{map} or {events}"),
-        Request::Made { .. } | Request::Ask { .. } => Ok(()),
+        Request::Scen { scenarios, .. } => Some(scenarios),
+        Request::Replay { events, .. } => Some(events),
+        _ => None,
+    }
+}
+
+/// The name of the map's file; none where the map is made or a server is asked.
+fn map_file<'a>(request: Request<'a>) -> &'a str {
+    match request {
+        Request::Path { map, .. } => map,
+        Request::Check { map, .. } => map,
+        Request::Near { map, .. } => map,
+        Request::NearPath { map, .. } => map,
+        Request::Scen { map, .. } => map,
+        Request::Replay { map, .. } => map,
+        Request::Talk { map, .. } => map,
+        Request::Serve { map, .. } => map,
+        Request::Export { map, .. } => map,
+        Request::Verify { db } => db,
+        _ => "",
     }
 }
 
 /// Why a file was not read.
 fn push_read_fault(
     text: &mut String,
-    request: Request,
+    file: &str,
     reason: Option<ErrorKind>,
 ) -> Result<(), AllocError> {
-    text.push_str("path_server: ")?;
-    push_files(text, request)?;
+    write!(text, "path_server: {file}: ")?;
     match reason {
-        Some(ErrorKind::NotFound) => text.push_str(": no such file\n"),
-        Some(reason) => write!(text, ": {reason}\n"),
-        None => text.push_str(": it cannot be read\n"),
+        Some(ErrorKind::NotFound) => text.push_str("no such file\n"),
+        Some(reason) => write!(text, "{reason}\n"),
+        None => text.push_str("it cannot be read\n"),
     }
 }
 
-/// How long a file may be; the later one may have more bytes than a map.
-fn push_too_long(text: &mut String, request: Request, limit: u32) -> Result<(), AllocError> {
-    match request {
-        Request::Scen { scenarios, .. } if limit as usize != MAX_MAP_BYTES => {
-            text.push_str(scenarios)?
-        }
-        Request::Replay { events, .. } if limit as usize != MAX_MAP_BYTES => {
-            text.push_str(events)?
-        }
-        Request::Scen { map, .. } | Request::Replay { map, .. } => text.push_str(map)?,
-        _ => push_files(text, request)?,
+/// Ends a line on how a file should begin, by what it is where its first bytes are none of a text.
+fn push_sort(text: &mut String, seen: Seen) -> Result<(), AllocError> {
+    match seen.sort() {
+        Some(sort) => write!(text, ", found {sort}\n"),
+        None => text.push_str("\n"),
     }
-    write!(text, ": expected at most {limit} bytes\n")
 }
 
 /// How many lines stand before the first row of a map, and 1 more: lines are numbered from 1.
 const FIRST_ROW: u32 = 5;
 
 /// The line at which a map is refused, and what was expected there.
-fn push_map_fault(text: &mut String, file: &str, fault: MapFault) -> Result<(), AllocError> {
+fn push_map_fault(
+    text: &mut String,
+    file: &str,
+    fault: MapFault,
+    seen: Seen,
+) -> Result<(), AllocError> {
     let line = fault_line(fault);
     write!(text, "{file}:{line}: expected ")?;
     match fault {
-        MapFault::Header { line: 1 } => text.push_str("'type octile'\n"),
+        MapFault::Header { line: 1 } => {
+            text.push_str("'type octile'")?;
+            push_sort(text, seen)
+        }
         MapFault::Header { line: 4 } => text.push_str("'map'\n"),
         MapFault::Header { .. } => text.push_str("'height H' and 'width W', in either order\n"),
         MapFault::Size { .. } => {
@@ -216,11 +254,8 @@ fn push_map_fault(text: &mut String, file: &str, fault: MapFault) -> Result<(), 
             ..
         } => write!(text, "{expected} cells, found {found}\n"),
         MapFault::BadCell { x, byte, .. } => {
-            write!(text, "one of . G S @ O T at column {x}, found ")?;
+            write!(text, "one of . G S W @ O T at column {x}, found ")?;
             push_byte(text, byte)
-        }
-        MapFault::Water { x, .. } => {
-            write!(text, "one of . G S @ O T at column {x}, found water (W)\n")
         }
         MapFault::MissingRows { found } => write!(text, "a row, found {found} rows\n"),
         MapFault::Extra { .. } => text.push_str("nothing after the last row\n"),
@@ -258,9 +293,17 @@ fn push_made_fault(text: &mut String, fault: MapFault) -> Result<(), AllocError>
 }
 
 /// The line at which scenarios are refused, and what was expected there.
-fn push_scenario_fault(text: &mut String, file: &str, fault: ScenFault) -> Result<(), AllocError> {
+fn push_scenario_fault(
+    text: &mut String,
+    file: &str,
+    fault: ScenFault,
+    seen: Seen,
+) -> Result<(), AllocError> {
     match fault {
-        ScenFault::Version => write!(text, "{file}:1: expected 'version 1'\n"),
+        ScenFault::Version => {
+            write!(text, "{file}:1: expected 'version 1'")?;
+            push_sort(text, seen)
+        }
         ScenFault::Fields { line, found } => {
             write!(text, "{file}:{line}: expected ")?;
             write!(text, "9 fields, found {found}\n")
@@ -273,11 +316,118 @@ fn push_scenario_fault(text: &mut String, file: &str, fault: ScenFault) -> Resul
     }
 }
 
+/// What is wrong with the file of a database.
+fn push_db_fault(
+    text: &mut String,
+    file: &str,
+    fault: DbFault,
+    seen: Seen,
+) -> Result<(), AllocError> {
+    write!(text, "{file}: ")?;
+    match fault {
+        DbFault::Magic => {
+            text.push_str("expected PATHDB01 at its front")?;
+            push_sort(text, seen)
+        }
+        DbFault::Walk { .. } | DbFault::Worse { .. } | DbFault::Loose { .. } => {
+            push_row_fault(text, fault)
+        }
+        _ => push_field_fault(text, fault),
+    }
+}
+
+/// What is wrong with a field behind the first.
+fn push_field_fault(text: &mut String, fault: DbFault) -> Result<(), AllocError> {
+    match fault {
+        DbFault::Size => push_sides_wanted(text),
+        DbFault::Kind { byte } => {
+            write!(text, "expected order 0, rows, or 1, dfs, found {byte}\n")
+        }
+        DbFault::Terrain { place, byte } => write!(
+            text,
+            "expected terrain 0, 1 or 2 at cell {place}, found {byte}\n"
+        ),
+        DbFault::TooManyCells { place } => push_cells_wanted(text, place),
+        DbFault::Cut { have } => write!(text, "it ends too soon, after {have} bytes\n"),
+        DbFault::Runs { comp, source } => {
+            write!(text, "component {comp}, row {source}: ")?;
+            text.push_str("expected runs whose starts rise from 0, one a cell at most\n")
+        }
+        DbFault::Extra { from } => write!(
+            text,
+            "expected nothing after the last row, from byte {from} on\n"
+        ),
+        _ => Ok(()),
+    }
+}
+
+/// What the sides of a map may be.
+fn push_sides_wanted(text: &mut String) -> Result<(), AllocError> {
+    write!(
+        text,
+        "expected sides from 1 to {MAX_SIDE} and at most {MAX_CELLS} cells\n"
+    )
+}
+
+/// How many passable cells a map may have, of which this place has one more.
+fn push_cells_wanted(text: &mut String, place: u32) -> Result<(), AllocError> {
+    write!(
+        text,
+        "expected at most {MAX_PASSABLE} passable cells, one more at cell {place}\n"
+    )
+}
+
+/// What is wrong with a row.
+fn push_row_fault(text: &mut String, fault: DbFault) -> Result<(), AllocError> {
+    match fault {
+        DbFault::Walk {
+            comp,
+            target,
+            source,
+        } => {
+            push_walk(text, comp, target, source)?;
+            text.push_str("the rows lead astray\n")
+        }
+        DbFault::Worse {
+            comp,
+            target,
+            source,
+        } => {
+            push_walk(text, comp, target, source)?;
+            text.push_str("another way is shorter\n")
+        }
+        DbFault::Loose {
+            comp,
+            target,
+            source,
+        } => {
+            push_walk(text, comp, target, source)?;
+            text.push_str("a run ends too soon, or keeps another move than the least\n")
+        }
+        _ => Ok(()),
+    }
+}
+
+/// From which place of a component to which.
+fn push_walk(text: &mut String, comp: u32, target: u32, source: u32) -> Result<(), AllocError> {
+    write!(text, "component {comp}, from cell {source} ")?;
+    write!(text, "to cell {target}: ")
+}
+
 /// The line at which events are refused, and what an event is.
-fn push_events_fault(text: &mut String, file: &str, line: u32) -> Result<(), AllocError> {
+fn push_events_fault(
+    text: &mut String,
+    file: &str,
+    line: u32,
+    seen: Seen,
+) -> Result<(), AllocError> {
     write!(text, "{file}:{line}: expected an event: ")?;
-    text.push_str("submit P X Y B, look P, query P SX SY GX GY, ")?;
-    text.push_str("begin P, row P, publish P or halt P\n")
+    text.push_str("submit P X Y B [X Y B ..], look P, query P SX SY GX GY, ")?;
+    text.push_str("begin P, row P, publish P or halt P")?;
+    if line == 1 {
+        return push_sort(text, seen);
+    }
+    text.push_str("\n")
 }
 
 /// What is expected in a field of a scenario, of which the second is a name and the last a length.
@@ -294,8 +444,7 @@ fn fault_line(fault: MapFault) -> u32 {
     match fault {
         MapFault::Header { line } | MapFault::Size { line } => line,
         MapFault::RowLength { line, .. } | MapFault::Extra { line } => line,
-        MapFault::BadCell { y, .. } | MapFault::Water { y, .. } => u32::from(y) + FIRST_ROW,
-        MapFault::TooManyCells { y, .. } => u32::from(y) + FIRST_ROW,
+        MapFault::BadCell { y, .. } | MapFault::TooManyCells { y, .. } => u32::from(y) + FIRST_ROW,
         MapFault::MissingRows { found } => found.saturating_add(FIRST_ROW),
     }
 }

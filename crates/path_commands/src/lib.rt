@@ -7,6 +7,7 @@ mod asked;
 mod check;
 mod commands;
 mod database;
+mod db;
 mod file;
 mod heard;
 mod help;
@@ -17,20 +18,24 @@ mod near;
 mod output;
 mod pages;
 mod path;
+mod remarks;
 mod replay;
 mod request;
 pub mod request_laws;
 mod scen;
+mod seen;
 pub mod serve;
 mod serving;
 mod status;
 mod system;
 pub mod talk;
 mod task;
+mod watch;
 mod words;
 
 pub use check::answer_check;
-pub use database::first_version;
+pub use database::{first_near, first_version};
+pub use db::{answer_verify, put_file, read_version};
 pub use help::{advice, argument_advice};
 pub use made::{answer_made, made_grid};
 pub use map_file::read_grid;
@@ -40,9 +45,12 @@ pub use output::{put, refuse};
 pub use path::answer_path;
 pub use replay::answer_replay;
 pub use request::{
-    BuildOptions, Request, RequestError, Sides, is_ask, is_serve, is_talk, read_request,
+    BuildOptions, Request, RequestError, Sides, file_to_verify, is_ask, is_serve, is_talk,
+    read_request,
 };
 pub use scen::answer_scen;
+pub use seen::Seen;
 pub use status::Status;
 pub use system::{command_words, exit_code, is_printed_name};
 pub use task::{Task, task_for};
+pub use watch::Watch;

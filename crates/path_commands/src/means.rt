@@ -11,6 +11,6 @@ pub struct Means<'a, R, B, G> {
     pub alloc: Global,
     /// The bell that is rung where there is something to build.
     pub bell: &'a B,
-    /// The gate that each piece of a build passes.
+    /// The gate that each piece of a build passes, which is told how far the run is.
     pub gate: &'a G,
 }

@@ -3,7 +3,7 @@
 
 ghost use Rattle.std.specs.Prelude.{◌≡◌, ◌≤◌, IfErr, IfOk, string_bytes};
 ghost use Rattle.near_rows.specs.NearWalks.{HasFewAhead};
-ghost use Rattle.path_commands.specs.NearQueries.{AppendsNear, AppendsSizes, IsNearOf, TellsNear, TellsNearAhead, TellsNearAnswer};
+ghost use Rattle.path_commands.specs.NearQueries.{AppendsNear, AppendsSizes, TellsNear, TellsNearAhead, TellsNearAnswer};
 ghost use Rattle.path_commands.specs.Runs.{IsPathCause};
 
 use crate::check::{answer_check, push_number};
@@ -14,24 +14,14 @@ use near_rows::{NearVersion, NearWalk, measure};
 use root_cost::{Cost, MAX_STEPS};
 use std::alloc::{AllocError, Global};
 use std::fmt::Write;
-use std::sync::Arc;
-use versions::Version;
 
 /// What `check` tells, and then how many runs all near rows have, and the greatest near radius, a line each.
-pub fn answer_near(alloc: Global, version: Version) -> Result<String, AllocError>
-    ensures { IfOk result (λ text. TellsNear version (string_bytes text)) }
+pub fn answer_near(alloc: Global, near: &NearVersion) -> Result<String, AllocError>
+    ensures { IfOk result (λ text. TellsNear near.now.version (string_bytes text)) }
 {
-    let near = near_version(alloc, version)?;
     let mut text = answer_check(alloc, near.version())?;
-    push_near(&mut text, &near)?;
+    push_near(&mut text, near)?;
     Ok(text)
-}
-
-/// The near version of a version.
-fn near_version(alloc: Global, version: Version) -> Result<NearVersion, AllocError>
-    ensures { IfOk result (IsNearOf version) }
-{
-    NearVersion::make(alloc, Arc::new(alloc, version)?)
 }
 
 /// Writes the number of the runs of all near rows, and the greatest near radius, a line each.
@@ -44,23 +34,13 @@ fn push_near(text: &mut String, near: &NearVersion) -> Result<(), AllocError>
     Ok(())
 }
 
-/// The text that tells the near walk between two cells, or that no path exists.
+/// The text that tells the near walk of a near version between two cells, or that no path exists.
 pub fn answer_near_path(
     alloc: Global,
-    version: Version,
+    near: &NearVersion,
     start: Cell,
     goal: Cell,
 ) -> Result<String, Status>
-    ensures done { IfOk result (λ text.
-        TellsNearAnswer version start goal (string_bytes text)) }
-    ensures refused { IfErr result (IsPathCause version start goal) }
-{
-    let near = near_version(alloc, version)?;
-    near_path(alloc, &near, start, goal)
-}
-
-/// The text that tells the near walk of a near version between two cells, or that no path exists.
-fn near_path(alloc: Global, near: &NearVersion, start: Cell, goal: Cell) -> Result<String, Status>
     ensures done { IfOk result (λ text.
         TellsNearAnswer near.entry.now.version start goal (string_bytes text)) }
     ensures refused { IfErr result (IsPathCause near.entry.now.version start goal) }

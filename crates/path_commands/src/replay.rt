@@ -7,7 +7,7 @@ ghost use Rattle.path_commands.specs.Runs.{HoldsEvents, IsEventsFileCause, file_
 use crate::file::read_file;
 use crate::status::Status;
 use path_core::Board;
-use path_replay::{Event, EventsError, MAX_EVENTS_BYTES, read_events, run_events};
+use path_replay::{Events, EventsError, MAX_EVENTS_BYTES, read_events, run_events};
 use std::alloc::{AllocError, Global};
 use std::sync::Arc;
 use text_lines::Text;
@@ -15,14 +15,10 @@ use versions::Version;
 use wire::Files;
 
 /// The events in the file of that name.
-pub fn read_event_file<F: Files>(
-    alloc: Global,
-    files: &mut F,
-    name: &str,
-) -> Result<Vec<Event>, Status>
+pub fn read_event_file<F: Files>(alloc: Global, files: &mut F, name: &str) -> Result<Events, Status>
     ensures events { IfOk result (λ events. HoldsEvents
-        (file_over F.content F.faults files.old files.new name.now) events.items) }
-    ensures passes { IfOk result (λ events. HavePasses events.items) }
+        (file_over F.content F.faults files.old files.new name.now) events) }
+    ensures passes { IfOk result (λ events. HavePasses events) }
     ensures refused { IfErr result
         (IsEventsFileCause (file_over F.content F.faults files.old files.new name.now)) }
 {
@@ -35,7 +31,7 @@ pub fn read_event_file<F: Files>(
 }
 
 /// The lines that the events print on a board with no entries, of which this is the first version.
-pub fn answer_replay(alloc: Global, version: Version, events: &[Event]) -> Result<Text, AllocError>
+pub fn answer_replay(alloc: Global, version: Version, events: &Events) -> Result<Text, AllocError>
     requires unedited { version.prefix ≡ 0 }
     requires passes { HavePasses events.now }
     ensures { IfOk result (TellsReplay version events.now) }

@@ -1,5 +1,5 @@
 //! What the words of a command line ask for.
-ghost use Rattle.std.specs.Prelude.{◌≡◌, ◌≢◌, ◌≤◌, IfOk, IfSome, IsFalse, IsTrue, None, Some, false, option_map};
+ghost use Rattle.std.specs.Prelude.{◌≡◌, ◌≢◌, ◌≤◌, IfNone, IfOk, IfSome, IsFalse, IsTrue, None, Some, false, option_map};
 ghost use Rattle.clap.specs.Words.{first_value, found_of, kind_of};
 ghost use Rattle.path_commands.specs.declared.request.RequestError.TheVariants.{NoMemory, Usage};
 ghost use Rattle.clap.specs.declared.error.kind.ErrorKind.TheVariants.{OutOfMemory};
@@ -9,15 +9,15 @@ ghost use Rattle.moves.specs.Maps.{IsWithinLimits};
 ghost use Rattle.path_core.specs.declared.TheConstants.{MAX_ENTRIES};
 ghost use Rattle.path_commands.specs.declared.commands.Verb.{Verb};
 ghost use Rattle.path_commands.specs.Words.{IsOfKind, every_value};
-ghost use Rattle.path_commands.specs.SaidRequests.{said_of};
+ghost use Rattle.path_commands.specs.SaidRequests.{said_by};
 ghost use Rattle.path_commands.specs.declared.words.NumberKind.{NumberKind};
 ghost use Rattle.path_commands.specs.Requests.{AreDoors, HasLimits, IsAsk, IsServe, IsTalk, doors_at, serve_by, ask_by, asked, asked_by, build_at, said_at};
-ghost use Rattle.path_commands.specs.Requests.{build_of, cell_at};
+ghost use Rattle.path_commands.specs.Requests.{build_of, cell_at, export_by, verify, verify_by};
 ghost use Rattle.path_commands.specs.Requests.{check_by, coordinate_at, made_by, near_by, nearpath_by, number_at, order_at};
 ghost use Rattle.path_commands.specs.Requests.{path_at, path_by, replay_by, request_by, request_of};
 ghost use Rattle.path_commands.specs.Requests.{room_at, scen_by, sides_at, talk_by, verb_asked, workers_at};
 
-use crate::asked::request_in;
+use crate::asked::{Asking, asking_in};
 use crate::commands::{Verb, command};
 use crate::words::{NumberKind, STANDARD_ROOM, coordinate, file_name, order, workers};
 use cell_order::OrderKind;
@@ -120,8 +120,20 @@ pub enum Request<'a> {
     Ask {
         /// The port, from 1 on.
         port: u16,
-        /// The request.
-        request: query_proto::Request,
+        /// What is asked for.
+        asking: Asking,
+    },
+    /// The file of the database of a map.
+    Export {
+        /// The name of the map's file, which is not empty.
+        map: &'a str,
+        /// How a database of the map is built.
+        build: BuildOptions,
+    },
+    /// Whether a file is that of a database.
+    Verify {
+        /// The name of the file, which is not empty.
+        db: &'a str,
     },
 }
 
@@ -193,7 +205,8 @@ impl<'a> Request<'a> {
             Request::Replay { build, .. } => *build,
             Request::Talk { build, .. } => *build,
             Request::Serve { build, .. } => *build,
-            Request::Ask { .. } => STANDARD_BUILD,
+            Request::Export { build, .. } => *build,
+            Request::Ask { .. } | Request::Verify { .. } => STANDARD_BUILD,
         }
     }
 }
@@ -222,6 +235,20 @@ pub fn first_verb(words: &[String]) -> Option<Verb>
 {
     let name = words.first()?;
     Verb::named(name.as_str())
+}
+
+/// The name of the file that is to be checked; `None` exactly where that is not asked for.
+pub fn file_to_verify<'a>(request: Request<'a>) -> Option<&'a str>
+    ensures some { IfSome result (λ db. asked request.entry ≡ verify db.now) }
+    ensures none { IfNone result (verb_asked (asked request.entry) ≢ Verb.Verify) }
+{
+    match request {
+        Request::Verify { db } => Some(db),
+        Request::Path { .. } | Request::NearPath { .. } | Request::Near { .. } => None,
+        Request::Check { .. } | Request::Scen { .. } | Request::Made { .. } => None,
+        Request::Replay { .. } | Request::Talk { .. } | Request::Serve { .. } => None,
+        Request::Ask { .. } | Request::Export { .. } => None,
+    }
 }
 
 /// Whether the words name `talk`.
@@ -291,6 +318,8 @@ fn asked_of<'a>(verb: Verb, matches: &ArgMatches<'a>) -> Option<Request<'a>>
         Verb::Talk => talk_asked(matches),
         Verb::Serve => serve_asked(matches),
         Verb::Ask => ask_asked(matches),
+        Verb::Export => export_asked(matches),
+        Verb::Verify => verify_asked(matches),
     }
 }
 
@@ -461,8 +490,33 @@ fn ask_asked<'a>(matches: &ArgMatches<'a>) -> Option<Request<'a>>
     ensures limits { IfSome result (λ request. HasLimits (asked request)) }
 {
     let port = port_at(matches, "PORT")?;
-    let request = request_at(matches, "WORDS")?;
-    Some(Request::Ask { port, request })
+    let asking = asking_at(matches, "WORDS")?;
+    Some(Request::Ask { port, asking })
+}
+
+/// What `export` asks for.
+#[tactic(auto, unfolding(crate::specs::Requests::export_by))]
+fn export_asked<'a>(matches: &ArgMatches<'a>) -> Option<Request<'a>>
+    ensures asked { option_map asked result ≡ export_by (first_value (found_of matches.now)) }
+    ensures verb { IfSome result (λ request. verb_asked (asked request) ≡ Verb.Export) }
+    ensures workers { IfSome result (λ request. AreWorkers (build_of (asked request)).workers) }
+    ensures limits { IfSome result (λ request. HasLimits (asked request)) }
+{
+    let map = file_at(matches, "MAP")?;
+    let build = build_at(matches)?;
+    Some(Request::Export { map, build })
+}
+
+/// What `verify` asks for.
+#[tactic(auto, unfolding(crate::specs::Requests::verify_by))]
+fn verify_asked<'a>(matches: &ArgMatches<'a>) -> Option<Request<'a>>
+    ensures asked { option_map asked result ≡ verify_by (first_value (found_of matches.now)) }
+    ensures verb { IfSome result (λ request. verb_asked (asked request) ≡ Verb.Verify) }
+    ensures workers { IfSome result (λ request. AreWorkers (build_of (asked request)).workers) }
+    ensures limits { IfSome result (λ request. HasLimits (asked request)) }
+{
+    let db = file_at(matches, "DB")?;
+    Some(Request::Verify { db })
 }
 
 /// The port that the argument `id` names.
@@ -472,11 +526,11 @@ fn port_at(matches: &ArgMatches<'_>, id: &str) -> Option<u16>
     Some(number_at(matches, NumberKind::Port, id)? as u16)
 }
 
-/// The request that the values of the argument `id` spell.
-fn request_at(matches: &ArgMatches<'_>, id: &str) -> Option<query_proto::Request>
-    ensures { option_map said_of result ≡ said_at (every_value (found_of matches.now)) id.now }
+/// What the values of the argument `id` ask for.
+fn asking_at(matches: &ArgMatches<'_>, id: &str) -> Option<Asking>
+    ensures { option_map said_by result ≡ said_at (every_value (found_of matches.now)) id.now }
 {
-    request_in(matches.get_strs(id)?)
+    asking_in(matches.get_strs(id)?)
 }
 
 /// The file that the argument `id` names.

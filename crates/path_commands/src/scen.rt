@@ -1,17 +1,21 @@
 //! `scen MAP SCEN`: what a map's database says of a file of scenarios.
 ghost use Rattle.std.specs.Prelude.{IfErr, IfOk, string_bytes};
+ghost use Rattle.scen_run.specs.Reports.{AreShort};
 ghost use Rattle.scen_run.specs.Results.{HaveLengths};
 ghost use Rattle.path_commands.specs.Queries.{TellsResults};
 ghost use Rattle.path_commands.specs.Runs.{HoldsScenarios, IsScenFileCause, file_over};
 
 use crate::file::read_file;
+use crate::means::Means;
+use crate::remarks::scenario_remarks;
 use crate::status::Status;
+use crate::watch::Watch;
 use scen_read::{MAX_SCEN_BYTES, ScenError, ScenLine, read_scen};
-use scen_run::{report, run_lines};
+use scen_run::{LineResult, report, run_lines};
 use std::alloc::{AllocError, Global};
 use std::thread::Threads;
 use versions::Version;
-use wire::Files;
+use wire::{Bell, Files};
 
 /// The scenarios in the file of that name.
 pub fn read_scenarios<F: Files>(
@@ -33,10 +37,10 @@ pub fn read_scenarios<F: Files>(
     }
 }
 
-/// The report on what the version says of the scenarios. The lines are shared among threads.
-pub fn answer_scen<R: Threads + Sync>(
-    rt: &R,
-    alloc: Global,
+/// The report on what the version says of the scenarios. The lines are shared among threads. Whoever
+/// looks on is told where stated lengths are not those that were found.
+pub fn answer_scen<B: Bell, G: Watch, R: Threads + Sync>(
+    means: &Means<R, B, G>,
     version: &Version,
     scenarios: &[ScenLine],
 ) -> Result<String, AllocError>
@@ -44,6 +48,21 @@ pub fn answer_scen<R: Threads + Sync>(
     ensures { IfOk result (λ text.
         TellsResults version.now scenarios.now (string_bytes text)) }
 {
-    let results = run_lines(rt, alloc, version, scenarios)?;
-    report(alloc, results.as_slice())
+    let results = run_lines(means.rt, means.alloc, version, scenarios)?;
+    remark(means, version, scenarios, results.as_slice());
+    report(means.alloc, results.as_slice())
+}
+
+/// Tells who looks on of the results, where there is memory for it.
+fn remark<B: Bell, G: Watch, R>(
+    means: &Means<R, B, G>,
+    version: &Version,
+    scenarios: &[ScenLine],
+    results: &[LineResult],
+)
+    requires { AreShort results.now }
+{
+    if let Ok(lines) = scenario_remarks(means.alloc, version.grid(), scenarios, results) {
+        means.gate.remark(lines);
+    }
 }

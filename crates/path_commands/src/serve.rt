@@ -14,14 +14,14 @@ use crate::means::Means;
 use crate::request::{Request, read_request};
 use crate::serving::{Opening, put_cause, serve_on};
 use crate::status::Status;
-use build_pool::Gate;
+use crate::watch::Watch;
 use std::sync::Wait;
 use std::thread::Threads;
 use wire::{Bell, Ear, Files, House, Sink};
 
 /// Serves the board that the words ask for at the doors that they ask for. Where there is no such
 /// board, the line of the cause is put, and the house is left alone.
-pub fn serve<F: Files, H: House, O: Sink, B: Bell, E: Ear, G: Gate, R: Threads + Wait + Sync>(
+pub fn serve<F: Files, H: House, O: Sink, B: Bell, E: Ear, G: Watch, R: Threads + Wait + Sync>(
     means: &Means<R, B, G>,
     words: &[String],
     files: &mut F,
@@ -55,7 +55,7 @@ pub fn serve<F: Files, H: House, O: Sink, B: Bell, E: Ear, G: Gate, R: Threads +
 }
 
 /// The board that the words ask for, and the doors.
-fn open<F: Files, B: Bell, G: Gate, R: Threads + Sync>(
+fn open<F: Files, B: Bell, G: Watch, R: Threads + Sync>(
     means: &Means<R, B, G>,
     words: &[String],
     files: &mut F,

@@ -6,6 +6,7 @@ ghost use Rattle.path_commands.specs.Statuses.{status_code, status_text};
 use crate::request::RequestError;
 use map_read::MapFault;
 use path_client::ClientFault;
+use path_file::{DbError, DbFault};
 use scen_read::ScenFault;
 use session::SessionFault;
 use std::alloc::{AllocError, Global};
@@ -48,6 +49,8 @@ pub enum Status {
     },
     /// What a server answered is no answer, or ended before it was whole.
     BadAnswer,
+    /// The file is not that of a database.
+    Db(DbFault),
 }
 
 impl Status {
@@ -68,6 +71,7 @@ impl Status {
             Status::Broken(_) => 9,
             Status::BadAnswer => 10,
             Status::Events { .. } => 11,
+            Status::Db(_) => 12,
         }
     }
 }
@@ -104,6 +108,20 @@ impl From<WalkError> for Status {
         match error {
             WalkError::Refused(refusal) => Status::Query(refusal),
             WalkError::NoMemory => Status::NoMemory,
+        }
+    }
+}
+
+impl From<DbError> for Status {
+    ghost use Rattle.std.specs.Prelude.{◌≡◌};
+    ghost use Rattle.path_commands.specs.Statuses.{status_of_db};
+
+    ghost from_gives = { λ error status. status ≡ status_of_db error };
+
+    fn from(error: DbError) -> Status {
+        match error {
+            DbError::Fault(fault) => Status::Db(fault),
+            DbError::NoMemory => Status::NoMemory,
         }
     }
 }
@@ -159,7 +177,8 @@ impl From<ClientFault> for Status {
 
     fn from(fault: ClientFault) -> Status {
         match fault {
-            ClientFault::Malformed | ClientFault::Closed { .. } => Status::BadAnswer,
+            ClientFault::Malformed | ClientFault::Closed { .. } | ClientFault::OldServer { .. } =>
+                Status::BadAnswer,
             ClientFault::ReadFault => Status::ReadFault,
             ClientFault::WriteFault => Status::WriteFault,
             ClientFault::NoMemory => Status::NoMemory,
@@ -180,7 +199,7 @@ impl fmt::Display for Status {
             Status::Done | Status::WriteFault | Status::Broken(_) => Ok(()),
             Status::Usage => write!(
                 f,
-                "usage: path check scen made replay talk serve ask near nearpath"
+                "usage: path check scen made replay talk serve ask export verify near nearpath"
             ),
             Status::Map(fault) => write!(f, "map refused: {fault}"),
             Status::Scen(fault) => write!(f, "scenario refused: {fault}"),
@@ -190,6 +209,7 @@ impl fmt::Display for Status {
             Status::TooLong { limit } => write!(f, "file too long: {limit}"),
             Status::Events { line } => write!(f, "events refused: line {line}"),
             Status::BadAnswer => write!(f, "bad answer"),
+            Status::Db(fault) => write!(f, "database refused: {fault}"),
         }
     }
 }

@@ -10,6 +10,7 @@ use crate::database::first_board;
 use crate::means::Means;
 use crate::request::{Request, read_request};
 use crate::status::Status;
+use crate::watch::Watch;
 use build_pool::Gate;
 use path_core::Board;
 use session::{Ended, Lone, SessionFault, serve_link};
@@ -25,7 +26,7 @@ struct Begun {
 }
 
 /// Holds the session that the words ask for over the input, and says how it ended.
-pub fn talk<F: Files, L: Link, B: Bell, G: Gate, R: Threads + Wait + Sync>(
+pub fn talk<F: Files, L: Link, B: Bell, G: Watch, R: Threads + Wait + Sync>(
     means: &Means<R, B, G>,
     words: &[String],
     files: &mut F,
@@ -79,7 +80,7 @@ fn hold<L: Link, B: Bell, G: Gate, R: Threads + Wait + Sync>(
 }
 
 /// The board that the words ask for.
-fn begin<F: Files, B: Bell, G: Gate, R: Threads + Sync>(
+fn begin<F: Files, B: Bell, G: Watch, R: Threads + Sync>(
     means: &Means<R, B, G>,
     words: &[String],
     files: &mut F,

@@ -9,7 +9,7 @@ use crate::request::Request;
 use crate::scen::read_scenarios;
 use crate::status::Status;
 use moves::Cell;
-use path_replay::Event;
+use path_replay::Events;
 use scen_read::ScenLine;
 use std::alloc::Global;
 use wire::Files;
@@ -43,15 +43,18 @@ pub enum Task {
         seed: u32,
     },
     /// The lines of events are told.
-    Replay(Vec<Event>),
+    Replay(Events),
+    /// The file of the database is put.
+    Export,
 }
 
-/// What is to be done, with what the second file says where there is one. Sessions are no task, and a request
-/// to a server is none.
+/// What is to be done, with what the second file says where there is one. Sessions are no task, a request
+/// to a server is none, and the check of a database is none.
 pub fn task_for<F: Files>(alloc: Global, files: &mut F, request: Request) -> Result<Task, Status>
     requires talk { verb_asked (asked request) ≢ Verb.Talk }
     requires serve { verb_asked (asked request) ≢ Verb.Serve }
     requires ask { verb_asked (asked request) ≢ Verb.Ask }
+    requires verify { verb_asked (asked request) ≢ Verb.Verify }
     ensures task { IfOk result
         (GivesTask (file_over F.content F.faults files.old files.new) (asked request.entry)) }
     ensures may { IfOk result MayBeDone }
@@ -67,6 +70,7 @@ pub fn task_for<F: Files>(alloc: Global, files: &mut F, request: Request) -> Res
         Request::Made { seed, .. } => Ok(Task::Made { seed }),
         Request::Replay { events, .. } => Ok(Task::Replay(read_event_file(alloc, files, events)?)),
         Request::Talk { .. } | Request::Serve { .. } => unreachable!(),
-        Request::Ask { .. } => unreachable!(),
+        Request::Export { .. } => Ok(Task::Export),
+        Request::Ask { .. } | Request::Verify { .. } => unreachable!(),
     }
 }

@@ -3,7 +3,7 @@ use Rattle.std.proofs.Common.{◌≡◌, ℕ, List, Result, Ok, Err, IfOk, IfErr
 use Rattle.moves.specs.declared.Cell.{Cell}
 use Rattle.moves.specs.Maps.{Map, IsSearchable}
 use Rattle.cell_order.specs.declared.OrderKind.{OrderKind}
-use Rattle.versions.specs.Databases.{Versioned, IsVersion, version_of}
+use Rattle.versions.specs.Databases.{Versioned, version_of}
 use Rattle.walk_rows.specs.Existing.{IsWhole}
 use Rattle.walk_rows.proofs.Existing.{databases_exist}
 use Rattle.path_commands.specs.declared.status.Status.{Status}
@@ -11,11 +11,6 @@ use Rattle.path_commands.specs.declared.status.Status.TheVariants as status
 use Rattle.path_commands.specs.declared.task.Task.{Task}
 use Rattle.path_commands.specs.declared.task.Task.TheVariants as task
 use Rattle.path_commands.specs.Runs.{IsAnswerOn, IsFirstAnswer, IsFirstCause, IsFirstPathCause, IsFirstVersion, IsVersionCause, TellsFirstAnswer}
-
--- a version after no edit is the first one of its map
-pub own_first : (map : Map) (order : OrderKind) (version : Versioned) → map ≡ version.map → order ≡ version.order → version.prefix ≡ 0 → IsVersion version
-    → IsFirstVersion map order version
-own_first map order version same kind unedited is = record { same_map = sym same; unedited = unedited; same_order = sym kind; whole = is }
 
 -- want of memory is a cause for each task
 memory_is_cause : (version : Versioned) (given : Task) → IsVersionCause version given status.NoMemory
@@ -26,6 +21,7 @@ memory_is_cause version (task.NearPath start goal) = tt
 memory_is_cause version (task.Scen lines) = refl
 memory_is_cause version (task.Made seed) = refl
 memory_is_cause version (task.Replay events) = refl
+memory_is_cause version task.Export = refl
 
 module _ (map : Map) (order : OrderKind) where
   -- what a first version answers, and why it does not

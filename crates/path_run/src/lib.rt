@@ -8,25 +8,27 @@ ghost use Rattle.wire.specs.Contents.{TellsTheSame};
 ghost use Rattle.moves.specs.Maps.{IsSearchable};
 ghost use Rattle.path_commands.specs.declared.commands.Verb.{Verb};
 ghost use Rattle.path_commands.specs.declared.status.Status.{Status};
-ghost use Rattle.path_commands.specs.Requests.{HasLimits, IsAsk, IsPrinted, IsServe, IsTalk, asked, verb_asked};
+ghost use Rattle.path_commands.specs.declared.task.Task.{Task};
+ghost use Rattle.path_commands.specs.Requests.{HasLimits, IsAsk, IsPrinted, IsServe, IsTalk, asked, build_of, verb_asked};
 ghost use Rattle.path_commands.specs.AskEnds.{CallsNoMore, FallsShort, PutsHeard};
 ghost use Rattle.path_commands.specs.Asks.{HasGivenNone, house_over};
 ghost use Rattle.path_commands.specs.Words.{AreWorkers, texts_of};
 ghost use Rattle.path_commands.specs.Runs.{BreaksOff, GivesMap, GivesNoMap, IsAnswerOn, IsAnswerTo};
-ghost use Rattle.path_commands.specs.Runs.{IsCause, IsFirstAnswer, IsFirstCause, IsVersionCause, MayBeDone, PutsAll};
+ghost use Rattle.path_commands.specs.Runs.{IsCause, IsDbFileCause, IsFirstAnswer, IsFirstCause, IsVersionCause, MayBeDone, NeedsVersion, PutsAll};
 ghost use Rattle.path_commands.specs.Runs.{file_over, run_over};
+ghost use Rattle.path_run.specs.Answering.{AnswersRequest, FailsRequest, TellsVersionIn, bytes_of};
 ghost use Rattle.path_commands.specs.Talks.{TalkEnds, input_over};
 ghost use Rattle.path_commands.specs.Serving.{FailsToRead, Serves, doors_over, ear_over};
 
-use build_pool::Gate;
-use moves::Grid;
+use moves::{Cell, Grid};
 use path_commands::ask::ask;
 use path_commands::serve::serve;
 use path_commands::talk::talk;
 use path_commands::{
-    BuildOptions, Means, Request, Status, Task, answer_check, answer_made, answer_near,
-    answer_near_path, answer_path, answer_replay, answer_scen, first_version, is_ask, is_serve,
-    is_talk, made_grid, put, read_grid, read_request, refuse, task_for,
+    BuildOptions, Means, Request, Status, Task, Watch, answer_check, answer_made, answer_near,
+    answer_near_path, answer_path, answer_replay, answer_scen, answer_verify, file_to_verify,
+    first_near, first_version, is_ask, is_serve, is_talk, made_grid, put, put_file, read_grid,
+    read_request, read_version, refuse, task_for,
 };
 use std::alloc::Global;
 use std::sync::Wait;
@@ -36,7 +38,7 @@ use versions::Version;
 use wire::{Bell, Ear, Files, House, Link, Sink};
 
 /// Does what the words of a command line ask for, which are those after the program's own name, and
-/// says how it ended. Each piece of a build passes the gate.
+/// says how it ended. Each piece of a build passes the gate, which is told how far the first version is.
 ///
 /// `talk` holds a session over the input, and puts nothing on the output. `serve` holds sessions at
 /// doors of the house, and builds at each ring of the ear. `ask` calls once at the port of a server,
@@ -50,7 +52,7 @@ pub fn run<
     H: House,
     B: Bell,
     E: Ear,
-    G: Gate,
+    G: Watch,
     R: Threads + Wait + Sync,
 >(
     rt: &R,
@@ -134,7 +136,7 @@ pub fn run<
 
 /// Puts the text that answers the words, or the line of the status with which the run ends without
 /// one.
-fn print<F: Files, O: Sink, B: Bell, G: Gate, R: Threads + Sync>(
+fn print<F: Files, O: Sink, B: Bell, G: Watch, R: Threads + Sync>(
     means: &Means<R, B, G>,
     words: &[String],
     files: &mut F,
@@ -150,32 +152,112 @@ fn print<F: Files, O: Sink, B: Bell, G: Gate, R: Threads + Sync>(
     ensures fault { result ≡ Status.WriteFault → Rose (O.faults out.old) (O.faults out.new) }
 {
     match answer(means, words, files) {
-        Ok(text) => put(out, text.bytes(), Status::Done),
+        Ok(Printed::Text(text)) => put(out, text.bytes(), Status::Done),
+        Ok(Printed::File(version)) => put_file(out, &version),
         Err(status) => refuse(means.alloc, out, status),
     }
 }
 
-/// The text that answers the words, or the status with which the run ends without one.
-fn answer<F: Files, B: Bell, G: Gate, R: Threads + Sync>(
+/// What is put where the work is done: a text, or the file of a version.
+#[derive(Drop)]
+enum Printed {
+    Text(Text),
+    File(Version),
+}
+
+/// What answers the words, or the status with which the run ends without it.
+fn answer<F: Files, B: Bell, G: Watch, R: Threads + Sync>(
     means: &Means<R, B, G>,
     words: &[String],
     files: &mut F,
-) -> Result<Text, Status>
+) -> Result<Printed, Status>
     requires printed { IsPrinted words.now }
-    ensures done { IfOk result
-        (IsAnswerTo (run_over words.now F.content F.faults files.old files.new)) }
+    ensures done { IfOk result (λ printed.
+        IsAnswerTo (run_over words.now F.content F.faults files.old files.new) (bytes_of printed)) }
     ensures refused { IfErr result
         (IsCause (run_over words.now F.content F.faults files.old files.new)) }
 {
     let request = read_request(means.alloc, words)?;
+    match file_to_verify(request) {
+        Some(db) => verify(means.alloc, files, db),
+        None => answer_of(means, request, files),
+    }
+}
+
+/// What tells the size of the version whose file has that name.
+fn verify<F: Files>(alloc: Global, files: &mut F, name: &str) -> Result<Printed, Status>
+    ensures done { IfOk result
+        (TellsVersionIn (file_over F.content F.faults files.old files.new name.now)) }
+    ensures refused { IfErr result
+        (IsDbFileCause (file_over F.content F.faults files.old files.new name.now)) }
+{
+    let version = read_version(alloc, files, name)?;
+    let text = answer_verify(alloc, &version)?;
+    Ok(Printed::Text(as_text(text)))
+}
+
+/// What answers a request of a map.
+fn answer_of<F: Files, B: Bell, G: Watch, R: Threads + Sync>(
+    means: &Means<R, B, G>,
+    request: Request,
+    files: &mut F,
+) -> Result<Printed, Status>
+    requires talk { verb_asked (asked request) ≢ Verb.Talk }
+    requires serve { verb_asked (asked request) ≢ Verb.Serve }
+    requires ask { verb_asked (asked request) ≢ Verb.Ask }
+    requires verify { verb_asked (asked request) ≢ Verb.Verify }
+    requires limits { HasLimits (asked request) }
+    requires workers { AreWorkers (build_of (asked request)).workers }
+    ensures done { IfOk result (AnswersRequest (file_over F.content F.faults files.old files.new)
+        (asked request.entry)) }
+    ensures refused { IfErr result (FailsRequest (file_over F.content F.faults files.old files.new)
+        (asked request.entry)) }
+{
     let grid = grid_for(means.alloc, files, request)?;
     let task = task_for(means.alloc, files, request)?;
-    answer_for(means, grid, request.build(), task)
+    printed_for(means, grid, request.build(), task)
+}
+
+/// What answers what was asked of the first version of a map: the file of that version, or a text.
+fn printed_for<B: Bell, G: Watch, R: Threads + Sync>(
+    means: &Means<R, B, G>,
+    grid: Grid,
+    options: BuildOptions,
+    task: Task,
+) -> Result<Printed, Status>
+    requires small { IsSearchable grid }
+    requires workers { AreWorkers options.workers }
+    requires task { MayBeDone task }
+    ensures done { IfOk result (λ printed. IsFirstAnswer grid options.order task (bytes_of printed)) }
+    ensures refused { IfErr result (IsFirstCause grid options.order task) }
+{
+    match task {
+        Task::Export => file_for(means, grid, options),
+        task => Ok(Printed::Text(answer_for(means, grid, options, task)?)),
+    }
+}
+
+/// The file of the first version of a map.
+fn file_for<B: Bell, G: Watch, R: Threads + Sync>(
+    means: &Means<R, B, G>,
+    grid: Grid,
+    options: BuildOptions,
+) -> Result<Printed, Status>
+    requires small { IsSearchable grid }
+    requires workers { AreWorkers options.workers }
+    ensures done { IfOk result (λ printed.
+        IsFirstAnswer grid options.order Task.Export (bytes_of printed)) }
+    ensures refused { IfErr result (IsFirstCause grid options.order Task.Export) }
+{
+    // That the map lies inside the limits is known from its width.
+    let _ = grid.width();
+    let version = first_version(means, grid, options)?;
+    Ok(Printed::File(version))
 }
 
 /// The text that answers what was asked of the first version of a map, built as the options say. For a
-/// path no version is built.
-fn answer_for<B: Bell, G: Gate, R: Threads + Sync>(
+/// path no version is built, and for a near path its near version.
+fn answer_for<B: Bell, G: Watch, R: Threads + Sync>(
     means: &Means<R, B, G>,
     grid: Grid,
     options: BuildOptions,
@@ -184,6 +266,7 @@ fn answer_for<B: Bell, G: Gate, R: Threads + Sync>(
     requires small { IsSearchable grid }
     requires workers { AreWorkers options.workers }
     requires task { MayBeDone task }
+    requires text { task ≢ Task.Export }
     ensures done { IfOk result (IsFirstAnswer grid options.order task) }
     ensures refused { IfErr result (IsFirstCause grid options.order task) }
 {
@@ -194,17 +277,58 @@ fn answer_for<B: Bell, G: Gate, R: Threads + Sync>(
             let text = answer_path(means.alloc, &grid, options.order, start, goal)?;
             Ok(as_text(text))
         }
+        Task::Near => near_for(means, grid, options),
+        Task::NearPath { start, goal } => near_path_for(means, grid, options, start, goal),
         task => {
             let version = first_version(means, grid, options)?;
-            answer_on(means.rt, means.alloc, version, task)
+            answer_on(means, version, task)
         }
     }
+}
+
+/// The text that tells how large the first version of a map and its near version are.
+fn near_for<B: Bell, G: Watch, R: Threads + Sync>(
+    means: &Means<R, B, G>,
+    grid: Grid,
+    options: BuildOptions,
+) -> Result<Text, Status>
+    requires small { IsSearchable grid }
+    requires workers { AreWorkers options.workers }
+    ensures done { IfOk result (IsFirstAnswer grid options.order Task.Near) }
+    ensures refused { IfErr result (IsFirstCause grid options.order Task.Near) }
+{
+    // That the map lies inside the limits is known from its width.
+    let _ = grid.width();
+    let near = first_near(means, grid, options)?;
+    let text = answer_near(means.alloc, &near)?;
+    Ok(as_text(text))
+}
+
+/// The text that tells the near walk between two cells of a map, or that no path exists.
+fn near_path_for<B: Bell, G: Watch, R: Threads + Sync>(
+    means: &Means<R, B, G>,
+    grid: Grid,
+    options: BuildOptions,
+    start: Cell,
+    goal: Cell,
+) -> Result<Text, Status>
+    requires small { IsSearchable grid }
+    requires workers { AreWorkers options.workers }
+    ensures done { IfOk result (IsFirstAnswer grid options.order (Task.NearPath start goal)) }
+    ensures refused { IfErr result (IsFirstCause grid options.order (Task.NearPath start goal)) }
+{
+    // That the map lies inside the limits is known from its width.
+    let _ = grid.width();
+    let near = first_near(means, grid, options)?;
+    let text = answer_near_path(means.alloc, &near, start, goal)?;
+    Ok(as_text(text))
 }
 
 /// The map that was asked about.
 fn grid_for<F: Files>(alloc: Global, files: &mut F, request: Request) -> Result<Grid, Status>
     requires limits { HasLimits (asked request) }
     requires ask { verb_asked (asked request) ≢ Verb.Ask }
+    requires verify { verb_asked (asked request) ≢ Verb.Verify }
     ensures grid { IfOk result
         (GivesMap (file_over F.content F.faults files.old files.new) (asked request.entry)) }
     ensures small { IfOk result IsSearchable }
@@ -223,35 +347,30 @@ fn grid_for<F: Files>(alloc: Global, files: &mut F, request: Request) -> Result<
         Request::Replay { map, .. } => read_grid(alloc, files, map),
         Request::Talk { map, .. } => read_grid(alloc, files, map),
         Request::Serve { map, .. } => read_grid(alloc, files, map),
-        Request::Ask { .. } => unreachable!(),
+        Request::Export { map, .. } => read_grid(alloc, files, map),
+        Request::Ask { .. } | Request::Verify { .. } => unreachable!(),
     }
 }
 
 /// The text that answers what was asked of the version.
-fn answer_on<R: Threads + Sync>(
-    rt: &R,
-    alloc: Global,
+fn answer_on<B: Bell, G: Watch, R: Threads + Sync>(
+    means: &Means<R, B, G>,
     version: Version,
     task: Task,
 ) -> Result<Text, Status>
     requires unedited { version.prefix ≡ 0 }
+    requires version { NeedsVersion task }
     requires task { MayBeDone task }
     ensures done { IfOk result (IsAnswerOn version task) }
     ensures refused { IfErr result (IsVersionCause version task) }
 {
+    let alloc = means.alloc;
     match task {
-        Task::Path { start, goal } => {
-            let text = answer_path(alloc, version.grid(), version.kind(), start, goal)?;
-            Ok(as_text(text))
-        }
         Task::Check => Ok(as_text(answer_check(alloc, &version)?)),
-        Task::Near => Ok(as_text(answer_near(alloc, version)?)),
-        Task::NearPath { start, goal } => {
-            Ok(as_text(answer_near_path(alloc, version, start, goal)?))
-        }
-        Task::Scen(lines) => Ok(as_text(answer_scen(rt, alloc, &version, lines.as_slice())?)),
+        Task::Scen(lines) => Ok(as_text(answer_scen(means, &version, lines.as_slice())?)),
         Task::Made { seed } => Ok(as_text(answer_made(alloc, &version, seed)?)),
-        Task::Replay(events) => Ok(answer_replay(alloc, version, events.as_slice())?),
+        Task::Replay(events) => Ok(answer_replay(alloc, version, &events)?),
+        Task::Path { .. } | Task::Near | Task::NearPath { .. } | Task::Export => unreachable!(),
     }
 }
 

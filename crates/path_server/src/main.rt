@@ -2,16 +2,18 @@
 //! the printed answer.
 #![tactic(auto)]
 
-use build_pool::FreeGate;
+mod watcher;
+
 use path_commands::{
-    Status, advice, argument_advice, command_words, exit_code, is_printed_name, refuse,
+    Seen, Status, advice, argument_advice, command_words, exit_code, is_printed_name, refuse,
 };
 use path_run::run;
 use std::env::{Env, FillError};
 use std::io::IsTerminal;
 use std::process::ExitCode;
 use std::{env, io};
-use wire::{HostBell, HostFiles, Journal, StdLink, StdSink, TcpHouse};
+use watcher::Watcher;
+use wire::{HostFiles, Journal, Showing, StdLink, StdSink, TcpHouse, ToldBell};
 
 /// No name of a command has more bytes.
 const NAME_ROOM: usize = 16;
@@ -19,8 +21,11 @@ const NAME_ROOM: usize = 16;
 /// The environment variable that says whether words for the operator are put: 1, or anything else.
 const LOG: &str = "PATH_SERVER_LOG";
 
-/// A longer value of that variable is not 1.
-const LOG_ROOM: usize = 2;
+/// The environment variable that says whether it is shown how far a build is: 1, or anything else.
+const PROGRESS: &str = "PATH_SERVER_PROGRESS";
+
+/// A longer value of these variables is not 1.
+const SETTING_ROOM: usize = 2;
 
 /// Runs the command that the words ask for over the system's files, standard input and standard
 /// output, and tells on standard error what a person may do about an end other than `Done`. Where the
@@ -28,10 +33,12 @@ const LOG_ROOM: usize = 2;
 fn main(rt: HostRuntime) -> ExitCode {
     let mut files = HostFiles::new(&rt);
     let mut out = StdSink::new(&rt);
+    let mut house = TcpHouse::new(Journal::new(&rt, is_logged(&rt)));
+    let watcher = Watcher::new(&rt, showing(&rt));
     let arguments = arguments(&rt);
     let status = match command_words(&arguments) {
         Ok(words) => {
-            let bell = HostBell::new();
+            let bell = ToldBell::new(Journal::new(&rt, is_logged(&rt)));
             let status = run(
                 &rt,
                 rt.alloc(),
@@ -39,14 +46,13 @@ fn main(rt: HostRuntime) -> ExitCode {
                 &mut files,
                 &mut StdLink::new(&rt),
                 &mut out,
-                &mut TcpHouse::new(Journal::new(&rt, is_logged(&rt))),
+                &mut house,
                 &bell,
                 &mut bell.ear(),
-                &FreeGate,
+                &watcher,
             );
-            if let Ok(text) = advice(rt.alloc(), words, &status, files.reason()) {
-                tell(&rt, text.as_str());
-            }
+            tell_remarks(&rt, watcher);
+            tell_advice(&rt, words, &status, seen(&files, &house));
             status
         }
         Err(error) => {
@@ -62,6 +68,29 @@ fn main(rt: HostRuntime) -> ExitCode {
     exit_code(&status)
 }
 
+/// What was seen outside.
+fn seen(files: &HostFiles<'_, HostRuntime>, house: &TcpHouse<'_, HostRuntime>) -> Seen {
+    Seen {
+        reason: files.reason(),
+        files: files.glimpse(),
+        refusal: house.refusal(),
+    }
+}
+
+/// Tells what was remarked while a command ran.
+fn tell_remarks(rt: &HostRuntime, watcher: Watcher<'_, HostRuntime>) {
+    if let Some(lines) = watcher.remarks() {
+        tell(rt, lines.as_str());
+    }
+}
+
+/// Tells what a person may do about how a command ended.
+fn tell_advice(rt: &HostRuntime, words: &[String], status: &Status, seen: Seen) {
+    if let Ok(text) = advice(rt.alloc(), words, status, seen) {
+        tell(rt, text.as_str());
+    }
+}
+
 /// Whether the first word, of words that could not be read, is known to name a command that puts a
 /// line on standard output. `talk` puts nothing there, and so does what may be `talk`.
 fn names_printed(rt: &HostRuntime) -> bool {
@@ -75,11 +104,27 @@ fn names_printed(rt: &HostRuntime) -> bool {
 /// Whether words for the operator are put on standard error: as the environment says, or else where
 /// that is a terminal.
 fn is_logged(rt: &HostRuntime) -> bool {
-    let mut value = [0; LOG_ROOM];
-    match rt.var(LOG, &mut value) {
-        Ok(size) => size == 1 && value[0] == b'1',
-        Err(FillError::TooLong) => false,
-        Err(FillError::NotPresent) => rt.stderr().is_terminal(),
+    setting(rt, LOG).unwrap_or(rt.stderr().is_terminal())
+}
+
+/// How it is shown on standard error how far a build is: by a line that is rewritten where that is a
+/// terminal, unless the environment says that it is not to be, and elsewhere where that says so.
+fn showing(rt: &HostRuntime) -> Showing {
+    match setting(rt, PROGRESS) {
+        Some(false) => Showing::Never,
+        _ if rt.stderr().is_terminal() => Showing::Rewritten,
+        Some(true) => Showing::Lines,
+        None => Showing::Never,
+    }
+}
+
+/// Whether the environment variable of that name is 1, where it is set.
+fn setting(rt: &HostRuntime, name: &str) -> Option<bool> {
+    let mut value = [0; SETTING_ROOM];
+    match rt.var(name, &mut value) {
+        Ok(size) => Some(size == 1 && value[0] == b'1'),
+        Err(FillError::TooLong) => Some(false),
+        Err(FillError::NotPresent) => None,
     }
 }
 

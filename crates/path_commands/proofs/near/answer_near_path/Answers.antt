@@ -2,7 +2,7 @@ use Rattle.std.proofs.Common.{subst}
 use Rattle.moves.specs.Paths.{IsLeastCost}
 use Rattle.near_rows.specs.NearWalks.{IsBegun}
 use Rattle.path_commands.proofs.NearTelling.{tells_near_walk, few_straight, few_diagonal}
-use Rattle.path_commands.proofs.near.near_path.Goals as goal
+use Rattle.path_commands.proofs.near.answer_near_path.Goals as goal
 
 pub near_path_text-requires-clause-straight : goal.near_path_text-requires-clause-straight
 near_path_text-requires-clause-straight c =
