@@ -11,8 +11,8 @@ use versions::Version;
 use walk_rows::{WalkError, walk_between};
 use walker::Walk;
 
-/// A family of made maps: their sides, how many of a hundred cells are passable, the order of the cells, how many seeds
-/// there are, and every how manieth cell is an end of walks.
+/// A family of made maps: how they are made but for the seed, the order of the cells, how many seeds there are, and every
+/// how manieth cell is an end of walks.
 #[derive(Clone, Copy)]
 struct Family<'a> {
     shape: &'a str,
@@ -21,8 +21,8 @@ struct Family<'a> {
     every: usize,
 }
 
-/// `walks alone | WIDTH HEIGHT PERCENT | ORDER | SEEDS EVERY`: for each seed below that number the walks between every so
-/// manieth cell of a made map, blocked ones among them, are told alone and by the version.
+/// `walks alone | made W H PERCENT | ORDER | SEEDS EVERY`, or with `mixed W H LAND WATER`: for each seed below that number
+/// the walks between every so manieth cell of a made map, blocked ones among them, are told alone and by the version.
 pub(crate) fn alone_said<R: Threads + Sync>(
     rt: &R,
     alloc: Global,
@@ -61,7 +61,7 @@ fn differences_at<R: Threads + Sync>(
     seed: u32,
 ) -> Result<u64, AllocError> {
     let shape = family.shape;
-    let named = format!(in alloc; "made {shape} {seed}")?;
+    let named = format!(in alloc; "{shape} {seed}")?;
     match grid_of(alloc, named.as_str())? {
         Some(grid) => {
             let version = version_of(rt, alloc, grid, 0, family.kind)?;

@@ -13,7 +13,7 @@ use case_kit::{escaped, grid_of, unescaped};
 use cell_order::OrderKind;
 use moves::Grid;
 use path_core::{Board, Entry, MAX_ENTRIES};
-use path_replay::{Event, EventsError, MAX_EVENTS_BYTES, read_events, run_events};
+use path_replay::{Events, EventsError, MAX_EVENTS_BYTES, read_events, run_events};
 use std::alloc::{AllocError, Global};
 use std::fmt::Write;
 use std::sync::Arc;
@@ -34,8 +34,8 @@ pub(crate) fn events_said(alloc: Global, input: &str) -> Result<String, AllocErr
 }
 
 /// The events of a text, or the number of the first line that is none; 0 where the text is too long.
-fn events_in(alloc: Global, text: &[u8]) -> Result<Result<Vec<Event>, u32>, AllocError>
-    ensures { IfOk result (λ read. IfOk read (λ events. HavePasses events.items)) }
+fn events_in(alloc: Global, text: &[u8]) -> Result<Result<Events, u32>, AllocError>
+    ensures { IfOk result (λ read. IfOk read (λ events. HavePasses events)) }
 {
     if text.len() > MAX_EVENTS_BYTES {
         return Ok(Err(0));
@@ -49,9 +49,9 @@ fn events_in(alloc: Global, text: &[u8]) -> Result<Result<Vec<Event>, u32>, Allo
 
 /// A board and the text that events printed on it.
 #[derive(Drop)]
-struct Replayed {
-    board: Board,
-    text: Text,
+pub(crate) struct Replayed {
+    pub(crate) board: Board,
+    pub(crate) text: Text,
 }
 
 /// `replay | MAP | EVENTS`: what the events of a text with escapes print, with escapes.
@@ -91,7 +91,7 @@ fn board_fields(input: &str) -> Option<(&str, u32, &str)> {
 }
 
 /// The board on a map after the events of a text with escapes; `None` where the map or a line is refused.
-fn replay_of<R: Threads + Sync>(
+pub(crate) fn replay_of<R: Threads + Sync>(
     rt: &R,
     alloc: Global,
     map: &str,
@@ -102,7 +102,7 @@ fn replay_of<R: Threads + Sync>(
     match (grid_of(alloc, map)?, events_in(alloc, text.as_slice())?) {
         (Some(grid), Ok(events)) => {
             let board = board_on(rt, alloc, grid, room.min(MAX_ENTRIES))?;
-            Ok(Some(run(alloc, board, events.as_slice())?))
+            Ok(Some(run(alloc, board, &events)?))
         }
         _ => Ok(None),
     }
@@ -127,7 +127,7 @@ pub(crate) fn board_on<R: Threads + Sync>(
 }
 
 /// Runs events on a board.
-fn run(alloc: Global, board: Board, events: &[Event]) -> Result<Replayed, AllocError>
+fn run(alloc: Global, board: Board, events: &Events) -> Result<Replayed, AllocError>
     requires board { MayBeReplayed board KIND }
     requires passes { HavePasses events.now }
 {
@@ -153,7 +153,7 @@ fn board_shown<R: Threads + Sync>(
     let mut text = String::new(alloc);
     write!(text, "room {}, {accepted} accepted, ", board.room())?;
     write!(text, "version {prefix}, {halts}:")?;
-    push_entries(&mut text, board.entries())?;
+    push_entries(&mut text, board)?;
     Ok(text)
 }
 
@@ -162,13 +162,22 @@ fn seen_apart<R: Threads + Sync>(rt: &R, board: &Board, version: &Arc<Version>) 
     join(rt, || board.accepted(), || version.prefix())
 }
 
+/// The entries of a board in words.
+pub(crate) fn entries_text(alloc: Global, board: &Board) -> Result<String, AllocError> {
+    let mut text = String::new(alloc);
+    push_entries(&mut text, board)?;
+    Ok(text)
+}
+
 /// Adds the entries of a board, with a comma between any two.
-pub(crate) fn push_entries(text: &mut String, entries: &[Entry]) -> Result<(), AllocError> {
-    for (place, entry) in entries.iter().enumerate() {
+pub(crate) fn push_entries(text: &mut String, board: &Board) -> Result<(), AllocError> {
+    for place in 0..board.entries() {
         if place > 0 {
             text.push(',')?;
         }
-        push_entry(text, *entry)?;
+        if let Some(entry) = board.entry(place) {
+            push_entry(text, entry)?;
+        }
     }
     Ok(())
 }
@@ -178,7 +187,7 @@ fn push_entry(text: &mut String, entry: Entry) -> Result<(), AllocError> {
     match entry {
         Entry::Accept { pass, edit } => {
             write!(text, " {pass} edits")?;
-            push_changes(text, edit)
+            push_changes(text, edit.changes())
         }
         Entry::Publish { pass, prefix } => write!(text, " {pass} publishes {prefix}"),
         Entry::Halt { pass } => write!(text, " {pass} halts"),

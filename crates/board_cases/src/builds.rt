@@ -3,7 +3,7 @@
 ghost use Rattle.std.specs.Prelude.{◌<◌, ◌≤◌, IfOk, IfSome};
 ghost use Rattle.moves.specs.Maps.{IsSearchable};
 
-use crate::fields::{not_a_case, order_of, three_fields};
+use crate::fields::{not_a_case, order_of, three_fields, two_fields};
 use crate::queries::next_at;
 use crate::versions_of::{all_cells, version_of};
 use build_pool::{FreeGate, MAX_WORKERS};
@@ -179,21 +179,20 @@ fn by_rows(alloc: Global, plan: Plan) -> Result<Built, AllocError> {
     })
 }
 
-/// A family of made maps: their sides, how many of a hundred cells are passable in the former map and in the later one,
-/// the order of the versions, and how many seeds there are.
+/// A family of made maps: how the former and the later ones are made but for the seed, the order of the versions, and how
+/// many seeds there are.
 #[derive(Clone, Copy)]
-struct Family {
-    width: u32,
-    height: u32,
-    former: u32,
-    later: u32,
+struct Family<'a> {
+    former: &'a str,
+    later: &'a str,
     kind: OrderKind,
     seeds: u32,
 }
 
-/// `ways | WIDTH HEIGHT FORMER LATER | ORDER | SEEDS`: for each seed below that number the versions of a made map are
-/// compared that are built one row at a time and by two workers, both after the version of a former map: what they
-/// report, their totals, and where a path goes on from each cell to each.
+/// `ways | made W H PERCENT | made W H PERCENT | ORDER | SEEDS`, or with `mixed W H LAND WATER`: for each seed below that
+/// number the versions of a made map are compared that are built one row at a time and by two workers, both after the
+/// version of a former map, which is the first: what they report, their totals, and where a path goes on from each cell
+/// to each.
 pub(crate) fn ways_said<R: Threads + Sync>(
     rt: &R,
     alloc: Global,
@@ -214,15 +213,11 @@ pub(crate) fn ways_said<R: Threads + Sync>(
 
 /// The family of a line.
 fn family_in(input: &str) -> Option<Family> {
-    let (numbers, order, seeds) = three_fields(input)?;
-    let (width, rest) = numbers.split_once(' ')?;
-    let (height, rest) = rest.split_once(' ')?;
-    let (former, later) = rest.split_once(' ')?;
+    let (former, later, rest) = three_fields(input)?;
+    let (order, seeds) = two_fields(rest)?;
     Some(Family {
-        width: width.parse().ok()?,
-        height: height.parse().ok()?,
-        former: former.parse().ok()?,
-        later: later.parse().ok()?,
+        former,
+        later,
         kind: order_of(order)?,
         seeds: seeds.parse().ok()?,
     })
@@ -235,24 +230,23 @@ fn differences_at<R: Threads + Sync>(
     family: Family,
     seed: u32,
 ) -> Result<u64, AllocError> {
-    let Some(grid) = made(alloc, family, family.former, seed)? else {
+    let Some(grid) = made(alloc, family.former, seed)? else {
         return Ok(1);
     };
     let former = version_of(rt, alloc, grid, 0, family.kind)?;
-    let slow = made(alloc, family, family.later, seed)?;
-    let fast = made(alloc, family, family.later, seed)?;
+    let slow = made(alloc, family.later, seed)?;
+    let fast = made(alloc, family.later, seed)?;
     match (slow, fast) {
         (Some(slow), Some(fast)) => compared(rt, alloc, &former, slow, fast),
         _ => Ok(1),
     }
 }
 
-/// The map of a family with so many of a hundred cells passable, at a seed.
-fn made(alloc: Global, family: Family, percent: u32, seed: u32) -> Result<Option<Grid>, AllocError>
+/// The map that is made so at a seed.
+fn made(alloc: Global, shape: &str, seed: u32) -> Result<Option<Grid>, AllocError>
     ensures { IfOk result (λ found. IfSome found IsSearchable) }
 {
-    let Family { width, height, .. } = family;
-    let named = format!(in alloc; "made {width} {height} {percent} {seed}")?;
+    let named = format!(in alloc; "{shape} {seed}")?;
     grid_of(alloc, named.as_str())
 }
 

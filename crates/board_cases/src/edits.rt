@@ -1,13 +1,20 @@
 //! Verdicts on edits, and lists of edits that are made on a map.
 
 use crate::fields::{cell_of, drawing_of, not_a_case, three_fields};
-use case_kit::grid_of;
-use edit_log::{CellChange, Edit, EditList, check};
-use moves::{Cell, Grid};
+use case_kit::{grid_of, name_of, terrain_named};
+use edit_log::{CellChange, Edit, EditList, MAX_CHANGES, check};
+use moves::{Cell, Grid, Terrain};
 use std::alloc::{AllocError, Global};
 use std::fmt::Write;
 
-/// `check | MAP | X Y free|blocked | ACCEPTED`: the verdict on an edit of one cell, after so many accepted edits.
+/// What stands in a list before its changes do.
+pub(crate) const BLANK: CellChange = CellChange {
+    cell: Cell { x: 0, y: 0 },
+    terrain: Terrain::Blocked,
+};
+
+/// `check | MAP | EDIT | ACCEPTED`: the verdict on an edit, after so many accepted edits. An edit is `X Y water`, with
+/// `blocked`, `land` or `water`, or several such changes with ` + ` between them.
 pub(crate) fn check_said(alloc: Global, input: &str) -> Result<String, AllocError> {
     match check_fields(input) {
         Some((map, edit, accepted)) => match grid_of(alloc, map)? {
@@ -24,16 +31,28 @@ fn check_fields(input: &str) -> Option<(&str, Edit, u32)> {
     Some((map, edit_of(edit)?, accepted.parse().ok()?))
 }
 
-/// The edit of `X Y free` or `X Y blocked`.
+/// The edit of a text; `None` where it is none.
 pub(crate) fn edit_of(text: &str) -> Option<Edit> {
-    let (cell, becomes) = text.rsplit_once(' ')?;
-    let passable = match becomes {
-        "free" => true,
-        "blocked" => false,
-        _ => return None,
-    };
+    let mut changes = [BLANK; MAX_CHANGES];
+    let mut rest = text;
+    for place in 0..MAX_CHANGES {
+        let (part, behind) = rest.split_once(" + ").unwrap_or((rest, ""));
+        let change = change_of(part)?;
+        changes[place] = change;
+        if behind.is_empty() {
+            return Edit::of(&changes[..place + 1]);
+        }
+        rest = behind;
+    }
+    None
+}
+
+/// The change of `X Y water`.
+fn change_of(part: &str) -> Option<CellChange> {
+    let (cell, becomes) = part.rsplit_once(' ')?;
     let cell = cell_of(cell)?;
-    Some(Edit::one(CellChange { cell, passable }))
+    let terrain = terrain_named(becomes)?;
+    Some(CellChange { cell, terrain })
 }
 
 /// The verdict on an edit in words.
@@ -43,14 +62,14 @@ fn verdict_shown(
     accepted: u32,
     edit: Edit,
 ) -> Result<String, AllocError> {
-    match check(grid, accepted, edit) {
+    match check(grid, accepted, &edit) {
         Ok(()) => String::from_str(alloc, "accepted"),
         Err(why) => format!(in alloc; "{why}"),
     }
 }
 
-/// `edits | MAP | X Y free|blocked, .. | PLACE`: a list of these edits, what stands at a place of it and from there on,
-/// and the map after all of them.
+/// `edits | MAP | EDIT, EDIT | PLACE`: a list of these edits, what stands at a place of it and from there on, and the
+/// map after all of them.
 pub(crate) fn edits_said(alloc: Global, input: &str) -> Result<String, AllocError> {
     match edits_fields(input) {
         Some((map, edits, place)) => match (grid_of(alloc, map)?, edits_of(alloc, edits)?) {
@@ -88,7 +107,7 @@ fn listed(alloc: Global, edits: &[Edit]) -> Result<EditList, AllocError> {
     if let Some((last, front)) = edits.split_last() {
         push_all(&mut list, front)?;
         list.reserve_one()?;
-        list.push_reserved(*last);
+        list.push_reserved(last);
     }
     Ok(list)
 }
@@ -100,7 +119,7 @@ fn push_all(list: &mut EditList, edits: &[Edit]) -> Result<(), AllocError> {
     };
     list.reserve(count)?;
     for edit in edits {
-        list.push_reserved(*edit);
+        list.push_reserved(edit);
     }
     Ok(())
 }
@@ -128,14 +147,17 @@ fn list_shown(
 /// Adds an edit, if there is one.
 fn push_edit(text: &mut String, edit: Option<Edit>) -> Result<(), AllocError> {
     match edit {
-        Some(edit) => push_changes(text, edit),
+        Some(edit) => push_changes(text, edit.changes()),
         None => text.push_str(" none"),
     }
 }
 
-/// Adds the changes of an edit.
-pub(crate) fn push_changes(text: &mut String, edit: Edit) -> Result<(), AllocError> {
-    for change in edit.changes() {
+/// Adds the changes of an edit, with a plus sign between any two.
+pub(crate) fn push_changes(text: &mut String, changes: &[CellChange]) -> Result<(), AllocError> {
+    for (place, change) in changes.iter().enumerate() {
+        if place > 0 {
+            text.push_str(" +")?;
+        }
         push_change(text, *change)?;
     }
     Ok(())
@@ -144,7 +166,7 @@ pub(crate) fn push_changes(text: &mut String, edit: Edit) -> Result<(), AllocErr
 /// Adds a change of a cell.
 fn push_change(text: &mut String, change: CellChange) -> Result<(), AllocError> {
     let Cell { x, y } = change.cell;
-    let becomes = if change.passable { "free" } else { "blocked" };
+    let becomes = name_of(change.terrain);
     write!(text, " {x} {y} ")?;
     text.push_str(becomes)
 }
@@ -154,8 +176,8 @@ fn push_list(text: &mut String, list: &EditList) -> Result<(), AllocError> {
     if list.is_empty() {
         return text.push_str(" none");
     }
-    for edit in list.items() {
-        push_changes(text, *edit)?;
+    for place in 0..list.len() {
+        push_changes(text, list.changes_at(place))?;
     }
     Ok(())
 }
@@ -163,14 +185,16 @@ fn push_list(text: &mut String, list: &EditList) -> Result<(), AllocError> {
 /// The map after the edits of a list, of which a refused one changes nothing.
 fn edited(grid: Grid, list: &EditList) -> Grid {
     let mut grid = grid;
-    for edit in list.items() {
-        make(&mut grid, *edit);
+    for place in 0..list.len() {
+        if let Some(edit) = list.get(place) {
+            make(&mut grid, &edit);
+        }
     }
     grid
 }
 
 /// Makes an edit on a map, where it may be accepted.
-fn make(grid: &mut Grid, edit: Edit) {
+fn make(grid: &mut Grid, edit: &Edit) {
     if check(grid, 0, edit).is_ok() {
         edit.apply(grid);
     }

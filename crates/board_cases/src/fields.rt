@@ -1,7 +1,7 @@
 //! The fields of a line.
 
 use cell_order::OrderKind;
-use moves::{Cell, Grid};
+use moves::{Cell, Grid, Terrain};
 use std::alloc::{AllocError, Global};
 
 /// What a line is answered by that is not in form.
@@ -39,7 +39,7 @@ pub(crate) fn order_of(name: &str) -> Option<OrderKind> {
     }
 }
 
-/// The rows of a map with `/` between them, a passable cell as `.` and a blocked one as `@`.
+/// The rows of a map with `/` between them: `.` for land, `W` for water and `@` for a blocked cell.
 pub(crate) fn drawing_of(alloc: Global, grid: &Grid) -> Result<String, AllocError> {
     let mut text = String::new(alloc);
     for row in 0..grid.height() {
@@ -58,7 +58,11 @@ fn push_row(grid: &Grid, row: u16, text: &mut String) -> Result<(), AllocError> 
             x: column as u16,
             y: row,
         };
-        text.push(if grid.passable(cell) { '.' } else { '@' })?;
+        text.push(match grid.terrain(cell) {
+            Terrain::Blocked => '@',
+            Terrain::Land => '.',
+            Terrain::Water => 'W',
+        })?;
     }
     Ok(())
 }

@@ -6,7 +6,9 @@ mod boards;
 mod builds;
 mod edits;
 mod fields;
+mod histories;
 mod near;
+mod plain_board;
 mod queries;
 mod scenarios;
 mod shared;
@@ -52,6 +54,8 @@ fn board_answer<R: Threads + Wait + Sync>(
     let said = match kind {
         "check" => edits::check_said(alloc, input)?,
         "edits" => edits::edits_said(alloc, input)?,
+        "verdicts" => histories::verdicts_said(alloc, input)?,
+        "histories" => histories::histories_said(rt, alloc, input)?,
         "events" => boards::events_said(alloc, input)?,
         "replay" => boards::replay_said(rt, alloc, input)?,
         "board" => boards::board_said(rt, alloc, input)?,

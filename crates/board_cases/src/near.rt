@@ -18,8 +18,16 @@ use std::thread::Threads;
 /// The sides of the maps go up to this.
 const MOST: u32 = 7;
 
-/// How many cells in a hundred are passable, in turn.
-const PERCENTS: [u32; 7] = [100, 86, 80, 75, 62, 50, 38];
+/// How many cells in a hundred are land, and how many water, in turn.
+const SHARES: [(u32, u32); 7] = [
+    (100, 0),
+    (86, 0),
+    (80, 20),
+    (75, 0),
+    (31, 31),
+    (50, 0),
+    (38, 50),
+];
 
 /// The column and the row that each move adds, by its number.
 const STEPS: [(i32, i32); 8] = [
@@ -174,8 +182,8 @@ fn differences_at<R: Threads + Sync>(
 ) -> Result<u64, AllocError> {
     let width = number % MOST + 1;
     let height = number / MOST % MOST + 1;
-    let percent = PERCENTS[number as usize % 7];
-    let named = format!(in alloc; "made {width} {height} {percent} {number}")?;
+    let (land, water) = SHARES[number as usize % 7];
+    let named = format!(in alloc; "mixed {width} {height} {land} {water} {number}")?;
     match grid_of(alloc, named.as_str())? {
         Some(grid) => {
             let version = version_of(rt, alloc, grid, 0, kind)?;

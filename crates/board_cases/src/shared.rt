@@ -14,7 +14,7 @@ use crate::fields::{not_a_case, two_fields};
 use build_pool::FreeGate;
 use case_kit::grid_of;
 use edit_log::{CellChange, Edit, apply};
-use moves::{Cell, Grid};
+use moves::{Cell, Grid, Terrain};
 use path_board::{Moved, Note, Pass, SharedBoard};
 use path_core::{Board, Entry, Job, PublishError, SubmitError};
 use std::alloc::{AllocError, Global};
@@ -65,8 +65,8 @@ impl Pair {
     }
 }
 
-/// `met pass | MAP | X Y free|blocked`: A makes an edit, builds the version after it and publishes that, and B meets a
-/// note of A: what either is told, and the entries of the board at the end.
+/// `met pass | MAP | EDIT`: A makes an edit, builds the version after it and publishes that, and B meets a note of A:
+/// what either is told, and the entries of the board at the end.
 pub(crate) fn met_said<R: Threads + Wait + Sync>(
     rt: &R,
     alloc: Global,
@@ -110,7 +110,7 @@ fn met_shown<R: Threads + Wait + Sync>(
     hear(rt, &board, &mut b, note, &mut text)?;
     let board = Pair { board, a, b, room }.close();
     text.push_str(" Entries:")?;
-    push_entries(&mut text, board.entries())?;
+    push_entries(&mut text, &board)?;
     Ok(text)
 }
 
@@ -253,9 +253,8 @@ fn two_shown<R: Threads + Wait + Sync>(
         || submit_all(rt, &board, b, count),
     );
     let board = Pair { board, a, b, room }.close();
-    let entries = board.entries();
-    let in_order = has_in_order(entries, 0, count) && has_in_order(entries, 1, count);
-    let total = entries.len();
+    let in_order = has_in_order(&board, 0, count) && has_in_order(&board, 1, count);
+    let total = board.entries();
     format!(in alloc; "{first} and {second} accepted, {total} entries, in order: {in_order}")
 }
 
@@ -279,22 +278,44 @@ fn blocking(number: u32) -> Edit {
     let x = (number % 3) as u16;
     Edit::one(CellChange {
         cell: Cell { x, y: 0 },
-        passable: false,
+        terrain: Terrain::Blocked,
     })
 }
 
 /// Whether the edits of a pass are the first so many that it submits, in order.
-fn has_in_order(entries: &[Entry], pass: u32, count: u32) -> bool {
+fn has_in_order(board: &Board, pass: u32, count: u32) -> bool {
     let mut next: u32 = 0;
-    for entry in entries {
-        if let Entry::Accept { pass: by, edit } = *entry {
-            if by == pass {
-                if edit != blocking(next) {
-                    return false;
-                }
-                next = next.wrapping_add(1);
+    for place in 0..board.entries() {
+        if let Some(entry) = board.entry(place) {
+            match told_by(&entry, pass, next) {
+                Told::Other => {}
+                Told::Next => next = next.wrapping_add(1),
+                Told::Wrong => return false,
             }
         }
     }
     next == count
+}
+
+/// What an entry is to a pass that has so many edits before it: its next one, a wrong one, or none of its edits.
+enum Told {
+    Next,
+    Wrong,
+    Other,
+}
+
+/// What an entry is to a pass that has so many edits before it.
+fn told_by(entry: &Entry, pass: u32, before: u32) -> Told {
+    match entry {
+        Entry::Accept { pass: by, edit } => {
+            if *by != pass {
+                Told::Other
+            } else if *edit == blocking(before) {
+                Told::Next
+            } else {
+                Told::Wrong
+            }
+        }
+        _ => Told::Other,
+    }
 }

@@ -75,8 +75,7 @@ fn push_cost(text: &mut String, cost: Cost) -> Result<(), AllocError> {
     write!(text, ", {straight} straight {diagonal} diagonal")
 }
 
-/// A family of made maps: their sides, how many of a hundred cells are passable, the order of the versions, and how
-/// many seeds there are.
+/// A family of made maps: how they are made but for the seed, the order of the versions, and how many seeds there are.
 #[derive(Clone, Copy)]
 struct Family<'a> {
     shape: &'a str,
@@ -84,9 +83,9 @@ struct Family<'a> {
     seeds: u32,
 }
 
-/// `walks | WIDTH HEIGHT PERCENT | ORDER | SEEDS`: for each seed below that number the walks between all cells of a
-/// made map are compared with searches: each costs what the search finds, each of its moves is legal, and it ends at
-/// the goal.
+/// `walks | made W H PERCENT | ORDER | SEEDS`, or with `mixed W H LAND WATER`: for each seed below that number the walks
+/// between all cells of a made map are compared with searches: each costs what the search finds, each of its moves is
+/// legal, and it ends at the goal.
 pub(crate) fn walks_said<R: Threads + Sync>(
     rt: &R,
     alloc: Global,
@@ -123,7 +122,7 @@ fn differences_at<R: Threads + Sync>(
     seed: u32,
 ) -> Result<u64, AllocError> {
     let shape = family.shape;
-    let named = format!(in alloc; "made {shape} {seed}")?;
+    let named = format!(in alloc; "{shape} {seed}")?;
     match grid_of(alloc, named.as_str())? {
         Some(grid) => {
             let version = version_of(rt, alloc, grid, 0, family.kind)?;

@@ -5,14 +5,15 @@ ghost use Rattle.moves.specs.Maps.{IsSearchable, IsWithinLimits};
 
 use crate::random::Random;
 use map_read::{MAX_MAP_BYTES, MapError, read_map};
-use moves::{Grid, MAX_CELLS, MAX_PASSABLE, MAX_SIDE};
+use moves::{Grid, MAX_CELLS, MAX_PASSABLE, MAX_SIDE, Terrain};
 use std::alloc::{AllocError, Global};
 
 /// The map that a text names, or `None` where it names none that may be searched. A map is
 ///
 /// - drawn row by row with `/` between the rows, as `..@/...`;
-/// - `made W H PERCENT SEED`: about so many of a hundred cells are passable, which ones the seed decides;
-/// - `first W H COUNT`: the first so many cells are passable, row by row.
+/// - `made W H PERCENT SEED`: about so many of a hundred cells are land, which ones the seed decides;
+/// - `mixed W H LAND WATER SEED`: about so many of a hundred cells are land, and so many water;
+/// - `first W H COUNT`: the first so many cells are land, row by row.
 pub fn grid_of(alloc: Global, text: &str) -> Result<Option<Grid>, AllocError>
     ensures { IfOk result (λ found. IfSome found IsSearchable) }
 {
@@ -31,12 +32,23 @@ fn by_rule(alloc: Global, kind: &str, numbers: &str) -> Result<Option<Grid>, All
             Some(numbers) => made(alloc, numbers),
             None => Ok(None),
         },
+        "mixed" => match five_numbers(numbers) {
+            Some(numbers) => mixed(alloc, numbers),
+            None => Ok(None),
+        },
         "first" => match three_numbers(numbers) {
             Some(numbers) => first(alloc, numbers),
             None => Ok(None),
         },
         _ => Ok(None),
     }
+}
+
+/// The five numbers of a text, with a space between any two.
+fn five_numbers(text: &str) -> Option<[u32; 5]> {
+    let (front, last) = text.rsplit_once(' ')?;
+    let [a, b, c, d] = four_numbers(front)?;
+    Some([a, b, c, d, last.parse().ok()?])
 }
 
 /// The four numbers of a text, with a space between any two.
@@ -81,7 +93,7 @@ fn read(alloc: Global, text: &[u8]) -> Result<Option<Grid>, AllocError>
     }
 }
 
-/// The map of a width and a height with about so many in a hundred of the cells passable, by a seed.
+/// The map of a width and a height with about so many in a hundred of the cells land, by a seed.
 fn made(alloc: Global, numbers: [u32; 4]) -> Result<Option<Grid>, AllocError>
     ensures { IfOk result (λ found. IfSome found IsSearchable) }
 {
@@ -97,7 +109,23 @@ fn made(alloc: Global, numbers: [u32; 4]) -> Result<Option<Grid>, AllocError>
     searchable(Grid::of_cells(alloc, width, height, cells)?)
 }
 
-/// The map of a width and a height whose first so many cells are passable.
+/// The map of a width and a height with about so many in a hundred of the cells land and so many water, by a seed.
+fn mixed(alloc: Global, numbers: [u32; 5]) -> Result<Option<Grid>, AllocError>
+    ensures { IfOk result (λ found. IfSome found IsSearchable) }
+{
+    let [width, height, land, water, seed] = numbers;
+    if !are_sides(width, height) {
+        return Ok(None);
+    }
+    let mut cells = vec![in alloc; Terrain::Blocked; (width * height) as usize]?;
+    let mut random = Random::of(seed);
+    for cell in cells.iter_mut() {
+        *cell = random.terrain(land, water);
+    }
+    searchable(Grid::of_terrain(alloc, width, height, cells)?)
+}
+
+/// The map of a width and a height whose first so many cells are land.
 fn first(alloc: Global, numbers: [u32; 3]) -> Result<Option<Grid>, AllocError>
     ensures { IfOk result (λ found. IfSome found IsSearchable) }
 {

@@ -63,7 +63,7 @@ fn push_answer(said: &mut String, answered: Answered) -> Result<(), AllocError> 
 
 /// Adds how many entries a board has.
 fn push_entries(said: &mut String, lone: &Lone) -> Result<(), AllocError> {
-    let count = lone.board.entries().len();
+    let count = lone.board.entries();
     write!(said, "{count} entries")
 }
 

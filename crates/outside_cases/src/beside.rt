@@ -9,7 +9,7 @@ use crate::requests::request_of;
 use crate::said::{begin_part, hex_or_none};
 use build_pool::FreeGate;
 use path_core::Board;
-use query_proto::{HEAD_ROOM, MAX_REPLY, Reply, Request, decode_reply, encode_request};
+use query_proto::{MAX_REPLY, REQUEST_ROOM, Reply, Request, decode_reply, encode_request};
 use session::{Served, serve_board};
 use std::alloc::{AllocError, Global};
 use std::fmt::Write;
@@ -21,29 +21,33 @@ use wire::{Door, Failed, HostBell, Knock, Link};
 /// How many bytes stand before a reply and say how long it is.
 const LENGTH: usize = 4;
 
-/// What a client does next.
+/// What a client does next: it sends a request, and where a version is named it asks for the state, again and again, until
+/// that is published.
 #[derive(Clone, Copy)]
-enum Step {
-    /// It sends this request.
-    Ask(Request),
-    /// It asks for the state, again and again, until that version is published.
-    Await(u32),
+struct Step {
+    /// The bytes of the request, and how many they are.
+    request: [u8; REQUEST_ROOM],
+    size: usize,
+    until: Option<u32>,
 }
 
 impl Step {
-    /// The request that is sent for it.
-    fn request(self) -> Request {
-        match self {
-            Step::Ask(request) => request,
-            Step::Await(_) => Request::Status,
+    /// The step of a request.
+    fn of(request: &Request, until: Option<u32>) -> Step {
+        let mut room = [0; REQUEST_ROOM];
+        let size = encode_request(request, &mut room);
+        Step {
+            request: room,
+            size,
+            until,
         }
     }
 
     /// Whether this reply ends it.
     fn is_done_by(self, reply: &[u8]) -> bool {
-        match self {
-            Step::Ask(_) => true,
-            Step::Await(wanted) => told_version(reply).is_some_and(|version| version >= wanted),
+        match self.until {
+            Some(wanted) => told_version(reply).is_some_and(|version| version >= wanted),
+            None => true,
         }
     }
 }
@@ -66,7 +70,7 @@ struct Client {
     /// How many steps are done.
     done: usize,
     /// The request that is being sent, how many bytes it has, and how many of them are sent.
-    request: [u8; HEAD_ROOM],
+    request: [u8; REQUEST_ROOM],
     size: usize,
     sent: usize,
     /// All replies but those that did not end a step.
@@ -82,7 +86,7 @@ impl Client {
         Client {
             steps,
             done: 0,
-            request: [0; HEAD_ROOM],
+            request: [0; REQUEST_ROOM],
             size: 0,
             sent: 0,
             heard: Vec::new(alloc),
@@ -107,10 +111,11 @@ impl Client {
         }
         self.last = self.heard.len();
         self.sent = 0;
-        self.size = match self.steps.get(self.done) {
-            Some(step) => encode_request(&step.request(), &mut self.request),
-            None => 0,
-        };
+        self.size = 0;
+        if let Some(step) = self.steps.get(self.done) {
+            self.request = step.request;
+            self.size = step.size;
+        }
     }
 
     /// Takes the step as done where the last reply ends it, and forgets that reply where it does not.
@@ -211,8 +216,8 @@ impl Door for Hall {
 /// The step of these words: a request, or `await N`.
 fn step_of(words: &str) -> Option<Step> {
     match words.strip_prefix("await ") {
-        Some(version) => Some(Step::Await(version.parse().ok()?)),
-        None => Some(Step::Ask(request_of(words)?)),
+        Some(version) => Some(Step::of(&Request::Status, Some(version.parse().ok()?))),
+        None => Some(Step::of(&request_of(words)?, None)),
     }
 }
 
@@ -287,7 +292,7 @@ fn three_doors(alloc: Global, first: Hall, second: Hall) -> Result<Vec<Hall>, Al
 /// What a board is like that was served, and what was heard at each door.
 fn board_said(alloc: Global, served: &Served<Hall>) -> Result<String, AllocError> {
     let failed = served.failed;
-    let count = served.board.entries().len();
+    let count = served.board.entries();
     let builds = served.builds;
     let mut heard = String::new(alloc);
     for door in &served.doors {

@@ -78,7 +78,7 @@ fn served_said<R: Threads + Wait + Sync>(
 /// What a board is like that was served, and what was sent on each connection.
 fn board_said(alloc: Global, served: &Served<MemDoor>) -> Result<String, AllocError> {
     let failed = served.failed;
-    let count = served.board.entries().len();
+    let count = served.board.entries();
     let builds = served.builds;
     let mut said = format!(in alloc; "failed {failed}; {count} entries; {builds:?}; sent ")?;
     push_sent(alloc, &mut said, &served.doors)?;

@@ -4,7 +4,7 @@ ghost use Rattle.std.specs.Prelude.{◌<◌, IfOk, IfSome};
 ghost use Rattle.moves.specs.Maps.{IsSearchable};
 
 use crate::fields::{numbers_in, parted, tally};
-use crate::{builds, edits, labelling, searches, sets, tiling};
+use crate::{builds, edits, labelling, plain_maps, searches, sets, tiling};
 use case_kit::grid_of;
 use moves::Grid;
 use std::alloc::{AllocError, Global};
@@ -12,6 +12,9 @@ use std::thread::Threads;
 
 /// How many cells in a hundred are passable, in turn, where a family varies that.
 const PERCENTS: [u32; 7] = [100, 86, 80, 75, 62, 50, 38];
+
+/// How many of those are water, in turn, where a family has water.
+const WATER: [u32; 5] = [50, 36, 14, 25, 2];
 
 /// So many made maps.
 #[derive(Drop)]
@@ -21,13 +24,20 @@ struct Family {
     width: u32,
     height: u32,
     percent: Option<u32>,
+    /// Whether some of the passable cells are water.
+    mixed: bool,
     count: u32,
     ghost sides: { (0 < width) × (0 < height) },
 }
 
 impl Family {
-    /// The family that a text names: `W H PERCENT COUNT`, or `W H COUNT` where the sides vary up to these.
+    /// The family that a text names: `W H PERCENT COUNT`, or `W H COUNT` where the sides vary up to these. With `mixed`
+    /// in front of it the maps have water too.
     fn of(alloc: Global, text: &str) -> Result<Option<Family>, AllocError> {
+        let (mixed, text) = match text.strip_prefix("mixed ") {
+            Some(rest) => (true, rest),
+            None => (false, text),
+        };
         let Some(numbers) = numbers_in(alloc, text)? else {
             return Ok(None);
         };
@@ -43,6 +53,7 @@ impl Family {
             width,
             height,
             percent,
+            mixed,
             count,
         }))
     }
@@ -52,8 +63,19 @@ impl Family {
         ensures { IfOk result (λ found. IfSome found IsSearchable) }
     {
         let [width, height, percent] = self.form(number);
-        let text = format!(in alloc; "made {width} {height} {percent} {number}")?;
+        let water = self.water(number).min(percent);
+        let land = percent.saturating_sub(water);
+        let text = format!(in alloc; "mixed {width} {height} {land} {water} {number}")?;
         grid_of(alloc, text.as_str())
+    }
+
+    /// How many of a hundred cells of the map with that number are water, where as many are passable.
+    fn water(&self, number: u32) -> u32 {
+        if self.mixed {
+            WATER[number as usize % 5]
+        } else {
+            0
+        }
     }
 
     /// The width and the height of the map with that number, and how many of a hundred of its cells are passable.
@@ -118,6 +140,7 @@ fn compared<R: Threads + Sync>(
     requires { IsSearchable grid.now }
 {
     let found = match comparison {
+        "costs, components and counts by the rules" => plain_maps::differences(alloc, grid)?,
         "search and plain scan" => searches::differences(alloc, grid)?,
         "first moves and costs" => sets::differences(alloc, grid)?,
         "components and paths" => labelling::differences(alloc, grid)?,

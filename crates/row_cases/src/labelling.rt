@@ -3,9 +3,9 @@
 ghost use Rattle.std.specs.Prelude.{◌<◌};
 
 use crate::fields::{cells_of, cells_within};
-use case_kit::grid_of;
+use case_kit::{PlainMap, grid_of};
 use components::{Labels, label};
-use moves::{Cell, Grid, place};
+use moves::{Cell, Grid};
 use std::alloc::{AllocError, Global};
 use std::fmt::Write;
 
@@ -38,7 +38,7 @@ pub fn labels_text(alloc: Global, grid: &Grid, labels: &Labels) -> Result<String
 /// in another order.
 pub fn differences(alloc: Global, grid: &Grid) -> Result<u32, AllocError> {
     let cells = cells_of(alloc, grid)?;
-    let wanted = plain_numbers(alloc, grid, &cells)?;
+    let wanted = plain_numbers(alloc, grid)?;
     let labels = label(alloc, grid)?;
     let beyond = numbers_beyond(alloc, grid, &labels)?;
     let inside = numbers_differ(&labels, &cells, &wanted);
@@ -47,54 +47,25 @@ pub fn differences(alloc: Global, grid: &Grid) -> Result<u32, AllocError> {
 }
 
 /// The number of each cell's component, row by row: components are numbered by their least cells.
-fn plain_numbers(
-    alloc: Global,
-    grid: &Grid,
-    cells: &[Cell],
-) -> Result<Vec<Option<u32>>, AllocError> {
-    let least = least_places(alloc, grid, cells)?;
+fn plain_numbers(alloc: Global, grid: &Grid) -> Result<Vec<Option<u32>>, AllocError> {
+    let least = PlainMap::of(alloc, grid)?.least_places(alloc)?;
     let mut numbers = Vec::new(alloc);
     let mut next: u32 = 0;
-    for (place, cell) in cells.iter().enumerate() {
-        let root = least.get(place).copied().unwrap_or(0);
-        if !grid.passable(*cell) {
-            numbers.push(None)?;
-        } else if root == place {
+    for (place, root) in least.iter().enumerate() {
+        if *root == Some(place) {
             numbers.push(Some(next))?;
             next = next.saturating_add(1);
         } else {
-            let number = numbers.get(root).copied().unwrap_or(None);
+            let number = number_at(&numbers, *root);
             numbers.push(number)?;
         }
     }
     Ok(numbers)
 }
 
-/// The least place that paths reach from each place, found by going over all legal moves again and again.
-fn least_places(alloc: Global, grid: &Grid, cells: &[Cell]) -> Result<Vec<usize>, AllocError> {
-    let mut least = Vec::new(alloc);
-    for place in 0..cells.len() {
-        least.push(place)?;
-    }
-    for _ in 0..cells.len() {
-        for (place, cell) in cells.iter().enumerate() {
-            lower_beside(grid, *cell, place, least.as_mut_slice());
-        }
-    }
-    Ok(least)
-}
-
-/// Lets the cells to which a move leads from a cell reach what it reaches.
-fn lower_beside(grid: &Grid, cell: Cell, here: usize, least: &mut [usize]) {
-    if !grid.inside(cell) {
-        return;
-    }
-    let reached = least.get(here).copied().unwrap_or(here);
-    for (_by, to) in grid.neighbours(cell).iter() {
-        if let Some(there) = least.get_mut(place(grid.width(), *to)) {
-            *there = reached.min(*there);
-        }
-    }
+/// The number at a place, if there is one.
+fn number_at(numbers: &[Option<u32>], place: Option<usize>) -> Option<u32> {
+    numbers.get(place?).copied()?
 }
 
 /// How many cells just beyond the sides of the map have a number.

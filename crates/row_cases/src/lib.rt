@@ -12,6 +12,7 @@ mod gates;
 mod labelling;
 mod orders;
 mod packing;
+mod plain_maps;
 mod plain_rows;
 mod plain_scan;
 mod pools;

@@ -6,7 +6,7 @@ use crate::refusal::Refusal;
 use crate::words::words_of;
 use case_kit::escaped;
 use path_commands::{
-    Request, RequestError, Status, advice, is_ask, is_serve, is_talk, made_grid, read_request,
+    Request, RequestError, Seen, Status, advice, is_ask, is_serve, is_talk, made_grid, read_request,
 };
 use std::alloc::Global;
 
@@ -33,7 +33,7 @@ pub fn advice_said(alloc: Global, input: &str) -> Result<String, Refusal> {
     let (name, line) = input.split_once(" | ").ok_or(Refusal::OutOfForm)?;
     let status = status_named(name).ok_or(Refusal::OutOfForm)?;
     let words = words_of(alloc, line)?;
-    let text = advice(alloc, words.as_slice(), &status, None)?;
+    let text = advice(alloc, words.as_slice(), &status, Seen::NOTHING)?;
     if text.is_empty() {
         return Ok(String::from_str(alloc, "nothing")?);
     }

@@ -1,7 +1,7 @@
 //! The files `M` and `S` of a run.
 
 use crate::refusal::Refusal;
-use crate::settings::{number, numbers, value};
+use crate::settings::{bytes, number, numbers, value};
 use case_kit::unescaped;
 use std::alloc::{AllocError, Global};
 use std::fmt::Write;
@@ -36,6 +36,9 @@ fn map_bytes(alloc: Global, settings: &str) -> Result<Vec<u8>, Refusal> {
     }
     if let Some(rows) = value(settings, "rows") {
         return Ok(drawn(alloc, rows)?);
+    }
+    if let Some(pairs) = value(settings, "M-bytes") {
+        return bytes(alloc, pairs);
     }
     match value(settings, "tiled") {
         Some(tiling) => tiled(alloc, tiling),

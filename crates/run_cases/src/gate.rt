@@ -1,6 +1,7 @@
 //! A gate that counts.
 
 use build_pool::Gate;
+use path_commands::Watch;
 use std::sync::atomic::{AtomicU64, Ordering};
 
 /// A gate that counts the pieces of builds that pass.
@@ -28,3 +29,5 @@ impl Gate for CountGate {
         self.entered.fetch_add(1, Ordering::SeqCst);
     }
 }
+
+impl Watch for CountGate {}

@@ -9,7 +9,8 @@ use std::alloc::{AllocError, Global};
 /// Refuses settings with a name that is none of these:
 ///
 /// - `rows ROWS`: the file `M` is the map with these rows, with `/` between them; `tiled TILE W H`: it is a map of which
-///   each row repeats the tile; `M TEXT`: it has this text with escapes. Without any of them it is empty;
+///   each row repeats the tile; `M TEXT`: it has this text with escapes; `M-bytes HEX`: it has these bytes. Without any of
+///   them it is empty;
 /// - `S TEXT`: the text with escapes of the file `S`;
 /// - `M-size N`, `S-size N`: as many line feeds follow in the file as it takes to have so many bytes;
 /// - `input HEX`: the bytes that come in on the input; `held TEXT`: what was put on the output before;
@@ -29,7 +30,7 @@ pub fn check_names(settings: &str) -> Result<(), Refusal> {
 /// Whether a setting has that name; the empty one where a run has no settings.
 fn is_name(name: &str) -> bool {
     match name {
-        "" | "rows" | "tiled" | "M" | "S" | "M-size" | "S-size" => true,
+        "" | "rows" | "tiled" | "M" | "S" | "M-bytes" | "M-size" | "S-size" => true,
         "input" | "held" | "doors" | "link" => true,
         "read-fails" | "put-fails" | "recv-fails" => true,
         "send-fails" | "knock-fails" | "house-fails" => true,

@@ -21,3 +21,4 @@ can_be_sent (reply.Status version accepted cells comps runs) frame spells = omeg
 can_be_sent reply.Done frame spells = omega arith
 can_be_sent (reply.Malformed kind size) frame spells = omega arith
 can_be_sent reply.NoMemory frame spells = omega arith
+can_be_sent reply.Welcome frame spells = omega arith

@@ -4,7 +4,7 @@ ghost use Rattle.moves.specs.Maps.{IsInside};
 
 use crate::fields::{cell_in, not_a_case};
 use case_kit::grid_of;
-use moves::{Cell, Grid, Move, place};
+use moves::{Cell, Grid, Move, Terrain, place};
 use std::alloc::{AllocError, Global};
 use std::fmt::Write;
 
@@ -36,6 +36,23 @@ fn cell_said(alloc: Global, grid: &Grid, cell: Cell) -> Result<String, AllocErro
     let passable = grid.passable(cell);
     let place = place(grid.width(), cell);
     format!(in alloc; "inside {inside}, passable {passable}, place {place}")
+}
+
+/// `MAP | X Y`: what stands at the cell.
+pub fn terrain(alloc: Global, input: &str) -> Result<String, AllocError> {
+    match grid_and_cell(alloc, input)? {
+        Some((grid, cell)) => String::from_str(alloc, name_of(grid.terrain(cell))),
+        None => not_a_case(alloc),
+    }
+}
+
+/// A terrain in words.
+fn name_of(terrain: Terrain) -> &'static str {
+    match terrain {
+        Terrain::Blocked => "blocked",
+        Terrain::Land => "land",
+        Terrain::Water => "water",
+    }
 }
 
 /// `MAP | X Y`: the legal moves of the cell one by one as bits, the highest first, as the map keeps them, and as a list
@@ -81,8 +98,9 @@ pub fn kept_mask(grid: &Grid, cell: Cell) -> u8 {
     grid.move_masks().get(place).copied().unwrap_or(0)
 }
 
-/// A map of three columns and two rows that is drawn, one that is given by its list of cells, and a copy, each as its
-/// rows and the number of its passable cells.
+/// Maps of three columns and two rows, each as its rows and the number of its passable cells: one that is drawn, its
+/// copy, the same by its list of cells, and a blocked one; and one with water that is drawn, its copy, and the same by
+/// its list of cells.
 pub fn made(alloc: Global) -> Result<String, AllocError> {
     let mut said = String::new(alloc);
     let drawn = Grid::of_rows(alloc, 3, 2, "..@/.T.")?;
@@ -90,7 +108,23 @@ pub fn made(alloc: Global) -> Result<String, AllocError> {
     push_grid(&mut said, ", copied", &drawn.copy()?)?;
     push_grid(&mut said, ", listed", &listed(alloc)?)?;
     push_grid(&mut said, ", blocked", &Grid::blocked(alloc, 3, 2)?)?;
+    push_wet(&mut said, alloc)?;
     Ok(said)
+}
+
+/// Adds the maps with water.
+fn push_wet(said: &mut String, alloc: Global) -> Result<(), AllocError> {
+    let drawn = Grid::of_rows(alloc, 3, 2, "W.@/.TW")?;
+    push_grid(said, ", with water drawn", &drawn)?;
+    push_grid(said, ", copied", &drawn.copy()?)?;
+    push_grid(said, ", listed", &listed_wet(alloc)?)
+}
+
+/// The same map with water by its list of cells.
+fn listed_wet(alloc: Global) -> Result<Grid, AllocError> {
+    let (blocked, land, water) = (Terrain::Blocked, Terrain::Land, Terrain::Water);
+    let cells = vec![in alloc; water, land, blocked, land, blocked, water]?;
+    Grid::of_terrain(alloc, 3, 2, cells)
 }
 
 /// The same map by its list of cells.
@@ -113,8 +147,16 @@ fn push_grid(said: &mut String, name: &str, grid: &Grid) -> Result<(), AllocErro
 fn push_row(said: &mut String, grid: &Grid, y: u16) -> Result<(), AllocError> {
     said.push(' ')?;
     for x in 0..grid.width() as u16 {
-        let passable = grid.passable(Cell { x, y });
-        said.push(if passable { '.' } else { '@' })?;
+        said.push(letter_of(grid.terrain(Cell { x, y })))?;
     }
     Ok(())
+}
+
+/// How a cell is drawn.
+fn letter_of(terrain: Terrain) -> char {
+    match terrain {
+        Terrain::Blocked => '@',
+        Terrain::Land => '.',
+        Terrain::Water => 'W',
+    }
 }

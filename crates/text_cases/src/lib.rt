@@ -10,6 +10,7 @@ mod judged;
 mod line_texts;
 mod map_texts;
 mod masks;
+mod plain;
 mod scen_texts;
 mod single_moves;
 mod tally;
@@ -48,9 +49,11 @@ fn number_answer(alloc: Global, kind: &str, input: &str) -> Result<Option<String
 fn map_answer(alloc: Global, kind: &str, input: &str) -> Result<Option<String>, AllocError> {
     match kind {
         "map cell" => grids::cell(alloc, input).map(Some),
+        "map terrain" => grids::terrain(alloc, input).map(Some),
         "map made" => grids::made(alloc).map(Some),
         "legal moves" => grids::legal_moves(alloc, input).map(Some),
         "move masks" => masks::kept(alloc, input).map(Some),
+        "made masks" => masks::of_made(alloc, input).map(Some),
         "set cells" => masks::after_sets(alloc, input).map(Some),
         _ => Ok(None),
     }
@@ -65,11 +68,13 @@ fn text_answer(alloc: Global, kind: &str, input: &str) -> Result<Option<String>,
         "word number" => line_texts::number(alloc, input).map(Some),
         "map text" => map_texts::read(alloc, input).map(Some),
         "map full" => map_texts::full(alloc, input).map(Some),
+        "map half water" => map_texts::half_water(alloc, input).map(Some),
         "scen text" => scen_texts::text(alloc, input).map(Some),
         "scen fields" => scen_texts::fields(alloc, input).map(Some),
         "request frame" => frames::request(alloc, input).map(Some),
         "reply frame" => frames::reply(alloc, input).map(Some),
         "frames judged" => judged::each_length(alloc, input).map(Some),
+        "changes judged" => judged::changes(alloc, input).map(Some),
         "short frames judged" => judged::short(alloc, input).map(Some),
         _ => Ok(None),
     }

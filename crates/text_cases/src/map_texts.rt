@@ -47,28 +47,38 @@ fn refusal_said(alloc: Global, error: MapError) -> Result<String, AllocError> {
     }
 }
 
-/// `W H`: a text with so many passable cells in each of so many rows; how many cells the map has that it stands for,
-/// and whether it is its own canonical text; or why the text is refused.
+/// `W H`: a text with so many land cells in each of so many rows; how many cells the map has that it stands for, and
+/// whether it is its own canonical text; or why the text is refused.
 pub fn full(alloc: Global, input: &str) -> Result<String, AllocError> {
+    filled(alloc, input, '.')
+}
+
+/// The same with water in each second column, from the second one on.
+pub fn half_water(alloc: Global, input: &str) -> Result<String, AllocError> {
+    filled(alloc, input, 'W')
+}
+
+/// `W H`: what a text with so many cells in each of so many rows stands for, where each second column is written so.
+fn filled(alloc: Global, input: &str, second: char) -> Result<String, AllocError> {
     let Some((width, height)) = two_numbers(input) else {
         return not_a_case(alloc);
     };
     if width > MAX_SIDE || height > MAX_SIDE {
         return not_a_case(alloc);
     }
-    let text = full_text(alloc, width, height)?;
+    let text = full_text(alloc, width, height, second)?;
     if text.len() > MAX_MAP_BYTES {
         return not_a_case(alloc);
     }
     full_said(alloc, text.as_bytes())
 }
 
-/// The text of a map without blocked cells.
-fn full_text(alloc: Global, width: u32, height: u32) -> Result<String, AllocError> {
+/// The text of a map without blocked cells, with land and that letter in turn.
+fn full_text(alloc: Global, width: u32, height: u32, second: char) -> Result<String, AllocError> {
     let mut text = format!(in alloc; "type octile\nheight {height}\nwidth {width}\nmap\n")?;
     for _ in 0..height {
-        for _ in 0..width {
-            text.push('.')?;
+        for x in 0..width {
+            text.push(if x % 2 == 0 { '.' } else { second })?;
         }
         text.push('\n')?;
     }
