@@ -13,7 +13,9 @@ MAX_CELLS = 1_048_576
 MAX_PASSABLE = 32_768
 MAX_FILE = 2_097_152
 """Bytes of the longest map file."""
-_PASSABLE, _BLOCKED = b".GS", b"@OT"
+_BYTES = {b"@OT": 0, b".GS": 1, b"W": 2}
+"""What stands at a cell, by the byte that it is written as."""
+_LETTERS = b"@.W"
 
 
 class MapFault(Exception):
@@ -22,11 +24,12 @@ class MapFault(Exception):
 
 @dataclass(frozen=True)
 class Grid:
-    """A map: its sides in cells, and a byte a cell, row by row: 1 passable, 0 blocked. A cell's place is its index."""
+    """A map: its sides in cells, and a byte a cell, row by row: 0 blocked, 1 land, 2 water. A cell's place is its
+    index."""
 
     width: int
     height: int
-    free: bytes = field(repr=False)
+    terrain: bytes = field(repr=False)
 
     def place(self, cell: Cell) -> int:
         """The place of a cell inside the map."""
@@ -42,20 +45,24 @@ class Grid:
 
     def is_free(self, cell: Cell) -> bool:
         """Whether a cell lies inside and is passable."""
-        return self.has(cell) and self.free[self.place(cell)] == 1
+        return self._class_of(cell) != 0
+
+    def _class_of(self, cell: Cell) -> int:
+        return self.terrain[self.place(cell)] if self.has(cell) else 0
 
     def leads(self, cell: Cell, move: Move) -> bool:
-        """Whether a move is legal from a cell: both ends are passable and, of a diagonal one, both cells beside it."""
+        """Whether a move is legal from a cell: both ends are land or both water and, of a diagonal one, both cells
+        beside it are of that class too."""
         (column, row), (right, down) = cell, move.step
         wanted = [cell, (column + right, row + down)]
         if move.is_diagonal:
             wanted += [(column + right, row), (column, row + down)]
-        return all(map(self.is_free, wanted))
+        return self.is_free(cell) and len(set(map(self._class_of, wanted))) == 1
 
     @cached_property
     def places(self) -> List[int]:
         """The places of the passable cells, row by row."""
-        return [place for place, is_free in enumerate(self.free) if is_free]
+        return [place for place, terrain in enumerate(self.terrain) if terrain]
 
     @cached_property
     def neighbours(self) -> Dict[int, List[Tuple[Move, int]]]:
@@ -67,20 +74,20 @@ class Grid:
         }
 
     def changed(self, edits: Dict[Cell, bool]) -> Grid:
-        """The map with some cells made passable or blocked."""
-        free = bytearray(self.free)
-        for cell, is_free in edits.items():
-            free[self.place(cell)] = is_free
-        return Grid(self.width, self.height, bytes(free))
+        """The map with some cells made land or blocked."""
+        terrain = bytearray(self.terrain)
+        for cell, is_land in edits.items():
+            terrain[self.place(cell)] = is_land
+        return Grid(self.width, self.height, bytes(terrain))
 
     def text(self) -> str:
-        """The map as a file, with `.` and `@`."""
+        """The map as a file, with `.`, `W` and `@`."""
         head = ["type octile", "height %d" % self.height, "width %d" % self.width, "map"]
         return "\n".join(head + self.rows()) + "\n"
 
     def rows(self) -> List[str]:
-        """The rows, `.` for a passable cell and `@` for a blocked one."""
-        drawn = self.free.translate(bytes([ord("@"), ord(".")]) + bytes(254)).decode()
+        """The rows, `.` for land, `W` for water and `@` for a blocked cell."""
+        drawn = self.terrain.translate(_LETTERS + bytes(256 - len(_LETTERS))).decode()
         return [drawn[start : start + self.width] for start in range(0, len(drawn), self.width)]
 
 
@@ -93,7 +100,7 @@ def lines_of(data: bytes) -> List[bytes]:
 def read_grid(name: str) -> Grid:
     """The map of a file.
 
-    OSError: it is not read. MapFault: it is no map, or one with water or another byte that is not known here.
+    OSError: it is not read. MapFault: it is no map, or one with a byte that is not known here.
     """
     with open(name, "rb") as file:
         data = file.read(MAX_FILE + 1)
@@ -107,13 +114,14 @@ def read_grid(name: str) -> Grid:
     for number, row in enumerate(rows, 5):
         if len(row) != width:
             raise MapFault("%s:%d: %d cells, and not %d" % (name, number, len(row), width))
-        odd = row.strip(_PASSABLE + _BLOCKED)
+        odd = row.strip(b"".join(_BYTES))
         if odd:
             raise MapFault("%s:%d: no cell is written %r here" % (name, number, chr(odd[0])))
     for number, line in enumerate(lines[4 + height :], 5 + height):
         if line.strip(b" \t"):
             raise MapFault("%s:%d: a line behind the last row" % (name, number))
-    grid = Grid(width, height, bytes(byte in _PASSABLE for byte in b"".join(rows)))
+    terrain_of = {byte: terrain for letters, terrain in _BYTES.items() for byte in letters}
+    grid = Grid(width, height, bytes(terrain_of[byte] for byte in b"".join(rows)))
     if len(grid.places) > MAX_PASSABLE:
         raise MapFault("%s: more than %d passable cells" % (name, MAX_PASSABLE))
     return grid

@@ -13,7 +13,7 @@ from .grids import Grid
 SIDE = 14
 """Pixels of a cell's side."""
 _LINE = 20  # pixels of a line of text
-BLOCKED, LAND, INK, PAPER = "#3b4252", "#f3efe6", "#1f2430", "#ffffff"
+BLOCKED, LAND, WATER, INK, PAPER = "#3b4252", "#f3efe6", "#cfe3ee", "#1f2430", "#ffffff"
 PATH, FORMER_PATH, START, GOAL = "#d1495b", "#7a8599", "#1b7f4d", "#2455a4"
 ADDED, REMOVED, REBUILT = "#5fae6e", "#c8553d", "#cfe0f5"
 MOVES = {
@@ -64,7 +64,7 @@ class Picture:
     _keys: List[Tuple[str, str]] = field(default_factory=list)
 
     def __post_init__(self) -> None:
-        self.cells({place: (BLOCKED, LAND)[is_free] for place, is_free in enumerate(self.grid.free)})
+        self.cells({place: (BLOCKED, LAND, WATER)[terrain] for place, terrain in enumerate(self.grid.terrain)})
 
     def cells(self, colours: Dict[int, str]) -> None:
         """Fills places, each in its colour."""

@@ -22,6 +22,7 @@ from .pictures import (
     REBUILT,
     REMOVED,
     START,
+    WATER,
     Picture,
     heat,
 )
@@ -37,7 +38,8 @@ class ViewFault(Exception):
 def map_view(grid: Grid) -> Picture:
     """The map alone."""
     picture = Picture(grid)
-    picture.key([(LAND, "passable"), (BLOCKED, "blocked")])
+    ground = [(LAND, "land"), (WATER, "water")] if 2 in grid.terrain else [(LAND, "passable")]
+    picture.key(ground + [(BLOCKED, "blocked")])
     picture.caption("%d by %d cells, %d passable" % (grid.width, grid.height, len(grid.places)))
     return picture
 
@@ -112,13 +114,14 @@ def difference_view(name: str, old: Grid, new: Grid, ends: List[Ends], order: st
     """
     if (old.width, old.height) != (new.width, new.height):
         raise ViewFault("the two maps have other sides")
-    changed = [place for place in range(len(old.free)) if old.free[place] != new.free[place]]
+    changed = [place for place in range(len(old.terrain)) if old.terrain[place] != new.terrain[place]]
     picture = Picture(new)
     kept = {frozenset(part) for part in components(old)}
     rebuilt = [place for part in components(new) if frozenset(part) not in kept for place in part]
     picture.cells({place: REBUILT for place in rebuilt})
-    picture.cells({place: ADDED if new.free[place] else REMOVED for place in changed})
+    picture.cells({place: ADDED if new.terrain[place] else REMOVED for place in changed})
     with Client.talk(name, "--order", order, program=program_here()) as client:
+        client.hello()  # for water
         before = [client.query(*pair) for pair in ends]
         built = _publish(client, new, changed)
         after = [client.query(*pair) for pair in ends]
@@ -131,9 +134,9 @@ def difference_view(name: str, old: Grid, new: Grid, ends: List[Ends], order: st
 
 def _publish(client: Client, new: Grid, changed: List[int]) -> str:
     """Makes the program's map the new one, and tells what it built."""
-    for is_free in (False, True):  # what is blocked makes room for what is freed
-        for place in (place for place in changed if new.free[place] == is_free):
-            answer = client.change(new.cell(place), Terrain.LAND if is_free else Terrain.BLOCKED)
+    for terrain in Terrain:  # what is blocked makes room for what is freed
+        for place in (place for place in changed if new.terrain[place] == terrain.value):
+            answer = client.change(new.cell(place), terrain)
             if not isinstance(answer, Accepted):
                 raise ViewFault("the program refuses the change of column %d and row %d" % new.cell(place))
     built = client.build(timeout=600)

@@ -74,7 +74,7 @@ class Table:
         million requests, is begun anew once."""
         with self._session:
             for is_last in (self._client is None, True):
-                self._client = self._client or self._server.connect()
+                self._client = self._client or self._connected()
                 try:
                     return work(self._client)
                 except (ConnectionLost, SessionOver):
@@ -83,6 +83,11 @@ class Table:
                     if is_last:
                         raise
             raise AssertionError("the second try returns or raises")
+
+    def _connected(self) -> Client:
+        client = self._server.connect()
+        client.hello()  # for water
+        return client
 
     def change(self, cells: List[Cell], terrain: Terrain) -> Json:
         """Changes cells, and tells how many edits are accepted now and why others were refused."""

@@ -18,7 +18,9 @@ from .frames import (
     Change,
     ChangeReply,
     Done,
+    Edit,
     EditRefused,
+    Hello,
     Malformed,
     NothingNew,
     OutOfMemory,
@@ -34,6 +36,7 @@ from .frames import (
     Stop,
     Terrain,
     Unreachable,
+    Welcome,
     decoded,
     encoded,
 )
@@ -48,6 +51,8 @@ _SHORTEST_PAUSE, _LONGEST_PAUSE = 0.001, 0.05  # seconds between two looks at th
 _ANSWERS = {
     Query: (Path, Unreachable, Refused),
     Change: (Accepted, EditRefused),
+    Edit: (Accepted, EditRefused),
+    Hello: (Welcome,),
     Build: (Published, NothingNew, Overtaken),
     AskStatus: (Status,),
     Bye: (Done,),
@@ -129,8 +134,27 @@ class Client:
         return self.send_query(start, goal).result(timeout)
 
     def change(self, cell: Cell, terrain: Terrain, timeout: Optional[float] = None) -> ChangeReply:
-        """Makes a cell blocked or passable. Queries see it once a version with it was published: `wait_for`."""
+        """Makes a cell blocked, land or, behind a `hello`, water. Queries see it once a version with it was published:
+        `wait_for`."""
         return cast("Pending[ChangeReply]", self.send(Change(cell, terrain))).result(timeout)
+
+    def edit(self, changes: Iterable[Tuple[Cell, Terrain]], timeout: Optional[float] = None) -> ChangeReply:
+        """Makes 1 to 64 changes together, or none of them: one edit. More than one behind a `hello` alone.
+
+        ValueError: there are no changes, or more than 64.
+        """
+        each = tuple(Change(cell, terrain) for cell, terrain in changes)
+        request: Request = each[0] if len(each) == 1 else Edit(each)
+        return cast("Pending[ChangeReply]", self.send(request)).result(timeout)
+
+    def hello(self, timeout: Optional[float] = None) -> bool:
+        """Asks for the second protocol, which has water and edits of several changes: as the first request of a session
+        alone. Whether the server knows it; where it does not, the session goes on without."""
+        try:
+            cast("Pending[Welcome]", self.send(Hello())).result(timeout)
+        except RequestRefused:
+            return False
+        return True
 
     def build(self, timeout: Optional[float] = None) -> BuildReply:
         """Builds and publishes a version with all edits accepted so far, and returns when it is there."""

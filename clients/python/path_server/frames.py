@@ -16,7 +16,11 @@ from typing import Callable, Dict, List, Optional, Tuple, Union
 from .faults import BadReply
 
 MAX_REQUEST = 64
-"""Bytes of the longest request frame, without its length."""
+"""Bytes of the longest request frame without a Hello, and of the first one, without its length."""
+MAX_REQUEST_TWO = 322
+"""Bytes of the longest request frame behind a Hello, without its length."""
+MAX_CHANGES = 64
+"""How many changes an edit has at most."""
 MAX_REPLY = 32_780
 """Bytes of the longest reply frame, without its length."""
 MAX_COORDINATE = 65_535
@@ -31,6 +35,26 @@ class Terrain(enum.Enum):
 
     BLOCKED = 0
     LAND = 1
+    WATER = 2  # behind a Hello alone
+
+
+class Protocol(enum.Enum):
+    """How a server reads the next frame of a session: its first frame decides between one and two."""
+
+    START = 0
+    ONE = 1
+    TWO = 2
+
+    @property
+    def limit(self) -> int:
+        """Bytes of the longest request frame, without its length."""
+        return MAX_REQUEST_TWO if self is Protocol.TWO else MAX_REQUEST
+
+    def behind(self, frame: bytes) -> Protocol:
+        """What it is behind this frame."""
+        if self is not Protocol.START:
+            return self
+        return Protocol.TWO if frame == _HELLO else Protocol.ONE
 
 
 class Move(enum.IntEnum):
@@ -82,6 +106,7 @@ class EditFault(enum.Enum):
     OUTSIDE = 1
     TOO_MANY_CELLS = 2
     EDITS_FULL = 3
+    REPEATED = 4
 
 
 # ---- requests
@@ -97,10 +122,22 @@ class Query:
 
 @dataclass(frozen=True)
 class Change:
-    """Makes a cell blocked or passable, from the next version on."""
+    """Makes a cell blocked, land or, behind a Hello, water, from the next version on."""
 
     cell: Cell
     terrain: Terrain
+
+
+@dataclass(frozen=True)
+class Edit:
+    """Makes 2 to 64 changes together, or none of them. Behind a Hello alone; one change is a `Change`."""
+
+    changes: Tuple[Change, ...]
+
+
+@dataclass(frozen=True)
+class Hello:
+    """Asks for the second protocol, as the first request of a session alone."""
 
 
 @dataclass(frozen=True)
@@ -123,7 +160,7 @@ class Stop:
     """Ends the session and the server."""
 
 
-Request = Union[Query, Change, Build, AskStatus, Bye, Stop]
+Request = Union[Query, Change, Edit, Hello, Build, AskStatus, Bye, Stop]
 
 # ---- replies
 
@@ -230,6 +267,11 @@ class Done:
 
 
 @dataclass(frozen=True)
+class Welcome:
+    """The second protocol is spoken from here on."""
+
+
+@dataclass(frozen=True)
 class Malformed:
     """The frame was no request: its kind, 0 for an empty one, and its length in bytes."""
 
@@ -245,12 +287,15 @@ class OutOfMemory:
 QueryReply = Union[Path, Unreachable, Refused]
 ChangeReply = Union[Accepted, EditRefused]
 BuildReply = Union[Published, NothingNew, Overtaken]
-Reply = Union[QueryReply, ChangeReply, BuildReply, Status, Done, Malformed, OutOfMemory]
+Reply = Union[QueryReply, ChangeReply, BuildReply, Status, Done, Welcome, Malformed, OutOfMemory]
 
 # ---- requests as bytes
 
 _QUERY = struct.Struct(">B4H")
 _CHANGE = struct.Struct(">BHHB")
+_ONE_CHANGE = struct.Struct(">HHB")
+_CHANGES = 0x08
+_HELLO = b"\x07\x02"
 _BARE: Dict[int, Request] = {0x03: Build(), 0x04: AskStatus(), 0x05: Bye(), 0x06: Stop()}
 _KINDS = {type(request): kind for kind, request in _BARE.items()}
 _REQUEST_LENGTH = struct.Struct(">H")
@@ -259,13 +304,20 @@ _REQUEST_LENGTH = struct.Struct(">H")
 def frame_of(request: Request) -> bytes:
     """The frame of a request, without its length.
 
-    ValueError: a column or a row is not from 0 to 65,535.
+    ValueError: a column or a row is not from 0 to 65,535, or an edit has not from 2 to 64 changes.
     """
+    if isinstance(request, Hello):
+        return _HELLO
+    if isinstance(request, Edit) and not 2 <= len(request.changes) <= MAX_CHANGES:
+        raise ValueError("an edit of several changes has 2 to %d: %r" % (MAX_CHANGES, request))
     try:
         if isinstance(request, Query):
             return _QUERY.pack(0x01, *request.start, *request.goal)
         if isinstance(request, Change):
             return _CHANGE.pack(0x02, *request.cell, request.terrain.value)
+        if isinstance(request, Edit):
+            each = [_ONE_CHANGE.pack(*change.cell, change.terrain.value) for change in request.changes]
+            return bytes([_CHANGES, len(each)]) + b"".join(each)
     except struct.error:
         raise ValueError("columns and rows are from 0 to %d: %r" % (MAX_COORDINATE, request)) from None
     return bytes([_KINDS[type(request)]])
@@ -289,20 +341,39 @@ def encoded(request: Request) -> bytes:
 
 def split_requests(data: bytes) -> Tuple[List[bytes], bytes]:
     """The whole frames at the front of what a client sent, without their lengths, and the bytes behind them. It ends at
-    a length above 64 too, at which a server ends the session."""
-    return _split(data, _REQUEST_LENGTH, MAX_REQUEST)
+    a length above the limit too, at which a server ends the session."""
+    frames, rest, protocol = [], data, Protocol.START
+    while True:
+        one, behind = _split(rest, _REQUEST_LENGTH, protocol.limit, 1)
+        if not one:
+            return frames, rest
+        frames, rest, protocol = frames + one, behind, protocol.behind(one[0])
 
 
-def decoded_request(frame: bytes) -> Optional[Request]:
+def decoded_request(frame: bytes, protocol: Protocol = Protocol.ONE) -> Optional[Request]:
     """The request that a frame spells, or None where a server takes it for malformed. For stand-ins and judges."""
     kind = frame[0] if frame else 0
+    if frame == _HELLO:
+        return Hello() if protocol is Protocol.START else None
+    if kind == _CHANGES:
+        return _edit(frame) if protocol is Protocol.TWO else None
     if kind == 0x01 and len(frame) == _QUERY.size:
         _, start_x, start_y, goal_x, goal_y = _QUERY.unpack(frame)
         return Query((start_x, start_y), (goal_x, goal_y))
-    if kind == 0x02 and len(frame) == _CHANGE.size and frame[-1] in (0, 1):
+    if kind == 0x02 and len(frame) == _CHANGE.size and frame[-1] <= (2 if protocol is Protocol.TWO else 1):
         _, column, row, terrain = _CHANGE.unpack(frame)
         return Change((column, row), Terrain(terrain))
     return _BARE.get(kind) if len(frame) == 1 else None
+
+
+def _edit(frame: bytes) -> Optional[Request]:
+    count = frame[1] if len(frame) > 1 else 0
+    if not 2 <= count <= MAX_CHANGES or len(frame) != 2 + count * _ONE_CHANGE.size:
+        return None
+    each = list(_ONE_CHANGE.iter_unpack(frame[2:]))
+    if any(terrain > Terrain.WATER.value for _, _, terrain in each):
+        return None
+    return Edit(tuple(Change((column, row), Terrain(terrain)) for column, row, terrain in each))
 
 
 # ---- replies from bytes
@@ -325,9 +396,9 @@ def split_replies(data: bytes) -> Tuple[List[bytes], bytes]:
     return frames, rest
 
 
-def _split(data: bytes, head: struct.Struct, most: int) -> Tuple[List[bytes], bytes]:
+def _split(data: bytes, head: struct.Struct, most: int, count: float = math.inf) -> Tuple[List[bytes], bytes]:
     frames, at = [], 0
-    while len(data) - at >= head.size:
+    while len(data) - at >= head.size and len(frames) < count:
         length = head.unpack_from(data, at)[0]
         if length > most or len(data) - at - head.size < length:
             break
@@ -375,6 +446,12 @@ def _edit_refused(rest: bytes) -> EditRefused:
     return EditRefused(EditFault(*struct.unpack(">B", rest)))
 
 
+def _welcome(rest: bytes) -> Welcome:
+    if rest != _HELLO[1:]:
+        raise ValueError("another protocol")
+    return Welcome()
+
+
 def _numbers(layout: str, kind: Callable[..., Reply]) -> Callable[[bytes], Reply]:
     """A reader of a reply that has numbers alone, of exactly that layout."""
     shape = struct.Struct(layout)
@@ -394,4 +471,5 @@ _READERS: Dict[int, Callable[[bytes], Reply]] = {
     0x8A: _numbers(">", Done),
     0x8B: _numbers(">BH", Malformed),
     0x8C: _numbers(">", OutOfMemory),
+    0x8D: _welcome,
 }

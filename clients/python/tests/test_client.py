@@ -29,15 +29,18 @@ from path_server import (
     Client,
     ConnectionLost,
     Done,
+    Edit,
     EditFault,
     EditRefused,
     End,
+    Hello,
     Move,
     NotConnected,
     NothingNew,
     Path,
     PathServerError,
     ProgramEnded,
+    Protocol,
     Published,
     Query,
     Reason,
@@ -50,6 +53,7 @@ from path_server import (
     Terrain,
     TimedOut,
     Unreachable,
+    Welcome,
     free_port,
 )
 from path_server import frames
@@ -128,6 +132,26 @@ class Sessions(Timed):
                 self.assertEqual(client.build(), NothingNew(1))
                 self.assertEqual(client.bye(), Done())
                 self.assertRaises(SessionOver, client.status)
+
+    def test_a_hello(self) -> None:
+        with both_ways("...") as clients:
+            for client in clients:
+                self.assertTrue(client.hello())
+                ends = [((0, 0), Terrain.BLOCKED), ((2, 0), Terrain.BLOCKED)]
+                self.assertEqual(client.edit(ends), Accepted(1))
+                self.assertEqual(client.wait_for(1), Status(1, 1, 1, 1, 1))
+                self.assertEqual(client.edit(ends[:1] * 2), EditRefused(EditFault.REPEATED))
+                self.assertEqual(client.edit([((1, 0), Terrain.WATER)]), Accepted(2))
+                self.assertFalse(client.hello())
+                client.bye()
+
+    def test_no_hello(self) -> None:
+        with map_file("...") as name, Client.talk(name) as client:
+            self.assertEqual(client.status().version, 0)
+            self.assertFalse(client.hello())
+            self.assertRaises(RequestRefused, client.edit, [((0, 0), Terrain.LAND), ((1, 0), Terrain.LAND)])
+            self.assertRaises(RequestRefused, client.change, (0, 0), Terrain.WATER)
+            self.assertEqual(client.edit([((0, 0), Terrain.BLOCKED)]), Accepted(1))
 
     def test_build(self) -> None:
         with map_file(ROW) as name, Client.talk(name) as client:
@@ -287,11 +311,11 @@ class Faults(Timed):
         self.assertIsInstance(fault.exception.__cause__, ConnectionRefusedError)
 
     def test_a_map_that_is_refused(self) -> None:
-        with map_file("..W") as name:
+        with map_file("..x") as name:
             with Client.talk(name) as client, self.assertRaises(ProgramEnded) as ended:
                 client.query((0, 0), (2, 0))
             self.assertEqual(ended.exception.status, 2)
-            self.assertIn("W", ended.exception.told)
+            self.assertIn("'x'", ended.exception.told)
             with self.assertRaises(ProgramEnded):
                 Server(name)
 
@@ -332,6 +356,22 @@ class Frames(unittest.TestCase):
         self.assertEqual(frames.encoded(change).hex(" "), "00 06 02 00 01 00 00 01")
         bare: list[frames.Request] = [frames.Build(), frames.Stop()]
         self.assertEqual([frames.encoded(request).hex() for request in bare], ["000103", "000106"])
+
+    def test_edits_of_several_changes(self) -> None:
+        edit = Edit((frames.Change((0, 0), Terrain.BLOCKED), frames.Change((2, 0), Terrain.WATER)))
+        self.assertEqual(frames.encoded(edit).hex(" "), "00 0c 08 02 00 00 00 00 00 00 02 00 00 02")
+        self.assertEqual(frames.decoded_request(frames.frame_of(edit), Protocol.TWO), edit)
+        self.assertIsNone(frames.decoded_request(frames.frame_of(edit), Protocol.ONE))
+        self.assertRaises(ValueError, frames.encoded, Edit(edit.changes * 33))
+        self.assertRaises(ValueError, frames.encoded, Edit(edit.changes[:1]))
+
+    def test_the_first_frame_decides(self) -> None:
+        long = frames.framed(b"\x08" + bytes(321))
+        self.assertEqual([len(each) for each in frames.split_requests(frames.encoded(Hello()) + long)[0]], [2, 322])
+        self.assertEqual(frames.split_requests(frames.encoded(frames.Build()) + long), ([b"\3"], long))
+        self.assertEqual(frames.split_requests(long), ([], long))
+        self.assertEqual(frames.decoded(b"\x8d\2"), Welcome())
+        self.assertRaises(BadReply, frames.decoded, b"\x8d\1")
 
     def test_replies(self) -> None:
         told = bytes.fromhex("0000000582000000000000000F81000000010000000200000000020200")

@@ -12,39 +12,39 @@ const NAMES = ["N", "NE", "E", "SE", "S", "SW", "W", "NW"];
 const STRAIGHT = 17179869184, DIAGONAL = 24296003999;
 const ALL_MOVES = 255;
 
-const INK = "#1f2430", PAPER = "#ffffff", BLOCKED = "#3b4252", LAND = "#f3efe6";
+const INK = "#1f2430", PAPER = "#ffffff", BLOCKED = "#3b4252", LAND = "#f3efe6", WATER = "#cfe3ee";
 const PATH = "#d1495b", START = "#1b7f4d", GOAL = "#2455a4", PENDING = "#e07a1f";
 const MOVE_COLOURS = ["#d7263d", "#f46036", "#f2c14e", "#8cb369", "#2a9d8f", "#3a86ff", "#6a4c93", "#d16ba5"];
 const COMPONENT_COLOURS = ["#e9c46a", "#8ecae6", "#f4a261", "#a7c957", "#cdb4db", "#84a98c", "#ffafcc", "#b08968",
   "#90dbf4", "#d4a373"];
 const HEAT = [[255, 247, 188], [254, 196, 79], [236, 112, 20], [153, 52, 4], [63, 0, 63]];
 
-/** A map: its sides, and of each place, row by row, 1 where it is passable. */
+/** A map: its sides, and of each place, row by row, 0 where it is blocked, 1 where it is land, 2 where it is water. */
 class Grid {
-  constructor(width, height, free) {
-    Object.assign(this, { width, height, free });
+  constructor(width, height, terrain) {
+    Object.assign(this, { width, height, terrain });
   }
 
-  isFree(column, row) {
+  at(column, row) {
     const isInside = column >= 0 && column < this.width && row >= 0 && row < this.height;
-    return isInside && this.free[row * this.width + column] === 1;
+    return isInside ? this.terrain[row * this.width + column] : 0;
   }
 
   /** The place that a move from a passable place leads to, or -1 where the move is not legal. */
   moved(place, move) {
     const column = place % this.width, row = (place - column) / this.width;
-    const [right, down] = STEPS[move];
-    if (!this.isFree(column + right, row + down)) return -1;
-    if (move % 2 && !(this.isFree(column + right, row) && this.isFree(column, row + down))) return -1;
+    const [right, down] = STEPS[move], isLike = (...cell) => this.at(...cell) === this.terrain[place];
+    if (!isLike(column + right, row + down)) return -1;
+    if (move % 2 && !(isLike(column + right, row) && isLike(column, row + down))) return -1;
     return place + down * this.width + right;
   }
 
   /** Eight numbers a place: where each move leads. */
   get neighbours() {
     if (!this.known) {
-      this.known = new Int32Array(8 * this.free.length).fill(-1);
-      this.free.forEach((isFree, place) => {
-        for (let move = 0; isFree && move < 8; move++) this.known[8 * place + move] = this.moved(place, move);
+      this.known = new Int32Array(8 * this.terrain.length).fill(-1);
+      this.terrain.forEach((terrain, place) => {
+        for (let move = 0; terrain && move < 8; move++) this.known[8 * place + move] = this.moved(place, move);
       });
     }
     return this.known;
@@ -53,9 +53,9 @@ class Grid {
   /** The number of each place's component, from 0 by first places, -1 where it is blocked; and their places. */
   get components() {
     if (!this.parts) {
-      const label = new Int32Array(this.free.length).fill(-1), parts = [];
-      for (let start = 0; start < this.free.length; start++) {
-        if (!this.free[start] || label[start] >= 0) continue;
+      const label = new Int32Array(this.terrain.length).fill(-1), parts = [];
+      for (let start = 0; start < this.terrain.length; start++) {
+        if (!this.terrain[start] || label[start] >= 0) continue;
         const part = [start];
         label[start] = parts.length;
         for (const place of part) {
@@ -108,7 +108,7 @@ class Heap {
 
 /** From a passable place to each the set of first moves of all best paths, a bit a move; 0 where no path leads. */
 function firstSets(grid, source) {
-  const costs = new Float64Array(grid.free.length).fill(Infinity), sets = new Uint8Array(grid.free.length);
+  const costs = new Float64Array(grid.terrain.length).fill(Infinity), sets = new Uint8Array(grid.terrain.length);
   const heap = new Heap();
   costs[source] = 0;
   sets[source] = ALL_MOVES;
@@ -176,11 +176,11 @@ const canvas = document.getElementById("map"), pen = canvas.getContext("2d");
 const put = (id, text) => { document.getElementById(id).textContent = text; };
 
 function gridAfter(count) {
-  const free = state.base.free.slice();
+  const terrain = state.base.terrain.slice();
   for (const edit of state.edits.slice(0, count)) {
-    if (edit) free[edit[1] * state.base.width + edit[0]] = edit[2];
+    if (edit) terrain[edit[1] * state.base.width + edit[0]] = edit[2];
   }
-  return new Grid(state.base.width, state.base.height, free);
+  return new Grid(state.base.width, state.base.height, terrain);
 }
 
 async function asked(address, body) {
@@ -199,8 +199,8 @@ async function asked(address, body) {
 
 async function begin() {
   const told = await asked("map");
-  const free = Uint8Array.from(told.rows.join(""), (letter) => (letter === "." ? 1 : 0));
-  state.base = new Grid(told.rows[0].length, told.rows.length, free);
+  const terrain = Uint8Array.from(told.rows.join(""), (letter) => "@.W".indexOf(letter));
+  state.base = new Grid(told.rows[0].length, told.rows.length, terrain);
   Object.assign(state, { order: told.order, terrains: told.terrains });
   const ends = location.hash.slice(1).split(",").map(Number);
   const isPlace = (number) => Number.isInteger(number) && number >= 0 && number < 65536;
@@ -293,7 +293,7 @@ function showEdits() {
   strokes = strokes.filter((stroke) => stroke.last === null || stroke.last > state.edits.length);
   state.editedGrid = gridAfter(state.edits.length);
   for (const { terrain, cells } of strokes) {
-    for (const place of cells.keys()) state.editedGrid.free[place] = terrain.value;
+    for (const place of cells.keys()) state.editedGrid.terrain[place] = terrain.value;
   }
 }
 
@@ -330,7 +330,7 @@ function growRuns(span) {
   const grid = state.versionGrid;
   if (!state.runs) {
     const rows = grid.components.parts.map((part) => ({ part, places: ordered(grid, part, state.order) }));
-    state.runs = { counts: new Int32Array(grid.free.length), rows, at: 0, within: 0, done: 0, total: 0, most: 1 };
+    state.runs = { counts: new Int32Array(grid.terrain.length), rows, at: 0, within: 0, done: 0, total: 0, most: 1 };
   }
   const runs = state.runs, end = performance.now() + span;
   while (runs.at < runs.rows.length && performance.now() < end) {
@@ -378,32 +378,33 @@ function heat(part) {
 
 /** The colour of each passable place in the layer that is shown, by its place. */
 function colouring() {
-  const grid = state.versionGrid, land = rgb(LAND);
+  const grid = state.versionGrid, grounds = [BLOCKED, LAND, WATER].map(rgb);
+  const ground = (place) => grounds[state.editedGrid.terrain[place]];
   if (state.layer === "components") {
     const { label } = grid.components, colours = COMPONENT_COLOURS.map(rgb);
-    return (place) => (label[place] < 0 ? land : colours[label[place] % colours.length]);
+    return (place) => (label[place] < 0 ? ground(place) : colours[label[place] % colours.length]);
   }
   if (state.layer === "moves") {
     const field = fieldOfPointer(), colours = MOVE_COLOURS.map(rgb);
-    return (place) => (field && field[place] >= 0 ? colours[field[place]] : land);
+    return (place) => (field && field[place] >= 0 ? colours[field[place]] : ground(place));
   }
   if (state.layer === "runs" && state.runs) {
     const { counts, most } = state.runs;
-    return (place) => (counts[place] ? heat(counts[place] / most) : land);
+    return (place) => (counts[place] ? heat(counts[place] / most) : ground(place));
   }
-  return () => land;
+  return ground;
 }
 
 /** From the pointer's cell, or from the start where that is blocked, the first move to each place as the database has
  * it; -1 where there is none. */
 function fieldOfPointer() {
   const grid = state.versionGrid;
-  const [column, row] = state.pointer && grid.isFree(...state.pointer) ? state.pointer : state.start;
-  if (!grid.isFree(column, row)) return null;
+  const [column, row] = state.pointer && grid.at(...state.pointer) ? state.pointer : state.start;
+  if (!grid.at(column, row)) return null;
   const source = row * grid.width + column;
   if (!state.field || state.field.source !== source) {
     const { label, parts } = grid.components, places = ordered(grid, parts[label[source]], state.order);
-    const runs = packed(firstSets(grid, source), places), moves = new Int8Array(grid.free.length).fill(-1);
+    const runs = packed(firstSets(grid, source), places), moves = new Int8Array(grid.terrain.length).fill(-1);
     runs.forEach(([start, move], index) => {
       const end = index + 1 < runs.length ? runs[index + 1][0] : places.length;
       for (let at = start; at < end; at++) moves[places[at]] = move;
@@ -418,26 +419,26 @@ let drawn = [];
 
 /** Colours the cells' image, where it is not as it should be. */
 function colourCells() {
-  const { width, height, free } = state.editedGrid, colour = colouring(), blocked = rgb(BLOCKED);
+  const { width, height, terrain } = state.editedGrid, colour = colouring(), blocked = rgb(BLOCKED);
   const wanted = [state.editedGrid, state.versionGrid, state.layer, state.field, state.runs && state.runs.done];
   if (wanted.every((each, index) => each === drawn[index])) return;
   drawn = wanted;
   if (cellsImage.width !== width || cellsImage.height !== height) Object.assign(cellsImage, { width, height });
   const image = cellsPen.createImageData(width, height);
-  free.forEach((isFree, place) => {
-    const [red, green, blue] = isFree ? colour(place) : blocked;
+  terrain.forEach((each, place) => {
+    const [red, green, blue] = each ? colour(place) : blocked;
     image.data.set([red, green, blue, 255], 4 * place);
   });
   cellsPen.putImageData(image, 0, 0);
 }
 
 function draw() {
-  const { width, height, free } = state.editedGrid;
+  const { width, height, terrain } = state.editedGrid;
   colourCells();
   pen.imageSmoothingEnabled = false;
   pen.drawImage(cellsImage, 0, 0, width, height);
-  state.versionGrid.free.forEach((isFree, place) => {
-    if (isFree !== free[place]) disc([place % width, Math.floor(place / width)], 0.22, PENDING);
+  state.versionGrid.terrain.forEach((each, place) => {
+    if (each !== terrain[place]) disc([place % width, Math.floor(place / width)], 0.22, PENDING);
   });
   if (state.answer && state.answer.kind === "path") drawPath();
   const radius = Math.max(0.6, 8 / side);
@@ -481,7 +482,9 @@ let shownKey = "";
 
 function showKey() {
   const item = (colour, text) => `<span><i style="background:${colour}"></i>${text}</span>`;
-  let key = item(LAND, "passable") + item(BLOCKED, "blocked");
+  const isWet = state.editedGrid.terrain.includes(2);
+  let key = isWet ? item(LAND, "land") + item(WATER, "water") : item(LAND, "passable");
+  key += item(BLOCKED, "blocked");
   if (state.layer === "moves") key = NAMES.map((name, move) => item(MOVE_COLOURS[move], name)).join("");
   if (state.layer === "components") {
     const { parts } = state.versionGrid.components;
@@ -528,7 +531,7 @@ function paintTo(cell) {
   const stroke = strokeOf(state.terrain), { value } = stroke.terrain;
   for (const each of between(state.holds.last, cell).filter(isInside)) {
     const place = each[1] * state.base.width + each[0];
-    if (state.editedGrid.free[place] !== value) stroke.cells.set(place, each);
+    if (state.editedGrid.terrain[place] !== value) stroke.cells.set(place, each);
   }
   state.holds.last = cell;
   if (!stroke.cells.size) strokes.pop();
@@ -593,9 +596,9 @@ document.addEventListener("keydown", (event) => {
 });
 
 document.getElementById("save").addEventListener("click", (event) => {
-  const { width, height, free } = state.versionGrid;
+  const { width, height, terrain } = state.versionGrid;
   const rows = Array.from({ length: height }, (_, row) =>
-    Array.from(free.subarray(row * width, (row + 1) * width), (isFree) => ".@"[1 - isFree]).join(""));
+    Array.from(terrain.subarray(row * width, (row + 1) * width), (each) => "@.W"[each]).join(""));
   const text = ["type octile", `height ${height}`, `width ${width}`, "map", ...rows, ""].join("\n");
   event.target.href = URL.createObjectURL(new Blob([text], { type: "text/plain" }));
 });
