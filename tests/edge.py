@@ -212,7 +212,19 @@ at = free_port()
 few = run("serve", row, str(at), "16", preexec_fn=lambda: resource.setrlimit(resource.RLIMIT_NOFILE, (12, 12)))
 judge("few descriptors", few[:3], (
     "read fault\n", "path_server serve: 16 doors need as many descriptors, and the system gives fewer\n"
-    f"path_server serve: port {at} is taken or may not be opened, or a door of it failed\n", 5))
+    f"path_server serve: port {at} cannot have 16 doors: Too many open files (os error 24)\n", 5))
+
+# a port that the system forbids, where it forbids any
+with open("/proc/sys/net/ipv4/ip_unprivileged_port_start") as file:
+    at = int(file.read()) - 1
+if at > 0:
+    try:
+        forbidden = run("serve", row, str(at), "1", preexec_fn=lambda: os.geteuid() or os.setuid(65534))
+    except PermissionError:  # the program lies where nobody else may go
+        pass
+    else:
+        judge("a forbidden port", forbidden[:3], (
+            "read fault\n", f"path_server serve: port {at} is forbidden: Permission denied (os error 13)\n", 5))
 
 # deploy/serve: a signal is a stop
 for sign in (signal.SIGTERM, signal.SIGINT, signal.SIGHUP):

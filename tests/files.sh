@@ -36,7 +36,7 @@ map 'two heights' 'type octile\nheight 2\nheight 2\nmap\n.\n' 'header at line 3'
 map 'too many cells in the sides' 'type octile\nheight 4096\nwidth 4096\nmap\n' 'size at line 3'
 map 'a side of twenty digits' 'type octile\nheight 99999999999999999999\nwidth 1\nmap\n.\n' 'size at line 2'
 map 'a carriage return in a row' 'type octile\nheight 1\nwidth 3\nmap\n.\r.\n' 'byte 13 at 1 0'
-map 'water' 'type octile\nheight 2\nwidth 4\nmap\n....\n...W\n' 'water at 3 1'
+map 'a small letter w' 'type octile\nheight 2\nwidth 4\nmap\n....\n...w\n' 'byte 119 at 3 1'
 map 'a short row' 'type octile\nheight 1\nwidth 3\nmap\n..\n' 'line 5 has 2 cells, not 3'
 map 'a row too few' 'type octile\nheight 3\nwidth 1\nmap\n.\n.\n' '2 rows found'
 map 'a row too many' 'type octile\nheight 1\nwidth 1\nmap\n.\n.\n' 'extra line 6'
@@ -45,6 +45,14 @@ map 'a null byte' 'type octile\nheight 1\nwidth 1\nmap\n\0\n' 'byte 0 at 0 0'
 answers 'map: a cell too many' 2 'map refused: too many cells at 0 8' check text.map
 head -c 2097153 /dev/zero >text.map
 answers 'map: a byte too many' 8 'file too long: 2097152' check text.map
+
+# Land and water: no path leads from the one to the other, and no corner of the other class is cut.
+printf 'type octile\nheight 2\nwidth 2\nmap\n.W\n.W\n' >shore.map
+printf 'type octile\nheight 2\nwidth 2\nmap\nWW\nW.\n' >bay.map
+answers 'a shore' 0 $'size 2 2\ncells 4\ncomponents 2\nruns 4' check shore.map
+answers 'from land to water' 0 unreachable path shore.map 0 0 1 0
+answers 'a bay' 0 $'size 2 2\ncells 4\ncomponents 2\nruns 5' check bay.map
+answers 'round a corner of land' 0 $'cost 2 0\nlength 2.000000\nmoves W S' path bay.map 1 0 0 1
 
 printf 'type octile\nheight 1\nwidth 3\nmap\n...\n' >row.map
 

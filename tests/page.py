@@ -171,7 +171,7 @@ def try_layers(browser, pictures):
     source = grid.place((19, 5))
     wait_until(lambda: browser.run("return state.field && state.field.source") == source, "first moves")
     moves = stored_moves(grid, source, "rows")
-    wanted = [moves.get(place, -1) if place != source else -1 for place in range(len(grid.free))]
+    wanted = [moves.get(place, -1) if place != source else -1 for place in range(len(grid.terrain))]
     judge("first moves", browser.run("return Array.from(state.field.moves)"), wanted)
     time.sleep(0.1)  # a frame, until it is drawn
     browser.picture(pictures, "2-moves")

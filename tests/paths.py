@@ -3,10 +3,10 @@
 
     tests/paths.py [--maps N] [--seed S] [--side K] [--program FILE]
 
-Maps have at most K by K cells (9 where no other side is given). The model is that of replay.py: it shares nothing with
-the program. Of each map all four lines of `check` are compared, and of some queries, ends outside and blocked among them,
-the status and the whole text of `path`: cost, length and each move. The first that differ are printed, and the status is
-1 then. The program is the one that was built here, or the release.
+Maps have land and water, and at most K by K cells (9 where no other side is given). The model is that of replay.py: it
+shares nothing with the program. Of each map all four lines of `check` are compared, and of some queries, ends outside
+and blocked among them, the status and the whole text of `path`: cost, length and each move. The first that differ are
+printed, and the status is 1 then. The program is the one that was built here, or the release.
 """
 
 import argparse
@@ -18,7 +18,7 @@ import sys
 import tempfile
 
 from judging import program_here
-from replay import Version, map_text
+from replay import Version, cells_of, map_text
 
 
 def runs_of(version):
@@ -73,7 +73,7 @@ def main():
         for _ in range(options.maps):
             width, height = rng.randint(1, options.side), rng.randint(1, options.side)
             blocked, order = rng.choice([0.0, 0.1, 0.25, 0.4]), rng.choice(["rows", "dfs"])
-            cells = {(x, y) for y in range(height) for x in range(width) if rng.random() >= blocked}
+            cells = cells_of(rng, width, height, blocked)
             with open(name, "w") as file:
                 file.write(map_text(width, height, cells))
             version = Version(width, height, cells, order)

@@ -3,11 +3,11 @@
 
     tests/replay.py [--lists N] [--seed S] [--side K] [--program FILE]
 
-Each list has at most 40 events, of a few passes, on a map of at most K by K cells (5 where no other side is given). The
-model shares nothing with the program: a map is a set of cells, each version is made anew, costs are exact pairs, and
-each path is spelled move by move from the row of each cell. Every line and the status are compared; the first lists
-that differ are printed, and the status is 1 then. At last a list of more edits than a board takes is played on a map of
-three cells. The program is the one that was built here, or the release.
+Each list has at most 40 events, of a few passes, on a map of land and water of at most K by K cells (5 where no other
+side is given). The model shares nothing with the program: a map is the letter of each passable cell, each version is
+made anew, costs are exact pairs, and each path is spelled move by move from the row of each cell. Every line and the
+status are compared; the first lists that differ are printed, and the status is 1 then. At last a list of more edits
+than a board takes is played on a map of three cells. The program is the one that was built here, or the release.
 """
 
 import argparse
@@ -27,6 +27,7 @@ NAMES = ["N", "NE", "E", "SE", "S", "SW", "W", "NW"]
 STEPS = [(0, -1), (1, -1), (1, 0), (1, 1), (0, 1), (-1, 1), (-1, 0), (-1, -1)]
 MAX_PASSABLE = 32_768
 MAX_EDITS = 1_048_576
+LAND, WATER = ".", "W"
 
 
 def moved(cell, move):
@@ -34,11 +35,10 @@ def moved(cell, move):
 
 
 def is_legal(cells, cell, move):
-    """Both ends are passable and, of a diagonal move, both cells beside it."""
+    """Both ends are land or both water and, of a diagonal move, both cells beside it are of that class too."""
     (x, y), (dx, dy) = cell, STEPS[move]
-    if cell not in cells or (x + dx, y + dy) not in cells:
-        return False
-    return move % 2 == 0 or ((x + dx, y) in cells and (x, y + dy) in cells)
+    met = [(x, y), (x + dx, y + dy)] + ([(x + dx, y), (x, y + dy)] if move % 2 else [])
+    return {cells.get(one) for one in met} in ({LAND}, {WATER})
 
 
 def compare(left, right):
@@ -188,21 +188,21 @@ def read(text):
 
 class Board:
     def __init__(self, width, height, cells, order):
-        self.width, self.height, self.start, self.order = width, height, frozenset(cells), order
+        self.width, self.height, self.start, self.order = width, height, cells, order
         self.edits, self.published, self.halts = [], 0, False
         self.held, self.builds = [0] * 64, [None] * 64
 
     def map_at(self, prefix):
-        cells = set(self.start)
+        cells = dict(self.start)
         for cell, passable in self.edits[:prefix]:
             if passable:
-                cells.add(cell)
+                cells[cell] = LAND
             else:
-                cells.discard(cell)
-        return frozenset(cells)
+                cells.pop(cell, None)
+        return cells
 
     def version(self, prefix):
-        return make_version(self.width, self.height, self.map_at(prefix), self.order)
+        return make_version(self.width, self.height, frozenset(self.map_at(prefix).items()), self.order)
 
     def run(self, event):
         return getattr(self, event[0])(*event[1:])
@@ -265,7 +265,7 @@ class Board:
 
 @functools.lru_cache(maxsize=64)
 def make_version(width, height, cells, order):
-    return Version(width, height, cells, order)
+    return Version(width, height, dict(cells), order)
 
 
 def expected(width, height, cells, order, text):
@@ -336,17 +336,23 @@ def text_of(rng, lines):
     return text[: -rng.choice([0, 0, 0, 1])] if rng.random() < 0.2 and len(text) > 1 else text
 
 
+def cells_of(rng, width, height, blocked):
+    """The letters of a made map's passable cells, of which some are water on every other map."""
+    water = rng.choice([0.0, 0.0, 0.2, 0.5])
+    every = [(x, y) for y in range(height) for x in range(width)]
+    return {cell: WATER if rng.random() < water else LAND for cell in every if rng.random() >= blocked}
+
+
 def list_of(rng, side):
     width, height = rng.randint(1, side), rng.randint(1, side)
-    blocked = rng.choice([0.0, 0.15, 0.3, 0.5])
-    cells = {(x, y) for y in range(height) for x in range(width) if rng.random() >= blocked}
+    cells = cells_of(rng, width, height, rng.choice([0.0, 0.15, 0.3, 0.5]))
     passes = rng.sample([0, 1, 2, 62, 63], rng.choice([1, 2, 2, 3, 4]))
     lines = merged(rng, [script(rng, width, height, number) for number in passes])
     return width, height, cells, text_of(rng, lines)
 
 
 def map_text(width, height, cells):
-    rows = ("".join(".@"[(x, y) not in cells] for x in range(width)) for y in range(height))
+    rows = ("".join(cells.get((x, y), "@") for x in range(width)) for y in range(height))
     return "type octile\nheight %d\nwidth %d\nmap\n%s\n" % (height, width, "\n".join(rows))
 
 
@@ -354,7 +360,7 @@ def is_full_list_right(program, folder):
     """Whether a list of one edit too many is answered line by line."""
     map_file, events_file = os.path.join(folder, "full.map"), os.path.join(folder, "full.events")
     with open(map_file, "w") as file:
-        file.write(map_text(3, 1, {(0, 0), (1, 0), (2, 0)}))
+        file.write(map_text(3, 1, {(0, 0): LAND, (1, 0): LAND, (2, 0): LAND}))
     with open(events_file, "w") as file:
         file.write("submit 0 0 0 0\n" * MAX_EDITS + "submit 1 0 0 1\nsubmit 1 3 0 1\n")
     wanted = "".join("0 accepted %d\n" % (count + 1) for count in range(MAX_EDITS)) + "1 edits full\n1 outside\n"

@@ -138,7 +138,7 @@ ended(server, 1, 1, 1)
 server = serve(row, port, 64, "--room", "0", "--workers", "2", "--order", "dfs")
 second = subprocess.run([program, "serve", row, str(port), "1"], capture_output=True, timeout=20)
 judge("a port that is taken", (second.stdout, second.stderr.decode(), second.returncode),
-      (b"read fault\n", f"path_server serve: port {port} is taken or may not be opened, or a door of it failed\n", 5))
+      (b"read fault\n", f"path_server serve: port {port} is taken: Address already in use (os error 98)\n", 5))
 idle = [connect(port) for _ in range(63)]
 judge("one door left", ask(port, "change 1 0 1")[0], "accepted 1\n")
 for link in idle:

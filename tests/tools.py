@@ -40,12 +40,14 @@ def tool(name, *words):
 
 
 def random_grid(rng, number):
-    """A map: of one cell, all blocked, or at random."""
+    """A map: of one cell, all blocked, or of land and water at random."""
     if number < 2:
         return Grid(1, 1, bytes([number]))
     width, height = rng.randint(2, 14), rng.randint(2, 14)
     blocked = 1.0 if number == 2 else rng.choice((0.0, 0.2, 0.4))
-    return Grid(width, height, bytes(rng.random() >= blocked for _ in range(width * height)))
+    water = rng.choice((0.0, 0.0, 0.3))
+    cells = (0 if rng.random() < blocked else 2 if rng.random() < water else 1 for _ in range(width * height))
+    return Grid(width, height, bytes(cells))
 
 
 def least_cost(grid, start, goal):
@@ -180,6 +182,9 @@ def judge_checker():
     ]
     judge("wrong paths", [fault_of(grid, (0, 0), (2, 0), path) is None for path in wrong], [False] * 4)
     judge("a right path", fault_of(grid, (0, 0), (2, 0), Path(0, 4, 0, (Move.S, Move.E, Move.E, Move.N))), None)
+    shore = Grid(3, 2, bytes((1, 2, 1, 1, 1, 1)))
+    for path in Path(0, 2, 0, (Move.E, Move.E)), Path(0, 1, 1, (Move.SE, Move.E, Move.N)):
+        judge("a path over water", fault_of(shore, (0, 0), (2, 0), path) is None, False)
 
 
 def judge_answers():
@@ -208,15 +213,16 @@ def judge_example():
 
 
 def judge_views(folder):
-    """Each view is well-formed, on a map of one cell, on one that is all blocked, and on one of two components."""
-    for name, rows in (("one", "."), ("none", "@"), ("two", ".@."), ("three", "..@\n.@.")):
+    """Each view is well-formed, on a map of one cell, on one that is all blocked, on those of two components, and on one
+    with water."""
+    for name, rows in (("one", "."), ("none", "@"), ("two", ".@."), ("three", "..@\n.@."), ("wet", ".WW\n.W@")):
         lines = rows.split("\n")
-        free = bytes(byte == "." for byte in "".join(lines))
+        cells = bytes("@.W".index(letter) for letter in "".join(lines))
         map_name, other = os.path.join(folder, name + ".map"), os.path.join(folder, name + ".other.map")
         with open(map_name, "w") as file:
-            file.write(Grid(len(lines[0]), len(lines), free).text())
+            file.write(Grid(len(lines[0]), len(lines), cells).text())
         with open(other, "w") as file:
-            file.write(Grid(len(lines[0]), len(lines), bytes(1 - byte for byte in free)).text())
+            file.write(Grid(len(lines[0]), len(lines), bytes(byte == 0 for byte in cells)).text())
         for words in (
             ["map"],
             ["components"],
