@@ -2,7 +2,7 @@
 _path_server() {
     local word=${COMP_WORDS[COMP_CWORD]} before=${COMP_WORDS[COMP_CWORD - 1]} options=
     if ((COMP_CWORD == 1)); then
-        COMPREPLY=($(compgen -W 'path check scen made replay talk serve ask near nearpath' -- "$word"))
+        COMPREPLY=($(compgen -W 'path check scen made replay talk serve ask export verify near nearpath' -- "$word"))
         return
     fi
     case ${COMP_WORDS[1]} in
@@ -14,6 +14,8 @@ _path_server() {
         talk) options='--order --workers --room' ;;
         serve) options='--order --workers --room' ;;
         ask) options='' ;;
+        export) options='--order --workers' ;;
+        verify) options='' ;;
         near) options='--order --workers' ;;
         nearpath) options='--order --workers' ;;
     esac
