@@ -1,7 +1,8 @@
-"""Want of memory: one request for memory after the other is refused, in sessions of `talk` and of `serve` (allocs.sh says
-what is right then, and runs it).
+"""Want of memory: one request for memory after the other is refused, in sessions of `talk` and of `serve`, in `export` and
+in `verify` (allocs.sh says what is right then, and runs it).
 
-allocs.py PROGRAM LIBRARY MAP OPEN_MAP, where LIBRARY is made of allocs.c, MAP is `.@.` and OPEN_MAP `...`.
+allocs.py PROGRAM LIBRARY MAP OPEN_MAP DATABASE, where LIBRARY is made of allocs.c, MAP is `.@.` and OPEN_MAP `...`.
+DATABASE is where the file of MAP's database may lie.
 """
 import os, subprocess, sys, time
 
@@ -10,7 +11,7 @@ from path_server import (Accepted, AskStatus, BadReply, Build, Bye, Change, Conn
                          NothingNew, OutOfMemory, Path, Published, Query, Status, Stop, TcpLink, Terrain, Unreachable, free_port)
 from path_server.frames import decoded, encoded, split_replies
 
-program, library, row, open_map = sys.argv[1:]
+program, library, row, open_map, database = sys.argv[1:]
 failed = 0
 QUERY, CHANGE = Query((0, 0), (2, 0)), Change((1, 0), Terrain.LAND)
 TALK = [QUERY, CHANGE, QUERY, Build(), QUERY, AskStatus(), Bye()]
@@ -113,6 +114,13 @@ def serve(number, lasting, room):
     wrong = status not in (0, 7) or text != whole or replies != right
     return told, felt, wrong and f"status {status}, {text!r} and {replies}"
 
+def prints(number, lasting, words):
+    """The same, in a command that prints: it prints all that it has to, or the line of status 7 alone."""
+    text, status, told = Run(number, lasting, *words).end()
+    if status == 7:
+        return told, ["status 7"], text != b"out of memory\n" and f"status 7 behind {text.hex()}"
+    return told, [], (text, status) != (whole[words[0]], 0) and f"status {status} and {text.hex()}"
+
 def refuse_each(run, lasting, room, allowed):
     """Refuses one request after the other, and says what came of it. Nothing but what is allowed may."""
     global failed
@@ -151,10 +159,16 @@ def try_all(run, lasting, room, allowed):
     print(f"allocs.sh: {name}: felt {sorted(seen)}, and not {sorted(allowed)}", file=sys.stderr)
 
 port = free_port()
+whole = {"export": subprocess.run([program, "export", row], capture_output=True, check=True).stdout}
+with open(database, "wb") as file:
+    file.write(whole["export"])
+whole["verify"] = subprocess.run([program, "verify", database], capture_output=True, check=True).stdout
 for lasting in (False, True):
     try_all(talk, lasting, [], {"status 7", "build"})
     try_all(talk, lasting, ["--room", "0"], {"status 7", "change", "build"})
     try_all(serve, lasting, [], {"status 7"})
+    try_all(prints, lasting, ["export", row], {"status 7"})
+    try_all(prints, lasting, ["verify", database], {"status 7"})
 # nothing but its end would end a server that has no memory for a stop
 try_all(serve, False, ["--room", "0"], {"status 7", "stop"})
 sys.exit(failed)

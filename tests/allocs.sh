@@ -1,7 +1,7 @@
 #!/usr/bin/env bash
 # Want of memory in the program: the N-th request for memory is refused, for N from 1 until a run meets no refusal,
-# in a session of `talk` and in one of `serve`, with the room that they have and with none; and then all requests from
-# the N-th on.
+# in a session of `talk` and in one of `serve`, with the room that they have and with none, in `export` and in `verify`;
+# and then all requests from the N-th on.
 #
 # Each run ends with status 7, or one reply tells of want of memory: that to a build or, without room, to an edit or a
 # stop. All other replies are right for a board on which nothing came of it. A run that feels nothing of a single refusal
@@ -18,4 +18,4 @@ trap 'rm -rf "$folder"' EXIT
 gcc -shared -fPIC -O2 -o "$folder/allocs.so" "$here/allocs.c" || exit 1
 printf 'type octile\nheight 1\nwidth 3\nmap\n...\n' >"$folder/open.map"
 export PYTHONDONTWRITEBYTECODE=1
-python3 "$here/allocs.py" "$program" "$folder/allocs.so" "$here/maps/row.map" "$folder/open.map"
+python3 "$here/allocs.py" "$program" "$folder/allocs.so" "$here/maps/row.map" "$folder/open.map" "$folder/row.db"
