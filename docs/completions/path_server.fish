@@ -29,7 +29,7 @@ complete -c path_server -x -n '__fish_seen_subcommand_from serve' -l workers
 complete -c path_server -x -n '__fish_seen_subcommand_from serve' -l room
 complete -c path_server -F -n '__fish_seen_subcommand_from serve'
 complete -c path_server -f -n __fish_use_subcommand -a ask -d 'prints what a server answers to one request'
-complete -c path_server -f -n __fish_use_subcommand -a export -d 'puts the file of the map's database on standard output'
+complete -c path_server -f -n __fish_use_subcommand -a export -d 'puts the file of the map\'s database on standard output'
 complete -c path_server -x -n '__fish_seen_subcommand_from export' -l order -a 'rows dfs'
 complete -c path_server -x -n '__fish_seen_subcommand_from export' -l workers
 complete -c path_server -F -n '__fish_seen_subcommand_from export'
