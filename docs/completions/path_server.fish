@@ -33,7 +33,7 @@ complete -c path_server -f -n __fish_use_subcommand -a export -d 'puts the file 
 complete -c path_server -x -n '__fish_seen_subcommand_from export' -l order -a 'rows dfs'
 complete -c path_server -x -n '__fish_seen_subcommand_from export' -l workers
 complete -c path_server -F -n '__fish_seen_subcommand_from export'
-complete -c path_server -f -n __fish_use_subcommand -a verify -d 'checks such a file without a search: each path that it spells is optimal'
+complete -c path_server -f -n __fish_use_subcommand -a verify -d 'checks the file of a database without a search: each path that it spells is optimal'
 complete -c path_server -F -n '__fish_seen_subcommand_from verify'
 complete -c path_server -f -n __fish_use_subcommand -a near -d 'prints what check prints, and how many runs are left where the compass is right'
 complete -c path_server -x -n '__fish_seen_subcommand_from near' -l order -a 'rows dfs'

@@ -196,7 +196,7 @@ impl Verb {
             Verb::Ask => "prints what a server answers to one request",
             Verb::Export => "puts the file of the map's database on standard output",
             Verb::Verify =>
-                "checks such a file without a search: each path that it spells is optimal",
+                "checks the file of a database without a search: each path that it spells is optimal",
             Verb::Near =>
                 "prints what check prints, and how many runs are left where the compass is right",
             Verb::NearPath => "prints an optimal path that goes by the compass where that is right",

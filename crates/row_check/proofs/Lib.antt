@@ -2,6 +2,7 @@ pub mod Edging
 pub mod Arriving
 pub mod Standing
 pub mod Offering
+pub mod Lanes
 pub mod Tightening
 pub mod Bridging
 pub mod Judging

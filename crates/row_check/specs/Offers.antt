@@ -19,6 +19,12 @@ pub record IsOfferedLess (edges keys : List ℕ) (key : ℕ) : Type 0 where
   pub move : number < 8
   pub less : offered edges keys number < key
 
+-- some move has less there than is wanted
+pub record HasLess (there wanted : List ℕ) : Type 0 where
+  pub number : ℕ
+  pub move : number < 8
+  pub less : slice_index there number < slice_index wanted number
+
 -- of the moves with numbers below `upto` none offers less than the key, and the set has those that offer it
 pub record IsSetBelow (edges keys : List ℕ) (key upto set : ℕ) : Type 0 where
   pub least : (number : ℕ) → number < upto → key ≤ offered edges keys number

@@ -1,9 +1,12 @@
 //! The moves that are as good as the walks.
 
-ghost use Rattle.std.specs.Prelude.{◌≡◌, ◌<◌, ◌≤◌, IfSome, IfNone, length};
-ghost use Rattle.row_check.specs.Offers.{AreSets, CanAllOffer, CanOffer, IsFirstOfferedLess, IsOfferedLess, IsSetOf};
+ghost use Rattle.std.specs.Prelude.{◌≡◌, ℕ, ◌-◌, ◌<◌, ◌≤◌, ◌↔◌, IfSome, IfNone, IsTrue, IsFalse, length, slice_index};
+ghost use Rattle.run_pack.specs.Sets.{Has};
+ghost use Rattle.row_check.specs.Following.{step_numbered};
+ghost use Rattle.row_check.specs.Offers.{AreSets, CanAllOffer, CanOffer, HasLess, IsFirstOfferedLess, IsOfferedLess, IsSetOf};
 
-use crate::cursors::step_numbered;
+use root_cost::{DIAGONAL_KEY, STRAIGHT_KEY};
+use std::simd::prelude::*;
 
 /// Finds for each place the set of the moves that offer just its key, and takes all moves at the target; the first
 /// place where a move offers less, if there is one.
@@ -38,14 +41,71 @@ fn find_set(edges: &[u16; 8], keys: &[u32], key: u32) -> Option<u8>
     ensures byte { IfSome result (λ set. set < 256) }
     ensures less { IfNone result (IsOfferedLess edges.now keys.now key) }
 {
-    let mut set = 0;
-    for number in 0..8u8 {
-        let there = keys[usize::from(edges[usize::from(number)])];
-        let wanted = key.saturating_sub(step_numbered(number));
-        if there < wanted {
-            return None;
-        }
-        set |= u8::from(there == wanted) << number;
+    let there = keys_there(edges, keys);
+    let wanted = keys_wanted(key);
+    if has_less(there, wanted) {
+        return None;
     }
-    Some(set)
+    Some(equal_lanes(there, wanted))
+}
+
+/// The keys where the eight moves lead, by their numbers.
+#[inline(always)]
+fn keys_there(edges: &[u16; 8], keys: &[u32]) -> u32x8
+    requires { CanOffer edges.now keys.now }
+    ensures lanes { length result ≡ 8 }
+    ensures keys { (number : ℕ) → number < 8
+        → slice_index result number ≡ slice_index keys.now (slice_index edges.now number) }
+{
+    u32x8::from_array([
+        keys[usize::from(edges[0])],
+        keys[usize::from(edges[1])],
+        keys[usize::from(edges[2])],
+        keys[usize::from(edges[3])],
+        keys[usize::from(edges[4])],
+        keys[usize::from(edges[5])],
+        keys[usize::from(edges[6])],
+        keys[usize::from(edges[7])],
+    ])
+}
+
+/// What is left of a key behind the steps of the eight moves, by their numbers; 0 where a step is more.
+#[inline(always)]
+fn keys_wanted(key: u32) -> u32x8
+    ensures lanes { length result ≡ 8 }
+    ensures rest { (number : ℕ) → number < 8
+        → slice_index result number ≡ key - step_numbered number }
+{
+    let steps = u32x8::from_array([
+        STRAIGHT_KEY,
+        DIAGONAL_KEY,
+        STRAIGHT_KEY,
+        DIAGONAL_KEY,
+        STRAIGHT_KEY,
+        DIAGONAL_KEY,
+        STRAIGHT_KEY,
+        DIAGONAL_KEY,
+    ]);
+    u32x8::splat(key).simd_max(steps) - steps
+}
+
+/// Whether some number of the first is less than the one at its place in the second.
+#[inline(always)]
+fn has_less(there: u32x8, wanted: u32x8) -> bool
+    requires lanes { (length there ≡ 8) × (length wanted ≡ 8) }
+    ensures some { IsTrue result → HasLess there wanted }
+    ensures none { IsFalse result → (number : ℕ) → number < 8
+        → slice_index wanted number ≤ slice_index there number }
+{
+    there.simd_lt(wanted).any()
+}
+
+/// The set of the places at which the two have one number.
+#[inline(always)]
+fn equal_lanes(there: u32x8, wanted: u32x8) -> u8
+    requires lanes { (length there ≡ 8) × (length wanted ≡ 8) }
+    ensures { (number : ℕ) → number < 8
+        → Has result number ↔ (slice_index there number ≡ slice_index wanted number) }
+{
+    there.simd_eq(wanted).to_bitmask() as u8
 }
