@@ -6,7 +6,7 @@ spoilt.py SEED COUNT
 """
 import collections, struct, sys
 
-from db_model import MARK, Map, fields, file_of, row_bytes, wanted
+from db_model import MARK, Fault, Map, fields, file_of, row_bytes, wanted
 
 TERRAIN_AT, MOST, SEEDS = 21, 6, 1_000_000
 SHARES = [(100, 0), (80, 0), (60, 0), (50, 50), (50, 25), (70, 15)]
@@ -47,7 +47,12 @@ def made_file(chance):
 
 
 def spoilt(chance, made):
-    """The file, spoilt in one of the ways of the crate."""
+    """The file, spoilt in one of the ways of the crate or in two."""
+    once = spoilt_once(chance, made)
+    return spoilt_once(chance, once) if chance.below(2) else once
+
+
+def spoilt_once(chance, made):
     data, way = bytearray(made), chance.below(100)
     if 5 <= way <= 14:
         flip_bit(chance, data, len(data))
@@ -68,16 +73,18 @@ def spoilt(chance, made):
 
 
 def flip_bit(chance, data, bound):
-    place = chance.place(bound)
-    data[place] ^= 1 << chance.below(8)
+    place, bit = chance.place(bound), chance.below(8)
+    if data:
+        data[place] ^= 1 << bit
 
 
 def change_word(chance, data):
-    behind = chance.place((len(data) - TERRAIN_AT) // 4) * 4
+    behind = chance.place(max(0, len(data) - TERRAIN_AT) // 4) * 4
     number = chance.below(8)
     word = WORDS[number] if number < len(WORDS) else chance.below(64)
     place = len(data) - behind - 4
-    data[place:place + 4] = struct.pack(">I", word)
+    if place >= 0:
+        data[place:place + 4] = struct.pack(">I", word)
 
 
 def wide_file(chance):
@@ -87,7 +94,10 @@ def wide_file(chance):
 
 
 def with_rows_spoilt(chance, made, way):
-    grid, _, parts = fields(made)
+    try:
+        grid, _, parts = fields(made)
+    except Fault:
+        return made
     comp = chance.place(len(parts))
     if not parts:
         return made

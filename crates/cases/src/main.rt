@@ -50,6 +50,10 @@ fn said<R: Threads + Wait + Sync>(
     if said.is_some() {
         return Ok(said);
     }
+    let said = file_cases::answer(rt, alloc, kind, input)?;
+    if said.is_some() {
+        return Ok(said);
+    }
     let said = outside_cases::answer(rt, alloc, kind, input)?;
     if said.is_some() {
         return Ok(said);
