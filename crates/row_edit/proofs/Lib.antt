@@ -1,0 +1,4 @@
+pub mod TightRuns
+pub mod Shorter
+pub mod Moved
+pub mod Rows
