@@ -2,3 +2,8 @@ pub mod TightRuns
 pub mod Shorter
 pub mod Moved
 pub mod Rows
+pub mod Bits
+pub mod Reading
+pub mod RaisedWords
+pub mod TakingOut
+pub mod PuttingIn

@@ -43,10 +43,9 @@ module _ (xs ys : List ℕ) (place : ℕ) (same : (k : ℕ) → k < place → sl
   front_stays last [] upto tight before starts cut = tt
   front_stays last (run ∷ runs) upto tight before starts cut =
       let end = border_upto xs runs upto tight.1 in
-      let start = All-head (λ run. run.start ≤ last) run runs starts in
-      (
+      let start = All-head (λ run. run.start ≤ last) run runs starts in (
         stays_before run.start (border runs upto 0) run.mv tight.0 (omega arith) (λ at inside other common.
-        cut (omega arith) (omega arith) inside other (IsCommon-part xs run.start place last place other common start (omega arith))),
+            cut (omega arith) (omega arith) inside other (IsCommon-part xs run.start place last place other common start (omega arith))),
         front_stays last runs upto tight.1 before (All-tail (λ run. run.start ≤ last) run runs starts) (λ at some. cut at (omega arith)),
       )
 
@@ -110,8 +109,7 @@ module _ (longer shorter : List ℕ) (place : ℕ) (short : IsShorter longer sho
   pub back_moves : (runs : List Run) (upto : ℕ) → AreTight longer runs upto → place < border runs upto 0 → AreTight shorter (map earlier runs) (upto - 1)
   back_moves [] upto tight late = tt
   back_moves (run ∷ runs) upto tight late =
-      let covers = tight.0.covers in
-      (
+      let covers = tight.0.covers in (
         rw (border-earlier runs upto) (moves_back run.start (border runs upto 0) run.mv tight.0 late),
         back_moves runs upto tight.1 (omega arith),
       )
@@ -119,21 +117,18 @@ module _ (longer shorter : List ℕ) (place : ℕ) (short : IsShorter longer sho
   pub back_moves_on : (runs : List Run) (upto : ℕ) → AreTight shorter runs upto → place ≤ border runs upto 0 → AreTight longer (map later runs) (upto + 1)
   back_moves_on [] upto tight late = tt
   back_moves_on (run ∷ runs) upto tight late =
-      let covers = tight.0.covers in
-      (
+      let covers = tight.0.covers in (
         rw (border-later runs upto) (moves_forth run.start (border runs upto 0) run.mv tight.0 late),
         back_moves_on runs upto tight.1 (omega arith),
       )
 
   -- ---- the run that has the place
 
-  -- it stays without the place, where each move that becomes common is above its own and not in the set behind it
-  pub run_without : (start end move fresh : ℕ) → IsTightRun longer start end move → start ≤ place → place < end → start + 1 < end
-      → ((other : ℕ) → IsCommon shorter start (end - 1) other → (Has (slice_index longer place) other) ⊎ (Has fresh other))
-      → ((other : ℕ) → Has fresh other → move ≤ other)
-      → (end < length longer → (other : ℕ) → Has fresh other → Has (slice_index longer end) other → ⊥)
+  -- it stays without the place, where each move that becomes common is not below its own and not in the set behind it
+  pub run_without : (start end move : ℕ) → IsTightRun longer start end move → start ≤ place → place < end → start + 1 < end
+      → ((other : ℕ) → IsCommon shorter start (end - 1) other → (Has (slice_index longer place) other) ⊎ ((move ≤ other) × (end < length longer → Has (slice_index longer end) other → ⊥)))
       → IsTightRun shorter start (end - 1) move
-  run_without start end move fresh run from upto more either above apart =
+  run_without start end move run from upto more either =
       let size = short.size in
       let within = run.within in
       let whole : end - 1 + 1 ≡ end = omega arith in
@@ -146,7 +141,7 @@ module _ (longer shorter : List ℕ) (place : ℕ) (short : IsShorter longer sho
           common = common_out longer shorter place short start end move from upto run.least.common;
           least = λ other common. elim (either other common) [
             | inl has ↦ run.least.least other (former other has common)
-            | inr new ↦ above other new
+            | inr new ↦ new.0
           ];
         };
         maximal = λ inside other common.
@@ -159,7 +154,7 @@ module _ (longer shorter : List ℕ) (place : ℕ) (short : IsShorter longer sho
                   let common' : IsCommon longer start (end - 1 + 1 + 1) other =
                   common_in longer shorter place short start (end - 1 + 1) other from (omega arith) has common in
                   run.maximal (omega arith) other (rw whole at common')
-              | inr new ↦ apart (omega arith) other new behind
+              | inr new ↦ new.1 (omega arith) behind
             ]);
       }
 

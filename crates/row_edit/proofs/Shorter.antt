@@ -36,6 +36,16 @@ common_along xs ys from upto from' upto' move same common = record {
       subst (λ set. Has set move) one.3 (common.everywhere one.0 one.1 one.2));
 }
 
+-- with one set more
+pub common_more : (sets : List ℕ) (from upto move : ℕ) → IsCommon sets from upto move → Has (slice_index sets upto) move → IsCommon sets from (upto + 1) move
+common_more sets from upto move common has = record {
+  number = common.number;
+  everywhere = λ place a b. elim (cases_lt place upto) [
+    | inl early ↦ common.everywhere place a early
+    | inr late ↦ (let same : upto ≡ place = omega arith in subst (λ at. Has (slice_index sets at) move) same has)
+  ];
+}
+
 pub common_same : (xs ys : List ℕ) (from upto move : ℕ) → ((k : ℕ) → k < upto → slice_index xs k ≡ slice_index ys k) → IsCommon xs from upto move → IsCommon ys from upto move
 common_same xs ys from upto move same common =
     common_along xs ys from upto from upto move (λ k a b. (k, a, b, same k b)) common

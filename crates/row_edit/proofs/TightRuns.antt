@@ -47,8 +47,8 @@ tight_from_each sets [] upto each = tt
 tight_from_each sets (run ∷ runs) upto each = (
   each 0 (omega arith),
   tight_from_each sets runs upto (λ k within.
-  (let next : suc k + 1 ≡ suc (k + 1) = omega arith in
-  rw next at (each (suc k) (omega arith)))),
+      (let next : suc k + 1 ≡ suc (k + 1) = omega arith in
+      rw next at (each (suc k) (omega arith)))),
 )
 
 each_tight : (sets : List ℕ) (runs : List Run) (upto : ℕ) → AreTight sets runs upto → (k : ℕ) → k < length runs → IsTightRun sets (start_at runs k) (end_at runs upto k) (move_at runs k)

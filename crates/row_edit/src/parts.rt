@@ -1,0 +1,10 @@
+//! What the words of a new row are made of.
+
+/// The words before run `front`, then a word of its own where there is one, then the words from run `back` on, whose runs
+/// start one place earlier or later.
+#[derive(Clone, Copy)]
+pub(crate) struct Parts {
+    pub(crate) front: usize,
+    pub(crate) own: Option<u32>,
+    pub(crate) back: usize,
+}
