@@ -7,27 +7,15 @@ db.py PROGRAM [COUNT], where COUNT files are spoilt, 1,500 where it is not given
 """
 import os, random, struct, subprocess, sys, tempfile
 
-from db_model import Map, fields, file_of, head_bytes, row_bytes, rows_of, wanted
+from db_model import fields, file_of, head_bytes, row_bytes, wanted
 from judging import Judge
+from map_model import Map, made_map, rows_of, text_of
 
 program, count = sys.argv[1], int(sys.argv[2]) if len(sys.argv) > 2 else 1500
 judge = Judge("db.sh")
-TERRAINS = "@.W"
 
 
-# ---- made maps, and files that are spoilt
-
-def made_map(chance):
-    width, height = chance.randint(1, 7), chance.randint(1, 7)
-    kinds = chance.choice([[1], [0, 1, 1, 1], [0, 1, 1, 2], [1, 2], [0, 1]])
-    return Map(width, height, [chance.choice(kinds) for _ in range(width * height)])
-
-
-def text_of(grid):
-    rows = [grid.cells[y * grid.width:(y + 1) * grid.width] for y in range(grid.height)]
-    return f"type octile\nheight {grid.height}\nwidth {grid.width}\nmap\n" + "".join(
-        "".join(TERRAINS[cell] for cell in row) + "\n" for row in rows)
-
+# ---- files that are spoilt
 
 def spoilt(chance, grid, prefix, order):
     """The file of a map with something in it changed."""

@@ -1,108 +1,11 @@
 """A plain model of database files (docs/FORMATS.md), which shares nothing with the program: the file of a map, and the first
 fault of a file. `db.py` and `spoilt.py` judge by it.
 """
-import heapq
 import struct
 
+from map_model import WEIGHTS, Map, rows_of
+
 MARK = b"PATHDB01"
-STEPS = [(0, -1), (1, -1), (1, 0), (1, 1), (0, 1), (-1, 1), (-1, 0), (-1, -1)]
-WEIGHTS = [10 ** 12, 1_414_213_562_373] * 4  # a straight step and a diagonal one; costs of these maps are far apart
-
-
-class Map:
-    """A map, row by row: 0 blocked, 1 land, 2 water."""
-
-    def __init__(self, width, height, cells):
-        self.width, self.height, self.cells = width, height, cells
-
-    def at(self, x, y):
-        return self.cells[y * self.width + x] if 0 <= x < self.width and 0 <= y < self.height else 0
-
-    def move(self, cell, number):
-        """Where a legal move leads, or nothing."""
-        (x, y), (dx, dy) = cell, STEPS[number]
-        kind = self.at(x, y)
-        corners = [(x + dx, y), (x, y + dy)] if dx and dy else []
-        if kind and all(self.at(*each) == kind for each in [(x + dx, y + dy), *corners]):
-            return x + dx, y + dy
-        return None
-
-    def components(self):
-        """The components by their least cells, each row by row."""
-        left = [(x, y) for y in range(self.height) for x in range(self.width) if self.at(x, y)]
-        found = []
-        seen = set()
-        for first in left:
-            if first in seen:
-                continue
-            seen.add(first)
-            reached, open_cells = {first}, [first]
-            while open_cells:
-                cell = open_cells.pop()
-                for number in range(8):
-                    to = self.move(cell, number)
-                    if to and to not in reached:
-                        reached.add(to)
-                        open_cells.append(to)
-            seen |= reached
-            found.append(sorted(reached, key=lambda cell: (cell[1], cell[0])))
-        return found
-
-    def ordered(self, cells, order):
-        """The cells row by row, or depth first from the first one: north, east, south, west."""
-        if order == 0:
-            return cells
-        inside, seen = set(cells), []
-
-        def visit(cell):
-            if cell in inside and cell not in seen:
-                seen.append(cell)
-                x, y = cell
-                for near in ((x, y - 1), (x + 1, y), (x, y + 1), (x - 1, y)):
-                    visit(near)
-        visit(cells[0])
-        return seen
-
-    def costs(self, start):
-        """Least costs from a cell."""
-        costs, heap = {start: 0}, [(0, start)]
-        while heap:
-            cost, cell = heapq.heappop(heap)
-            if cost > costs[cell]:
-                continue
-            for number in range(8):
-                to = self.move(cell, number)
-                if to and cost + WEIGHTS[number] < costs.get(to, 1 << 60):
-                    costs[to] = cost + WEIGHTS[number]
-                    heapq.heappush(heap, (costs[to], to))
-        return costs
-
-
-def packed(sets):
-    """The tight row of sets: each run as long as a move is left, and its least move."""
-    row, at = [], 0
-    while at < len(sets):
-        start, common = at, 255
-        while at < len(sets) and common & sets[at]:
-            common &= sets[at]
-            at += 1
-        row.append((start, (common & -common).bit_length() - 1))
-    return row
-
-
-def rows_of(grid, cells):
-    """The rows of the cells of a component, in their order."""
-    to = [grid.costs(cell) for cell in cells]
-    rows = []
-    for source, cell in enumerate(cells):
-        sets = []
-        for target in range(len(cells)):
-            moves = [(number, grid.move(cell, number)) for number in range(8)]
-            sets.append(255 if source == target else sum(
-                1 << number for number, next_cell in moves
-                if next_cell and to[target][next_cell] + WEIGHTS[number] == to[target][cell]))
-        rows.append(packed(sets))
-    return rows
 
 
 def row_bytes(row):

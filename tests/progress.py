@@ -2,10 +2,11 @@
 
 progress.py PROGRAM MAP, where MAP is `.@.`; progress.sh runs it.
 """
-import os, pty, re, subprocess, sys, tempfile, threading, time
+import os, re, subprocess, sys, tempfile, time
 
 from judging import Judge
 from path_server import Client, free_port
+from terminal import CLEARED, Terminal
 
 program, row = sys.argv[1:3]
 judge = Judge("progress.sh")
@@ -14,34 +15,9 @@ ROWS = 11540  # of that map
 LONGER = ("made", "150", "150", "5")
 AFTER, TICK, LINE = 0.5, 0.2, 3  # when a terminal's line comes, how long it stands, and what is between two lines, in seconds
 TOLD = r"path_server: (\d+) of (\d+) rows, (\d+) s gone, (\d+) s left"
-CLEARED = "\r\x1b[K"
 
 for name in ("PATH_SERVER_PROGRESS", "PATH_SERVER_LOG"):
     os.environ.pop(name, None)
-
-
-class Terminal:
-    """A terminal, and what was put there."""
-
-    def __init__(self):
-        self.ours, self.theirs = pty.openpty()
-        self.put = b""
-        self.reader = threading.Thread(target=self.read, daemon=True)
-        self.reader.start()
-
-    def read(self):
-        try:
-            while True:
-                self.put += os.read(self.ours, 1 << 16)
-        except OSError:  # nobody has the other end any more
-            pass
-
-    def text(self):
-        """All that was put, once nobody has the other end."""
-        os.close(self.theirs)
-        self.reader.join(20)
-        os.close(self.ours)
-        return self.put.decode()
 
 
 def at_terminal(*words, **environment):

@@ -6,7 +6,8 @@ spoilt.py SEED COUNT
 """
 import collections, struct, sys
 
-from db_model import MARK, Fault, Map, fields, file_of, row_bytes, wanted
+from db_model import MARK, Fault, fields, file_of, row_bytes, wanted
+from map_model import Map
 
 TERRAIN_AT, MOST, SEEDS = 21, 6, 1_000_000
 SHARES = [(100, 0), (80, 0), (60, 0), (50, 50), (50, 25), (70, 15)]
