@@ -1,11 +1,11 @@
 -- A walk that was followed for some turns: what was ahead at the start is what was done and what is ahead now.
-use Rattle.std.proofs.Common.{◌≡◌, ℕ, ◌+◌, ◌<◌, ◌≤◌, List, [], ◌∷◌, ◌++◌, length, map, set, refl, sym, ap, subst, ◌∙◌, append_assoc, append-nil, arith}
+use Rattle.std.proofs.Common.{◌≡◌, ℕ, ◌+◌, List, [], ◌∷◌, ◌++◌, length, map, set, refl, sym, ap, ◌∙◌, append_assoc, append-nil, arith}
 use Rattle.std.proofs.lemmas.List.{length-append, length-map, length_push, map_push}
 use Rattle.root_cost.specs.declared.Cost.{Cost}
 use Rattle.moves.specs.declared.Move.{Move}
 use Rattle.moves.specs.Moves.{number_of}
 use Rattle.moves.specs.Paths.{cost_of}
-use Rattle.versions.specs.Databases.{Versioned, comp_at}
+use Rattle.versions.specs.Databases.{Versioned}
 use Rattle.path_image.specs.declared.walking.Walk.{Walk}
 use Rattle.path_image.specs.declared.walking.Step.TheVariants.{Arrived, Go, Lost}
 use Rattle.path_image.specs.Answers.{overwritten}

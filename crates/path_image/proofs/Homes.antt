@@ -1,27 +1,26 @@
 -- Where the cells of a version stand in its image.
-use Rattle.std.proofs.Common.{◌≡◌, ◌≢◌, ◌⊎◌, ℕ, ◌+◌, ◌*◌, ◌/◌, ◌%◌, ◌<◌, ◌≤◌, Bool, true, false, List, [], ◌∷◌, length, map, get_or, slice_index_or, Option, Some, None, MatchOption, refl, sym, ap, subst, ◌∙◌, inl, inr, arith}
+use Rattle.std.proofs.Common.{◌≡◌, ◌≢◌, ◌⊎◌, ℕ, ◌+◌, ◌*◌, ◌/◌, ◌%◌, ◌<◌, true, false, List, length, map, slice_index_or, Option, MatchOption, refl, sym, ap, subst, ◌∙◌, inl, inr, arith}
 use Rattle.std.specs.List.{Contains}
-use Rattle.std.proofs.lemmas.Bool.{cases_Bool, cases_eq}
+use Rattle.std.proofs.lemmas.Bool.{cases_Bool}
 use Rattle.std.proofs.lemmas.List.Elements.{Contains-get_or}
 use Rattle.std.specs.Option.{UnwrapsOrElse}
 use Rattle.moves.specs.declared.Cell.{Cell}
 use Rattle.moves.specs.declared.Move.{Move}
 use Rattle.moves.specs.declared.TheConstants.{MAX_PASSABLE}
-use Rattle.moves.specs.Maps.{Map, IsInside, IsPassable, passable_of, place_of}
+use Rattle.moves.specs.Maps.{IsInside, IsPassable, passable_of, place_of}
 use Rattle.moves.specs.Moves.{number_of}
 use Rattle.moves.specs.Paths.{Reaches, Leads}
-use Rattle.moves.specs.FirstSetLists.{cell_of}
-use Rattle.run_pack.specs.Runs.{IsFound, word_of, run_of_word}
+use Rattle.run_pack.specs.Runs.{IsFound, run_of_word}
 use Rattle.run_pack.proofs.Words.{map-run_of_word, All-move_below}
 use Rattle.row_store.specs.Rows.{row_at}
-use Rattle.row_store.specs.Comps.{Comp, IsComp, IsPlaceOf, IsMoveOfRow}
+use Rattle.row_store.specs.Comps.{IsComp, IsPlaceOf, IsMoveOfRow}
 use Rattle.row_store.proofs.CompLaws.{found_by_number, covering_move}
-use Rattle.versions.specs.Spelled.{IsKept, Spells}
+use Rattle.versions.specs.Spelled.{Spells}
 use Rattle.versions.specs.Databases.{Versioned, IsVersion, comp_at}
-use Rattle.versions.specs.Answers.{IsHome, IsWalk}
-use Rattle.versions.proofs.BestWalks.{label_of, one_label, component_of, kept_cells, cells_kept, best_walk}
+use Rattle.versions.specs.Answers.{IsHome}
+use Rattle.versions.proofs.BestWalks.{label_of, one_label, component_of, kept_cells, cells_kept}
 use Rattle.versions.proofs.Walking.{found_at}
-use Rattle.versions.proofs.Homes.{goes_on, walk_at_home}
+use Rattle.versions.proofs.Homes.{walk_at_home}
 use Rattle.path_image.specs.declared.TheConstants.{HALF, BLOCKED}
 use Rattle.path_image.specs.Images.{IsImageOf, home_word}
 use Rattle.path_image.specs.Reading.{IsCellIn, home_in, start_in, row_at_place}

@@ -1,25 +1,22 @@
 -- The image of a version passes the look.
-use Rattle.std.proofs.Common.{◌≡◌, ◌≢◌, ◌⊎◌, ℕ, ◌+◌, ◌*◌, ◌/◌, ◌%◌, ◌<◌, ◌≤◌, List, length, map, get_or, refl, sym, ap, subst, ◌∙◌, inl, inr, arith}
-use Rattle.std.proofs.lemmas.Bool.{cases_eq}
-use Rattle.std.proofs.lemmas.List.{get_or-map, length-map}
+use Rattle.std.proofs.Common.{◌≡◌, ℕ, ◌+◌, ◌*◌, ◌/◌, ◌%◌, ◌<◌, List, length, map, get_or, refl, sym, ap, subst, ◌∙◌, inl, inr, arith}
+use Rattle.std.proofs.lemmas.List.{get_or-map}
 use Rattle.std.proofs.lemmas.List.Elements.{Contains-get_or}
-use Rattle.moves.specs.declared.Cell.{Cell}
-use Rattle.moves.specs.declared.TheConstants.{MAX_SIDE, MAX_PASSABLE}
-use Rattle.moves.specs.Maps.{IsWithinLimits, IsInside, cell_at, place_of}
+use Rattle.moves.specs.Maps.{IsWithinLimits, cell_at}
 use Rattle.moves.proofs.RowMajor.{place_of_cell_at, row_inside}
-use Rattle.run_pack.specs.Runs.{Rises, word_of, run_of_word}
+use Rattle.run_pack.specs.Runs.{Rises, run_of_word}
 use Rattle.run_pack.proofs.Words.{map-run_of_word, All-move_below}
 use Rattle.row_store.specs.Rows.{row_at}
-use Rattle.row_store.specs.Comps.{Comp, IsComp}
+use Rattle.row_store.specs.Comps.{IsComp}
 use Rattle.versions.specs.Databases.{Versioned, comp_at}
-use Rattle.path_image.specs.declared.TheConstants.{HEAD, HALF, BLOCKED}
+use Rattle.path_image.specs.declared.TheConstants.{HEAD, HALF}
 use Rattle.path_image.specs.declared.checking.ImageFault.{ImageFault}
 use Rattle.path_image.specs.declared.checking.ImageFault.TheVariants.{Magic, Form, Length, Sides, Lists, Table, Home}
-use Rattle.path_image.specs.Images.{IsImageOf, head_of, homes_of, starts_of, table_of, cell_word, row_words}
-use Rattle.path_image.specs.Reading.{width_in, height_in, count_in, start_in, size_at, row_at_place, row_start_at, runs_at, HasMagic, HasLists, IsHead, IsTable, IsRowIn, IsCellIn, LeadsHome, LeadsInside, StandsIn, cell_of_word}
+use Rattle.path_image.specs.Images.{IsImageOf, head_of, starts_of, cell_word, row_words}
+use Rattle.path_image.specs.Reading.{start_in, HasMagic, IsTable, IsRowIn, IsCellIn, LeadsHome, LeadsInside, StandsIn, cell_of_word}
 use Rattle.path_image.specs.Faults.{IsFaultOf}
-use Rattle.path_image.proofs.Parts.{IsPart, part_at, part_inside}
-use Rattle.path_image.proofs.Homes.{passable_in, home_of_passable, word_of_home, word_of_blocked, passable_or_not, small_place, inside_image, home_read}
+use Rattle.path_image.proofs.Parts.{part_at, part_inside}
+use Rattle.path_image.proofs.Homes.{passable_in, home_of_passable, word_of_home, word_of_blocked, passable_or_not, small_place, inside_image}
 use Rattle.path_image.proofs.Showing.{head_part, starts_part, starts_size, image_long, width_shown, height_shown, count_shown, home_at_place, size_shown, row_shown, table_there, cell_read, border_read, next_start, row_part, runs_read, runs_part}
 
 -- words with a fault do not lead inside

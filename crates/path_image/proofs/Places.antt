@@ -1,13 +1,12 @@
 -- The word of a cell, from where the cell stands in the components.
-use Rattle.std.proofs.Common.{◌≡◌, ◌≢◌, ℕ, zero, suc, ◌+◌, ◌*◌, ◌<◌, ◌≤◌, Bool, true, false, cond, ltb, List, [], ◌∷◌, length, get_or, refl, sym, ap, ◌∙◌, arith}
+use Rattle.std.proofs.Common.{◌≡◌, ◌≢◌, ℕ, zero, suc, ◌+◌, ◌*◌, ◌<◌, false, ltb, List, [], ◌∷◌, length, get_or, refl, sym, ap, ◌∙◌, arith}
 use Rattle.std.specs.List.{Contains, AllPairs}
-use Rattle.std.proofs.lemmas.Bool.{cases_Bool, lt-ltb, le-ltb, false_from_ne_true, cond-true, cond-false}
+use Rattle.std.proofs.lemmas.Bool.{lt-ltb, le-ltb, false_from_ne_true, cond-true, cond-false}
 use Rattle.std.proofs.lemmas.List.{get_or_default}
 use Rattle.std.proofs.lemmas.List.Sums.{position_or_len_is}
 use Rattle.moves.specs.declared.Cell.{Cell}
 use Rattle.moves.specs.Maps.{is_cell}
 use Rattle.moves.proofs.Connected.{is_cell-true, is_cell-same}
-use Rattle.moves.specs.FirstSetLists.{cell_of}
 use Rattle.row_store.specs.Comps.{Comp, IsPlaceOf}
 use Rattle.versions.specs.Databases.{comp_at}
 use Rattle.path_image.specs.declared.TheConstants.{HALF, BLOCKED}

@@ -1,5 +1,5 @@
 -- Words whose runs start at 0 and rise.
-use Rattle.std.proofs.Common.{◌≡◌, ℕ, ◌+◌, ◌/◌, ◌<◌, ◌≤◌, List, length, map, get_or, ap, ◌∙◌, sym, arith}
+use Rattle.std.proofs.Common.{◌≡◌, ℕ, ◌+◌, ◌/◌, ◌<◌, List, length, map, get_or, ap, ◌∙◌, arith}
 use Rattle.std.proofs.lemmas.List.{get_or-map, length-map}
 use Rattle.run_pack.specs.Runs.{Rises, run_of_word, start_at, starts_of, no_run}
 use Rattle.run_pack.proofs.RowLemmas.{get_or-starts_of, length-starts_of, start_at-lt}

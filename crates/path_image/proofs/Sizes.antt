@@ -1,26 +1,24 @@
 -- How many words an image has.
-use Rattle.std.proofs.Common.{◌≡◌, ◌≢◌, ℕ, zero, suc, ◌+◌, ◌-◌, ◌*◌, ◌^◌, ◌<◌, ◌≤◌, Bool, true, false, List, [], ◌∷◌, ◌++◌, length, map, get_or, take, drop, sum_by, refl, sym, ap, subst, ◌∙◌, inl, inr, arith}
-use Rattle.std.specs.List.{All, AllPairs, Contains, flat_map, range_with_len}
+use Rattle.std.proofs.Common.{◌≡◌, ℕ, suc, ◌+◌, ◌-◌, ◌*◌, ◌^◌, ◌<◌, ◌≤◌, List, [], ◌∷◌, ◌++◌, length, map, get_or, take, drop, sum_by, refl, sym, ap, subst, ◌∙◌, inl, inr, arith}
+use Rattle.std.specs.List.{AllPairs, Contains, flat_map, range_with_len}
 use Rattle.std.proofs.lemmas.Bool.{cases_lt}
-use Rattle.std.proofs.lemmas.Nat.{mul-le}
-use Rattle.std.proofs.lemmas.List.{length-append, length-map, take-append-drop, get_or_append_left, get_or-append_right, get_or_default}
+use Rattle.std.proofs.lemmas.List.{length-append, length-map, take-append-drop, get_or_append_left, get_or-append_right}
 use Rattle.std.proofs.lemmas.List.FromFn.{length-map-range_with_len}
 use Rattle.std.proofs.lemmas.List.Concat.{flat_map-append}
 use Rattle.std.proofs.lemmas.List.Elements.{Contains-append_cases, Contains-get_or, All-from_get_or}
 use Rattle.std.proofs.lemmas.List.Sums.{sum_by-cons, sum_by-le}
 use Rattle.moves.specs.declared.Cell.{Cell}
-use Rattle.moves.specs.declared.TheConstants.{MAX_PASSABLE, MAX_CELLS}
-use Rattle.moves.specs.Maps.{Map, IsWithinLimits, passable_count, passable_of, place_of}
+use Rattle.moves.specs.declared.TheConstants.{MAX_PASSABLE}
+use Rattle.moves.specs.Maps.{IsWithinLimits, passable_count, passable_of, place_of}
 use Rattle.moves.proofs.RowMajor.{same_cell_from_place}
 use Rattle.grid_search.proofs.Counting.{marked_once}
 use Rattle.run_pack.specs.declared.Run.{Run}
 use Rattle.run_pack.specs.Runs.{word_of}
-use Rattle.row_store.specs.Rows.{row_at}
 use Rattle.row_store.specs.Comps.{Comp, IsComp}
 use Rattle.row_store.proofs.CompLaws.{row_kept}
 use Rattle.versions.specs.Databases.{Versioned, IsVersion, comp_at}
 use Rattle.versions.proofs.BestWalks.{one_label}
-use Rattle.path_image.specs.Images.{table_of, tables_at, image_size, cell_word, row_start, row_words}
+use Rattle.path_image.specs.Images.{table_of, image_size, cell_word, row_start, row_words}
 use Rattle.path_image.proofs.Homes.{passable_in}
 
 -- all cells of some components

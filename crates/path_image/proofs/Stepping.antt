@@ -1,5 +1,5 @@
 -- One step of a walk over the image of a version.
-use Rattle.std.proofs.Common.{◌≡◌, ◌≢◌, ℕ, ◌+◌, ◌<◌, List, [], ◌∷◌, length, refl, sym, ap, subst, ◌∙◌, arith}
+use Rattle.std.proofs.Common.{◌≡◌, ◌≢◌, ℕ, ◌<◌, List, [], ◌∷◌, length, refl, sym, ap, subst, ◌∙◌, arith}
 use Rattle.std.specs.List.{Contains}
 use Rattle.std.proofs.lemmas.List.Elements.{Contains-get_or}
 use Rattle.moves.specs.declared.Cell.{Cell}
@@ -9,7 +9,7 @@ use Rattle.moves.specs.Paths.{Leads}
 use Rattle.moves.specs.FirstSetLists.{cell_of}
 use Rattle.moves.proofs.MoveLaws.{same_target}
 use Rattle.run_pack.specs.declared.Run.{Run}
-use Rattle.row_store.specs.Comps.{Comp, IsPlaceOf, IsMoveOfRow}
+use Rattle.row_store.specs.Comps.{IsPlaceOf, IsMoveOfRow}
 use Rattle.versions.specs.Spelled.{IsKept, Spells}
 use Rattle.versions.specs.Databases.{Versioned, comp_at}
 use Rattle.versions.proofs.BestWalks.{kept_once, at_one_place}

@@ -1,10 +1,9 @@
 -- Where moves lead.
-use Rattle.std.proofs.Common.{◌≡◌, ℕ, ◌+◌, ◌-◌, ◌<◌, ◌≤◌, Bool, true, false, eqb, refl, inl, inr, MatchBool, arith}
+use Rattle.std.proofs.Common.{◌≡◌, ◌+◌, ◌-◌, Bool, true, false, eqb, refl, inl, inr, MatchBool, arith}
 use Rattle.std.proofs.lemmas.Bool.{eqb-true, eqb-false, cases_Bool}
 use Rattle.moves.specs.declared.Cell.{Cell}
 use Rattle.moves.specs.declared.Move.{Move}
 use Rattle.moves.specs.declared.Move.TheVariants.{N, NE, E, SE, S, SW, W, NW}
-use Rattle.moves.specs.Moves.{IsTarget}
 use Rattle.path_image.specs.Walks.{HasTarget, HasWest, HasNorth, LeadsBelow, goes_north, goes_west}
 
 -- a move leads somewhere from a cell that has a column to the west of it if the move goes there, and a row to the north

@@ -20,7 +20,6 @@ use Rattle.path_image.specs.declared.walking.WalkFault.TheVariants.{Refused, Bro
 use Rattle.path_image.specs.declared.walking.PathFault.{PathFault}
 use Rattle.path_image.specs.declared.walking.PathFault.TheVariants.{Unanswered, TooSmall}
 use Rattle.path_image.specs.Images.{IsImageOf}
-use Rattle.path_image.specs.Reading.{StandsIn}
 
 -- why there is no path, in words
 abbrev pub walk_fault_text : WalkFault → List ℕ

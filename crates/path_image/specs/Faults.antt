@@ -1,11 +1,11 @@
 -- Why words are no image.
-use Rattle.std.specs.Prelude.{◌≡◌, ℕ, ◌+◌, ◌*◌, ◌<◌, ◌≤◌, List, ◌++◌, codes, length, slice_index}
+use Rattle.std.specs.Prelude.{◌≡◌, ℕ, ◌+◌, ◌*◌, ◌<◌, List, ◌++◌, codes, length, slice_index}
 use Rattle.std.specs.Fmt.{decimal}
 use Rattle.moves.specs.Maps.{IsWithinLimits}
 use Rattle.path_image.specs.declared.TheConstants.{FORM, HEAD}
 use Rattle.path_image.specs.declared.checking.ImageFault.{ImageFault}
 use Rattle.path_image.specs.declared.checking.ImageFault.TheVariants.{Magic, Form, Length, Sides, Lists, Table, Home}
-use Rattle.path_image.specs.Reading.{width_in, height_in, count_in, start_in, HasLists, HasMagic, IsTable, LeadsHome, LeadsInside}
+use Rattle.path_image.specs.Reading.{width_in, height_in, count_in, start_in, HasLists, HasMagic, IsTable, LeadsHome}
 
 -- the part that is wrong, in words
 abbrev pub fault_text : ImageFault → List ℕ

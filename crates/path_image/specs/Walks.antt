@@ -11,7 +11,6 @@ use Rattle.row_store.specs.Comps.{IsPlaceOf}
 use Rattle.versions.specs.Spelled.{Spells}
 use Rattle.versions.specs.Databases.{Versioned, comp_at}
 use Rattle.versions.specs.Answers.{IsWalk}
-use Rattle.path_image.specs.declared.reading.Home.{Home}
 use Rattle.path_image.specs.declared.walking.Walk.{Walk}
 use Rattle.path_image.specs.declared.walking.Step.{Step}
 use Rattle.path_image.specs.declared.walking.Step.TheVariants.{Arrived, Go, Lost}

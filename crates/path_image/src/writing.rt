@@ -4,12 +4,13 @@ ghost use Rattle.std.specs.Prelude.{◌≡◌, ℕ, ◌+◌, ◌*◌, ◌^◌, �
 ghost use Rattle.std.specs.List.{flat_map};
 ghost use Rattle.std.specs.Io.KnownBytes.{Appends};
 ghost use Rattle.wire.specs.Causes.{Rose};
+ghost use Rattle.wire.specs.Contents.{PutsPrefix};
 ghost use Rattle.row_store.specs.Rows.{row_at};
 ghost use Rattle.row_store.specs.Comps.{IsComp};
 ghost use Rattle.versions.specs.Databases.{comp_at};
 ghost use Rattle.path_image.specs.declared.writing.TheConstants.{PIECE};
 ghost use Rattle.path_image.specs.Images.{cell_word, head_of, home_word, homes_of, image_of, image_size, row_start, row_words, starts_of, table_of, table_start, tables_at};
-ghost use Rattle.path_image.specs.Writing.{Puts, borders_of, bytes_of};
+ghost use Rattle.path_image.specs.Writing.{Puts, PutsSome, borders_of, bytes_of};
 ghost use Rattle.moves.specs.Maps.{cell_at};
 
 use crate::{BLOCKED, FORM, HALF, HEAD, MAGIC_IMAGE, MAGIC_PATH};
@@ -35,11 +36,13 @@ pub fn image_words(version: &Version) -> u64
 ///
 /// # Errors
 ///
-/// `Failed` where the sink failed.
+/// `Failed` where the sink failed. A first part of the image has been put then.
 pub fn write_image<S: Sink>(version: &Version, sink: &mut S) -> Result<u64, Failed>
     ensures bytes { IfOk result (λ count. count ≡ 4 * image_size version.now) }
     ensures put { OnOk result (
         Appends (S.bytes sink.old) (S.bytes sink.new) (bytes_of (image_of version.now))) }
+    ensures prefix { OnErr result (
+        PutsPrefix (S.bytes sink.old) (S.bytes sink.new) (bytes_of (image_of version.now))) }
     ensures cause { OnErr result (Rose (S.faults sink.old) (S.faults sink.new)) }
     ensures later { S.faults sink.old ≤ S.faults sink.new }
 {
@@ -117,6 +120,8 @@ fn head_words(version: &Version, size: u32) -> [u32; HEAD]
 fn put_words<S: Sink>(words: &[u32], piece: &mut Piece, sink: &mut S) -> Result<(), Failed>
     ensures put { OnOk result (
         Puts (S.bytes sink.old) piece.old (S.bytes sink.new) piece.new words.now) }
+    ensures prefix { OnErr result (
+        PutsSome (S.bytes sink.old) piece.old (S.bytes sink.new) words.now) }
     ensures cause { OnErr result (Rose (S.faults sink.old) (S.faults sink.new)) }
     ensures later { S.faults sink.old ≤ S.faults sink.new }
 {
@@ -130,6 +135,8 @@ fn put_words<S: Sink>(words: &[u32], piece: &mut Piece, sink: &mut S) -> Result<
 fn put_homes<S: Sink>(version: &Version, piece: &mut Piece, sink: &mut S) -> Result<(), Failed>
     ensures put { OnOk result (
         Puts (S.bytes sink.old) piece.old (S.bytes sink.new) piece.new (homes_of version.now)) }
+    ensures prefix { OnErr result (
+        PutsSome (S.bytes sink.old) piece.old (S.bytes sink.new) (homes_of version.now)) }
     ensures cause { OnErr result (Rose (S.faults sink.old) (S.faults sink.new)) }
     ensures later { S.faults sink.old ≤ S.faults sink.new }
 {
@@ -160,6 +167,8 @@ fn put_starts<S: Sink>(version: &Version, piece: &mut Piece, sink: &mut S) -> Re
     requires { image_size version.now < 2 ^ 32 }
     ensures put { OnOk result (
         Puts (S.bytes sink.old) piece.old (S.bytes sink.new) piece.new (starts_of version.now)) }
+    ensures prefix { OnErr result (
+        PutsSome (S.bytes sink.old) piece.old (S.bytes sink.new) (starts_of version.now)) }
     ensures cause { OnErr result (Rose (S.faults sink.old) (S.faults sink.new)) }
     ensures later { S.faults sink.old ≤ S.faults sink.new }
 {
@@ -185,6 +194,8 @@ fn next_start(version: &Version, label: u32, start: u32) -> u32
 fn put_tables<S: Sink>(version: &Version, piece: &mut Piece, sink: &mut S) -> Result<(), Failed>
     ensures put { OnOk result (Puts (S.bytes sink.old) piece.old (S.bytes sink.new) piece.new
         (flat_map table_of version.now.comps)) }
+    ensures prefix { OnErr result (PutsSome (S.bytes sink.old) piece.old (S.bytes sink.new)
+        (flat_map table_of version.now.comps)) }
     ensures cause { OnErr result (Rose (S.faults sink.old) (S.faults sink.new)) }
     ensures later { S.faults sink.old ≤ S.faults sink.new }
 {
@@ -198,6 +209,8 @@ fn put_tables<S: Sink>(version: &Version, piece: &mut Piece, sink: &mut S) -> Re
 fn put_table<S: Sink>(comp: &CompData, piece: &mut Piece, sink: &mut S) -> Result<(), Failed>
     ensures put { OnOk result (
         Puts (S.bytes sink.old) piece.old (S.bytes sink.new) piece.new (table_of comp.now)) }
+    ensures prefix { OnErr result (
+        PutsSome (S.bytes sink.old) piece.old (S.bytes sink.new) (table_of comp.now)) }
     ensures cause { OnErr result (Rose (S.faults sink.old) (S.faults sink.new)) }
     ensures later { S.faults sink.old ≤ S.faults sink.new }
 {
@@ -210,6 +223,8 @@ fn put_table<S: Sink>(comp: &CompData, piece: &mut Piece, sink: &mut S) -> Resul
 /// Puts the cells of a component.
 fn put_cells<S: Sink>(comp: &CompData, piece: &mut Piece, sink: &mut S) -> Result<(), Failed>
     ensures put { OnOk result (Puts (S.bytes sink.old) piece.old (S.bytes sink.new) piece.new
+        (map cell_word comp.now.cells)) }
+    ensures prefix { OnErr result (PutsSome (S.bytes sink.old) piece.old (S.bytes sink.new)
         (map cell_word comp.now.cells)) }
     ensures cause { OnErr result (Rose (S.faults sink.old) (S.faults sink.new)) }
     ensures later { S.faults sink.old ≤ S.faults sink.new }
@@ -224,6 +239,8 @@ fn put_cells<S: Sink>(comp: &CompData, piece: &mut Piece, sink: &mut S) -> Resul
 fn put_borders<S: Sink>(comp: &CompData, piece: &mut Piece, sink: &mut S) -> Result<(), Failed>
     ensures put { OnOk result (Puts (S.bytes sink.old) piece.old (S.bytes sink.new) piece.new
         (borders_of comp.now)) }
+    ensures prefix { OnErr result (
+        PutsSome (S.bytes sink.old) piece.old (S.bytes sink.new) (borders_of comp.now)) }
     ensures cause { OnErr result (Rose (S.faults sink.old) (S.faults sink.new)) }
     ensures later { S.faults sink.old ≤ S.faults sink.new }
 {
@@ -249,6 +266,8 @@ fn next_border(comp: &CompData, place: u32, border: u32) -> u32
 fn put_rows<S: Sink>(comp: &CompData, piece: &mut Piece, sink: &mut S) -> Result<(), Failed>
     ensures put { OnOk result (Puts (S.bytes sink.old) piece.old (S.bytes sink.new) piece.new
         (flat_map row_words comp.now.rows)) }
+    ensures prefix { OnErr result (PutsSome (S.bytes sink.old) piece.old (S.bytes sink.new)
+        (flat_map row_words comp.now.rows)) }
     ensures cause { OnErr result (Rose (S.faults sink.old) (S.faults sink.new)) }
     ensures later { S.faults sink.old ≤ S.faults sink.new }
 {
@@ -268,6 +287,8 @@ fn put_row<S: Sink>(
     requires whole { IsComp comp.now }
     requires place { place < length comp.now.cells }
     ensures put { OnOk result (Puts (S.bytes sink.old) piece.old (S.bytes sink.new) piece.new
+        (row_words (row_at comp.now.rows place))) }
+    ensures prefix { OnErr result (PutsSome (S.bytes sink.old) piece.old (S.bytes sink.new)
         (row_words (row_at comp.now.rows place))) }
     ensures cause { OnErr result (Rose (S.faults sink.old) (S.faults sink.new)) }
     ensures later { S.faults sink.old ≤ S.faults sink.new }
@@ -325,6 +346,8 @@ impl Piece {
     fn put<S: Sink>(&mut self, sink: &mut S, word: u32) -> Result<(), Failed>
         ensures put { OnOk result (
             Puts (S.bytes sink.old) self.old (S.bytes sink.new) self.new (word ∷ [])) }
+        ensures prefix { OnErr result (
+            PutsSome (S.bytes sink.old) self.old (S.bytes sink.new) (word ∷ [])) }
         ensures cause { OnErr result (Rose (S.faults sink.old) (S.faults sink.new)) }
         ensures later { S.faults sink.old ≤ S.faults sink.new }
     {
@@ -344,6 +367,8 @@ impl Piece {
     fn make_room<S: Sink>(&mut self, sink: &mut S) -> Result<(), Failed>
         ensures put { OnOk result (
             Puts (S.bytes sink.old) self.old (S.bytes sink.new) self.new []) }
+        ensures prefix { OnErr result (
+            PutsPrefix (S.bytes sink.old) (S.bytes sink.new) self.old) }
         ensures room { OnOk result (length self.new + 4 ≤ PIECE) }
         ensures cause { OnErr result (Rose (S.faults sink.old) (S.faults sink.new)) }
         ensures later { S.faults sink.old ≤ S.faults sink.new }
@@ -370,8 +395,9 @@ impl Piece {
     ///
     /// `Failed` where the sink failed.
     fn send<S: Sink>(&mut self, sink: &mut S) -> Result<(), Failed>
-        ensures put { OnOk result (
-            Puts (S.bytes sink.old) self.old (S.bytes sink.new) self.new []) }
+        ensures put { OnOk result (Appends (S.bytes sink.old) (S.bytes sink.new) self.old) }
+        ensures prefix { OnErr result (
+            PutsPrefix (S.bytes sink.old) (S.bytes sink.new) self.old) }
         ensures none { OnOk result (self.new ≡ []) }
         ensures cause { OnErr result (Rose (S.faults sink.old) (S.faults sink.new)) }
         ensures later { S.faults sink.old ≤ S.faults sink.new }

@@ -1,6 +1,5 @@
-use Rattle.std.proofs.Common.{◌≡◌, refl, arith}
+use Rattle.std.proofs.Common.{refl, arith}
 use Rattle.versions.proofs.OneRowComps.{line_database}
-use Rattle.path_image.specs.Examples.{three_cells, three_cells_words}
 use Rattle.path_image.specs.Images.{image_of, home_word, table_of}
 use Rattle.path_image.proofs.laws.three_cells_are_these_words.Goals as goal
 

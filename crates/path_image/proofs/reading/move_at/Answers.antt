@@ -1,5 +1,4 @@
-use Rattle.std.proofs.Common.{◌<◌, length, arith, subst}
-use Rattle.versions.specs.Databases.{comp_at}
+use Rattle.std.proofs.Common.{◌<◌, length, arith}
 use Rattle.path_image.proofs.Homes.{move_read}
 use Rattle.path_image.proofs.Showing.{count_shown, size_shown}
 use Rattle.path_image.proofs.reading.move_at.Goals as goal

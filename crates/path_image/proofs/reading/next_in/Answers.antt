@@ -1,5 +1,4 @@
-use Rattle.std.proofs.Common.{◌≡◌, length, refl, subst, sym, rules}
-use Rattle.row_store.specs.Comps.{IsPlaceOf}
+use Rattle.std.proofs.Common.{subst, sym, rules}
 use Rattle.versions.specs.Databases.{comp_at}
 use Rattle.versions.specs.Spelled.{IsKept}
 use Rattle.versions.proofs.Homes.{goes_on}

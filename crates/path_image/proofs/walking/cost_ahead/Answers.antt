@@ -1,8 +1,6 @@
-use Rattle.std.proofs.Common.{◌≡◌, ◌+◌, ◌<◌, ◌≤◌, length, ap, sym, subst, ◌∙◌, arith}
+use Rattle.std.proofs.Common.{◌+◌, ap, sym, subst, ◌∙◌, arith}
 use Rattle.root_cost.specs.Costs.{plus_step}
-use Rattle.moves.specs.declared.TheConstants.{MAX_PASSABLE}
 use Rattle.moves.specs.Moves.{is_diagonal}
-use Rattle.moves.specs.Paths.{cost_of}
 use Rattle.moves.proofs.CostsOfPaths.{cost_of-push, moves_of_cost}
 use Rattle.path_image.specs.Walks.{Advances}
 use Rattle.path_image.proofs.Following.{CostIs, followed_more, never_long}

@@ -1,4 +1,3 @@
-use Rattle.std.proofs.Common.{◌≡◌, length}
 use Rattle.path_image.proofs.Homes.{inside_image}
 use Rattle.path_image.proofs.Stepping.{stays, goes, entered}
 use Rattle.path_image.proofs.walking.go_on.Goals as goal

@@ -1,5 +1,4 @@
-use Rattle.std.proofs.Common.{◌≡◌, ◌+◌, ◌<◌, ◌≤◌, length, set, ap, sym, subst, ◌∙◌, arith}
-use Rattle.moves.specs.Moves.{number_of}
+use Rattle.std.proofs.Common.{◌+◌, set, ap, subst, ◌∙◌, arith}
 use Rattle.path_image.specs.Walks.{Advances}
 use Rattle.path_image.proofs.Following.{ArePut, are_put_none, are_put_more, followed_none, followed_more, never_long}
 use Rattle.path_image.proofs.walking.put_moves.Goals as goal

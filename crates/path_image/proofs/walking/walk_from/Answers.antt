@@ -1,5 +1,4 @@
-use Rattle.std.proofs.Common.{◌≡◌, length, refl, subst, sym}
-use Rattle.versions.specs.Databases.{comp_at}
+use Rattle.std.proofs.Common.{subst, sym}
 use Rattle.path_image.specs.Answers.{IsHomeOf}
 use Rattle.path_image.proofs.Homes.{apart, begins_walk}
 use Rattle.path_image.proofs.walking.walk_from.Goals as goal

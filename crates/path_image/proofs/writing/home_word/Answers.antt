@@ -1,9 +1,7 @@
-use Rattle.std.proofs.Common.{◌≡◌, ◌+◌, ◌*◌, ◌/◌, ◌%◌, ◌<◌, ◌≤◌, length, ap, sym, subst, ◌∙◌, arith}
+use Rattle.std.proofs.Common.{ap, sym, subst, ◌∙◌, arith}
 use Rattle.std.specs.List.{Contains}
-use Rattle.moves.specs.declared.Cell.{Cell}
 use Rattle.moves.specs.Maps.{cell_at}
 use Rattle.row_store.specs.Comps.{IsPlaceOf}
-use Rattle.versions.specs.Databases.{comp_at}
 use Rattle.path_image.specs.Images.{home_word}
 use Rattle.path_image.proofs.Homes.{whole_comp}
 use Rattle.path_image.proofs.Labelling.{labelled_here, labelled_word, unlabelled_word}

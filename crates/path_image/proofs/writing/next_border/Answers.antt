@@ -1,7 +1,6 @@
-use Rattle.std.proofs.Common.{◌≡◌, ◌+◌, ◌<◌, ◌≤◌, [], length, arith}
+use Rattle.std.proofs.Common.{◌+◌, [], arith}
 use Rattle.row_store.proofs.CompLaws.{few_runs}
 use Rattle.path_image.specs.Images.{row_words}
-use Rattle.path_image.proofs.Showing.{next_start}
 use Rattle.path_image.proofs.Parts.{flat_more}
 use Rattle.path_image.proofs.Sizes.{flat_front, runs_size}
 use Rattle.std.proofs.lemmas.List.{length-map}

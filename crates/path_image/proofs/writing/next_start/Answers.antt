@@ -1,4 +1,4 @@
-use Rattle.std.proofs.Common.{◌≡◌, ◌+◌, ◌<◌, ◌≤◌, length, ap, ◌∙◌, arith}
+use Rattle.std.proofs.Common.{◌+◌, length, ap, ◌∙◌, arith}
 use Rattle.versions.specs.Databases.{no_comp}
 use Rattle.path_image.specs.Images.{table_of}
 use Rattle.path_image.proofs.Parts.{flat_more}

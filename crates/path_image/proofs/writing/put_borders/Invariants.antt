@@ -1,5 +1,5 @@
-use Rattle.std.proofs.Common.{◌+◌, ◌≡◌, ◌≤◌, map, take, length}
-use Rattle.std.specs.List.{flat_map, range_with_len}
+use Rattle.std.proofs.Common.{◌≡◌, ◌≤◌, map}
+use Rattle.std.specs.List.{range_with_len}
 use Rattle.path_image.specs.Images.{row_start}
 use Rattle.path_image.specs.Writing.{Puts}
 use Rattle.path_image.proofs.writing.put_borders.Given as goal

@@ -1,5 +1,4 @@
-use Rattle.std.proofs.Common.{◌+◌, ◌≡◌, ◌≤◌, map, take, length}
-use Rattle.std.specs.List.{flat_map, range_with_len}
+use Rattle.std.proofs.Common.{◌≤◌, take}
 use Rattle.row_store.specs.Rows.{row_at}
 use Rattle.path_image.specs.Images.{row_words}
 use Rattle.path_image.specs.Writing.{Puts}

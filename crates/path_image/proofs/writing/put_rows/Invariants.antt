@@ -1,5 +1,5 @@
-use Rattle.std.proofs.Common.{◌+◌, ◌≡◌, ◌≤◌, map, take, length}
-use Rattle.std.specs.List.{flat_map, range_with_len}
+use Rattle.std.proofs.Common.{◌≤◌, take}
+use Rattle.std.specs.List.{flat_map}
 use Rattle.path_image.specs.Images.{row_words}
 use Rattle.path_image.specs.Writing.{Puts}
 use Rattle.path_image.proofs.writing.put_rows.Given as goal

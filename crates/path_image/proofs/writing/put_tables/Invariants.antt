@@ -1,5 +1,5 @@
-use Rattle.std.proofs.Common.{◌+◌, ◌≡◌, ◌≤◌, map, take, length}
-use Rattle.std.specs.List.{flat_map, range_with_len}
+use Rattle.std.proofs.Common.{◌≤◌, take}
+use Rattle.std.specs.List.{flat_map}
 use Rattle.path_image.specs.Images.{table_of}
 use Rattle.path_image.specs.Writing.{Puts}
 use Rattle.path_image.proofs.writing.put_tables.Given as goal

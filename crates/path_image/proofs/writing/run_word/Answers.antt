@@ -1,4 +1,3 @@
-use Rattle.std.proofs.Common.{sym, subst, ◌<◌, ◌≤◌}
 use Rattle.run_pack.specs.Runs.{no_run}
 use Rattle.row_store.proofs.CompLaws.{row_kept}
 use Rattle.path_image.proofs.writing.run_word.Goals as goal

@@ -1,4 +1,4 @@
-use Rattle.std.proofs.Common.{◌≡◌, ◌+◌, ◌*◌, length, sum_by, sym, ap, ◌∙◌, arith}
+use Rattle.std.proofs.Common.{length, ap, arith}
 use Rattle.path_image.proofs.Sizes.{table_size}
 use Rattle.path_image.proofs.writing.table_size.Goals as goal
 

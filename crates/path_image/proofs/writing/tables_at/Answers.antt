@@ -1,4 +1,4 @@
-use Rattle.std.proofs.Common.{◌≡◌, ◌+◌, ◌*◌, ◌<◌, ◌≤◌, length, arith}
+use Rattle.std.proofs.Common.{◌*◌, ◌≤◌, arith}
 use Rattle.moves.specs.declared.TheConstants.{MAX_CELLS}
 use Rattle.path_image.proofs.Sizes.{few_comps}
 use Rattle.path_image.proofs.writing.tables_at.Goals as goal

@@ -1,4 +1,4 @@
-use Rattle.std.proofs.Common.{◌≡◌, ◌+◌, ◌<◌, ◌≤◌, length, subst, arith}
+use Rattle.std.proofs.Common.{subst, arith}
 use Rattle.moves.specs.Maps.{IsWithinLimits}
 use Rattle.path_image.specs.Images.{table_of}
 use Rattle.path_image.proofs.Sizes.{flat_front, small_image}

@@ -1,4 +1,4 @@
-use Rattle.std.proofs.Common.{◌∙◌, subst, sym}
+use Rattle.std.proofs.Common.{subst, sym}
 use Rattle.path_image.specs.Images.{IsImageOf}
 use Rattle.path_image.proofs.Showing.{cells_shown}
 use Rattle.path_image.proofs.reading.Image.cells.Goals as goal
