@@ -1,0 +1,2 @@
+pub mod Baking
+pub mod Asking

@@ -1,0 +1,58 @@
+//! What the words of a command line ask for.
+ghost use Rattle.std.specs.Prelude.{◌≡◌, IfErr, IfOk, Some, string_bytes};
+ghost use Rattle.path_commands.specs.declared.commands.Verb.{Verb};
+ghost use Rattle.path_commands.specs.Commands.{verb_of};
+ghost use Rattle.path_commands.specs.Requests.{export, request_of};
+ghost use Rattle.path_commands.specs.Words.{AreWorkers, texts_of};
+ghost use Rattle.bake_run.specs.Asking.{IsWordsCause};
+ghost use Rattle.bake_run.specs.Baking.{export_words};
+
+use path_commands::{BuildOptions, Request, Status, read_request};
+use std::alloc::{AllocError, Global};
+
+/// What the words ask for: the image of a map.
+#[derive(Clone, Copy)]
+pub(crate) struct Baking<'a> {
+    /// The name of the map's file, which is not empty.
+    pub(crate) map: &'a str,
+    /// How the database of the map is built.
+    pub(crate) build: BuildOptions,
+}
+
+/// The words of the main program that ask for a database of the same map, built in the same way.
+pub(crate) fn ask_words(alloc: Global, words: &[String]) -> Result<Vec<String>, AllocError>
+    ensures { IfOk result (λ all. texts_of all.items ≡ export_words (texts_of words.now)) }
+{
+    let mut all = Vec::new(alloc);
+    let first = String::from_str(alloc, "export")?;
+    all.push(first)?;
+    for word in words {
+        let copy = copy_of(alloc, word)?;
+        all.push(copy)?;
+    }
+    Ok(all)
+}
+
+/// The same text once more.
+fn copy_of(alloc: Global, text: &String) -> Result<String, AllocError>
+    ensures { IfOk result (λ copy. string_bytes copy ≡ string_bytes text.now) }
+{
+    String::from_str(alloc, text.as_str())
+}
+
+/// What these words of the main program ask for, of which the first is `export`.
+pub(crate) fn read_words<'a>(alloc: Global, words: &'a [String]) -> Result<Baking<'a>, Status>
+    requires { verb_of (texts_of words.now) ≡ Some Verb.Export }
+    ensures asked { IfOk result (λ asked.
+        request_of (texts_of words.entry.now) ≡ Some (export asked.map.now asked.build)) }
+    ensures workers { IfOk result (λ asked. AreWorkers asked.build.workers) }
+    ensures refused { IfErr result (IsWordsCause (texts_of words.entry.now)) }
+{
+    match read_request(alloc, words)? {
+        Request::Export { map, build } => Ok(Baking { map, build }),
+        Request::Path { .. } | Request::NearPath { .. } | Request::Near { .. } => unreachable!(),
+        Request::Check { .. } | Request::Scen { .. } | Request::Made { .. } => unreachable!(),
+        Request::Replay { .. } | Request::Talk { .. } | Request::Serve { .. } => unreachable!(),
+        Request::Ask { .. } | Request::Verify { .. } => unreachable!(),
+    }
+}
