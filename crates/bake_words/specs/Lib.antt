@@ -1,0 +1,3 @@
+pub mod Baking
+pub mod Cells
+pub mod Faults

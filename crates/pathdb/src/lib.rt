@@ -1,0 +1,19 @@
+//! The database of a map for C: an image in the caller's memory is checked, read and baked.
+//!
+//! Each export calls a function of the libraries below and says its clauses again. What C sees of it, `include/pathdb.h`
+//! says in the words of C: the numbers of the statuses are those of [`Status::number`], a slice is a pointer and then a
+//! length, and no pointer is null. No export keeps anything: all that it reads or writes is the caller's.
+#![tactic(auto)]
+
+pub mod checks;
+pub mod queries;
+mod status;
+pub mod texts;
+
+pub use status::Status;
+
+/// The greatest number of a status.
+pub const LAST_STATUS: u32 = 26;
+
+/// How many bytes each text of a status has place in, with the byte 0 at its end.
+pub const TEXT_ROOM: usize = 64;

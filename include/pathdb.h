@@ -1,0 +1,212 @@
+/* pathdb: exact shortest paths on the grid maps of games, from a database that ships with the game.
+ *
+ * The database of a map is an image: one array of 32-bit words, without pointers, in memory of yours. It may be baked at
+ * run time (pathdb_bake_text, pathdb_bake_cells) or before, and be read from a file or mapped: a file of an image has its
+ * words one behind the other, the lowest byte first. From the image each path is read by look-ups alone, one a move, and
+ * no path is shorter.
+ *
+ *   uint32_t part;
+ *   if (pathdb_check(words, count, &part) != PATHDB_DONE) ...                     once, after loading
+ *   uint8_t moves[512];
+ *   uint32_t length;
+ *   pathdb_cell from = {2, 2}, to = {37, 17};
+ *   if (pathdb_path(words, count, from, to, moves, sizeof moves, &length) == PATHDB_DONE) ...
+ *
+ * Maps. Cells lie on a grid, column x and row y from 0 at the upper left. A move leads to one of the eight cells around,
+ * and is a number: 0 north (one row up), 1 north-east, 2 east, 3 south-east, 4 south, 5 south-west, 6 west, 7 north-west.
+ * A straight move, an even number, has length 1; a diagonal one has length the square root of 2, and is made only where
+ * the two cells beside it are passable too. Land and water are passable, and no move leads from the one to the other. A
+ * map has sides of 1 to 4096 cells, at most 1048576 cells, and at most 32768 passable ones.
+ *
+ * Lifetime. The library keeps nothing between two calls, has no global state and wants no set-up. All memory that it reads
+ * or writes is the caller's, for the time of the call. An image may lie anywhere, be copied, and be mapped from a file
+ * that is read only; it is aligned as a uint32_t is.
+ *
+ * Threads. Any number of threads may read one image at once: reading writes nothing but what is handed in for the answer.
+ * Baking writes the room that it is given, and so nobody may read that until it is done; to change a map under way, bake
+ * the new one into other memory and swap the pointer. The library starts no thread and takes no lock. It must not be
+ * called from a signal handler, nor in the forked child of a process with threads.
+ *
+ * Pointers. No pointer is NULL, also where the length beside it is 0. What is handed in to be written overlaps nothing else
+ * that is handed in.
+ *
+ * Trust. pathdb_check reads any words of any source, inside of them alone. The other calls that read an image want words
+ * that passed it, or that a bake of this library wrote, and that have not changed since: this is not tested again. Over
+ * words that passed and are no image of a map they still read inside alone, and return.
+ *
+ * What is proved: each answer is right over the image of a map, for every map and every two cells, as the contracts in
+ * crates/pathdb say; the code that this header declares is compiled from what was proved. C that calls it is not proved.
+ */
+#ifndef PATHDB_H
+#define PATHDB_H
+
+#include <stdbool.h>
+#include <stddef.h>
+#include <stdint.h>
+
+#ifdef __cplusplus
+extern "C" {
+#endif
+
+/* How a call ended. The numbers stay as they are; later versions may add to them. */
+typedef enum pathdb_status {
+    PATHDB_DONE = 0,           /* the work was done */
+
+    /* of a query */
+    PATHDB_ARRIVED = 1,        /* the cell is the goal: no move is left */
+    PATHDB_UNREACHABLE = 2,    /* both cells are passable, and no path leads from the one to the other */
+    PATHDB_OUTSIDE_START = 3,  /* the start, or the cell where the path stands, lies outside the map */
+    PATHDB_BLOCKED_START = 4,  /* the start, or the cell where the path stands, is blocked */
+    PATHDB_OUTSIDE_GOAL = 5,   /* the goal lies outside the map; the start is judged first */
+    PATHDB_BLOCKED_GOAL = 6,   /* the goal is blocked */
+    PATHDB_TOO_SMALL = 7,      /* the room has too few places; how many are needed was written */
+    PATHDB_BROKEN = 8,         /* the words passed the check and are no image of a map all the same */
+
+    /* of a check */
+    PATHDB_NO_IMAGE = 9,       /* too few words for an image, or they do not begin as one does */
+    PATHDB_OTHER_FORM = 10,    /* an image of another form than this library reads */
+    PATHDB_WRONG_LENGTH = 11,  /* more words or fewer than the image says: part of a file, or bytes behind it */
+    PATHDB_WRONG_SIDES = 12,   /* sides that no map has */
+    PATHDB_WRONG_LISTS = 13,   /* too few words for the cells of the map */
+    PATHDB_WRONG_TABLE = 14,   /* the table of a component is wrong: *part is its number */
+    PATHDB_WRONG_HOME = 15,    /* the word of a cell is wrong: *part is its place, y * width + x */
+
+    /* of a bake */
+    PATHDB_NO_ORDER = 16,      /* no order has that number */
+    PATHDB_TEXT_TOO_LONG = 17, /* the text of a map has more than 2097152 bytes */
+    PATHDB_BAD_HEADER = 18,    /* line `line` of a map's text is not that of its header */
+    PATHDB_BAD_SIZE = 19,      /* a side is not from 1 to 4096, or there are too many cells; of a text at line `line` */
+    PATHDB_BAD_ROW = 20,       /* line `line` has `found` cells, and not `expected` */
+    PATHDB_BAD_BYTE = 21,      /* `byte`, which stands for no cell, at column `x` and row `y` */
+    PATHDB_MISSING_ROWS = 22,  /* the text ends after `found` rows */
+    PATHDB_EXTRA_LINE = 23,    /* line `line`, behind the rows, is not blank */
+    PATHDB_TOO_MANY_CELLS = 24, /* more than 32768 passable cells; of a text the first too many is at `x` and `y` */
+    PATHDB_WRONG_COUNT = 25,   /* there are not width * height cells */
+    PATHDB_NO_MEMORY = 26      /* memory ran out */
+} pathdb_status;
+
+/* A cell: its column and its row, from 0. */
+typedef struct pathdb_cell {
+    uint16_t x;
+    uint16_t y;
+} pathdb_cell;
+
+/* What a path costs. Its length is straight + diagonal * sqrt(2), in cells; two costs are equal only where both numbers
+ * are. */
+typedef struct pathdb_cost {
+    uint32_t straight;
+    uint32_t diagonal;
+} pathdb_cost;
+
+/* What an image says of its map. */
+typedef struct pathdb_facts {
+    uint32_t width;      /* columns, 1 to 4096 */
+    uint32_t height;     /* rows, 1 to 4096 */
+    uint32_t cells;      /* passable cells, 0 to 32768 */
+    uint32_t components; /* into how many parts they fall: a path exists exactly inside one */
+    uint32_t prefix;     /* how many edits of its first map it comes after; 0 for a map that was baked */
+} pathdb_facts;
+
+/* How many moves the longest path of any map has: one fewer than passable cells. */
+#define PATHDB_LONGEST 32767
+
+/* How many bytes are enough for the text of each status, with the byte 0 at its end. */
+#define PATHDB_TEXT_ROOM 64
+
+/* ---- reading ---- */
+
+/* Looks once at words of whatever source: whether each number in them leads inside. It takes the time of reading them
+ * once.
+ *   PATHDB_DONE: they passed, and the calls below may be made with them. Each image that a bake wrote passes.
+ *   PATHDB_NO_IMAGE .. PATHDB_WRONG_HOME: they did not; *part is the number that the status speaks of, and else 0. */
+pathdb_status pathdb_check(const uint32_t *words, size_t count, uint32_t *part);
+
+/* What an image says of its map. The words passed the check. */
+void pathdb_read_facts(const uint32_t *words, size_t count, pathdb_facts *facts);
+
+/* Where the path from a cell to a goal goes on: the number of the move, which begins a shortest path. A unit that asks
+ * again from each cell it comes to walks the path that pathdb_path tells. The words passed the check.
+ *   PATHDB_DONE: *move is written.
+ *   PATHDB_ARRIVED, PATHDB_UNREACHABLE, PATHDB_OUTSIDE_START .. PATHDB_BLOCKED_GOAL: *move is as it was. */
+pathdb_status pathdb_next_move(const uint32_t *words, size_t count, pathdb_cell at, pathdb_cell goal, uint8_t *move);
+
+/* What a shortest path costs. The words passed the check. From a cell to itself it costs nothing.
+ *   PATHDB_DONE: *cost is written.
+ *   PATHDB_UNREACHABLE, PATHDB_OUTSIDE_START .. PATHDB_BLOCKED_GOAL, PATHDB_BROKEN: *cost is as it was. */
+pathdb_status pathdb_path_cost(const uint32_t *words, size_t count, pathdb_cell start, pathdb_cell goal, pathdb_cost *cost);
+
+/* The moves of a shortest path, a byte a move, into a room of so many bytes. The words passed the check.
+ *   PATHDB_DONE: *length moves stand in the room, at most `room`. From a cell to itself there are none.
+ *   PATHDB_TOO_SMALL: the room has the first moves of the path, and *length is how many there are.
+ *   PATHDB_UNREACHABLE, PATHDB_OUTSIDE_START .. PATHDB_BLOCKED_GOAL: the room is as it was, and *length is 0.
+ *   PATHDB_BROKEN: the room may have anything, and *length is 0. */
+pathdb_status pathdb_path(const uint32_t *words, size_t count, pathdb_cell start, pathdb_cell goal, uint8_t *moves,
+                          size_t room, uint32_t *length);
+
+/* What a status means, in English and ASCII: writes the text and a byte 0 at its end into a room of so many bytes, as far
+ * as it reaches, and answers how long the text is without that byte, fewer than PATHDB_TEXT_ROOM. A number that no status
+ * has is "no status". The status is taken as a number, so that any may be asked for. */
+size_t pathdb_status_text(uint32_t status, char *text, size_t room);
+
+/* ---- baking ---- */
+
+/* The order of the cells in the database. Which of several shortest paths is told depends on it, and how many words an
+ * image has: depth first mostly has fewer. */
+typedef enum pathdb_order {
+    PATHDB_ROWS = 0, /* row by row */
+    PATHDB_DFS = 1   /* depth first */
+} pathdb_order;
+
+/* What a bake tells beside its status; a number that the status does not speak of is 0. Lines count from 1. */
+typedef struct pathdb_baked {
+    uint32_t words;    /* how many words the image has: with PATHDB_DONE and PATHDB_TOO_SMALL */
+    uint32_t line;
+    uint32_t x;
+    uint32_t y;
+    uint32_t byte;
+    uint32_t expected;
+    uint32_t found;
+} pathdb_baked;
+
+/* Bakes the image of a map that is given as a text in the format of MovingAI: `type octile`, `height H`, `width W`, `map`,
+ * and a line for each row; `.`, `G` and `S` are land, `W` is water, `@`, `O` and `T` are blocked. `order` is a number of
+ * pathdb_order. The image is written to the first words of the room.
+ *   PATHDB_DONE: the first baked->words words of the room are the image, and may be read without a check; the others are
+ *     as they were. The same map and order give the same words.
+ *   PATHDB_TOO_SMALL: the image has baked->words words, and the room is as it was.
+ *   PATHDB_NO_ORDER .. PATHDB_NO_MEMORY: why there is none. The room is as it was.
+ * How many words an image has is known only once the rows are built: a bake into too small a room takes the time of the
+ * whole. Some 60 words a passable cell are a good first room. It takes memory by the three functions below, for the
+ * database and for the image once more, gives it all back, and works with the calling thread alone: some seconds for
+ * 10000 passable cells. */
+pathdb_status pathdb_bake_text(const uint8_t *text, size_t length, uint32_t order, uint32_t *words, size_t room,
+                               pathdb_baked *baked);
+
+/* The same of a map that is given by its sides and a byte a cell, row by row: 0 is blocked, 1 land and 2 water. */
+pathdb_status pathdb_bake_cells(uint32_t width, uint32_t height, const uint8_t *cells, size_t length, uint32_t order,
+                                uint32_t *words, size_t room, pathdb_baked *baked);
+
+/* ---- the memory that baking takes ---- */
+
+/* Three functions of the program's own, which pathdb_heap.c defines over malloc, realloc and free: it is in libpathdb.so,
+ * and in libpathdb.a as an object of its own, which the linker takes only where the program does not define the three
+ * itself. Queries never call them.
+ *
+ * rattle_alloc gives a block of so many bytes, aligned to `align`, a power of two up to 16. rattle_realloc makes a block
+ * of `kept` used bytes one of `bytes`, with these bytes as they were; where it fails the old block is as it was.
+ * rattle_dealloc takes back what one of the two gave. All three may be called from several threads at once. Where there
+ * is no memory `ok` is false, and `at` is any pointer but NULL. */
+typedef struct rattle_block {
+    bool ok;
+    void *at;
+} rattle_block;
+
+rattle_block rattle_alloc(size_t bytes, size_t align);
+rattle_block rattle_realloc(void *at, size_t kept, size_t bytes, size_t align);
+void rattle_dealloc(void *at);
+
+#ifdef __cplusplus
+}
+#endif
+
+#endif

@@ -1,0 +1,173 @@
+// pathdb for C++17: pathdb.h with types that own their words. Nothing is copied: an image moves, a view points at words of
+// somebody else's, and moves are written into a vector that is used again. Nothing throws but a vector that gets no memory.
+#ifndef PATHDB_HPP
+#define PATHDB_HPP
+
+#include "pathdb.h"
+
+#include <cstddef>
+#include <cstdint>
+#include <string>
+#include <utility>
+#include <vector>
+
+namespace pathdb {
+
+using cell = pathdb_cell;
+using cost = pathdb_cost;
+using facts = pathdb_facts;
+using baked = pathdb_baked;
+
+enum class order : std::uint32_t { rows = PATHDB_ROWS, dfs = PATHDB_DFS };
+
+enum class status : std::uint32_t {
+    done = PATHDB_DONE,
+    arrived = PATHDB_ARRIVED,
+    unreachable = PATHDB_UNREACHABLE,
+    outside_start = PATHDB_OUTSIDE_START,
+    blocked_start = PATHDB_BLOCKED_START,
+    outside_goal = PATHDB_OUTSIDE_GOAL,
+    blocked_goal = PATHDB_BLOCKED_GOAL,
+    too_small = PATHDB_TOO_SMALL,
+    broken = PATHDB_BROKEN,
+    no_image = PATHDB_NO_IMAGE,
+    other_form = PATHDB_OTHER_FORM,
+    wrong_length = PATHDB_WRONG_LENGTH,
+    wrong_sides = PATHDB_WRONG_SIDES,
+    wrong_lists = PATHDB_WRONG_LISTS,
+    wrong_table = PATHDB_WRONG_TABLE,
+    wrong_home = PATHDB_WRONG_HOME,
+    no_order = PATHDB_NO_ORDER,
+    text_too_long = PATHDB_TEXT_TOO_LONG,
+    bad_header = PATHDB_BAD_HEADER,
+    bad_size = PATHDB_BAD_SIZE,
+    bad_row = PATHDB_BAD_ROW,
+    bad_byte = PATHDB_BAD_BYTE,
+    missing_rows = PATHDB_MISSING_ROWS,
+    extra_line = PATHDB_EXTRA_LINE,
+    too_many_cells = PATHDB_TOO_MANY_CELLS,
+    wrong_count = PATHDB_WRONG_COUNT,
+    no_memory = PATHDB_NO_MEMORY
+};
+
+// what a status means
+inline std::string text(status which)
+{
+    char room[PATHDB_TEXT_ROOM];
+    const std::size_t length = pathdb_status_text(static_cast<std::uint32_t>(which), room, sizeof room);
+    return std::string(room, length);
+}
+
+// Words of somebody else's that passed the check, or that a bake wrote, and that stay as they are while it is used. It is
+// two numbers, and any number of threads may use one.
+class view {
+public:
+    view(const std::uint32_t *words, std::size_t count) noexcept : words_(words), count_(count) {}
+
+    // the check; where it passes, a view of the words may be used
+    static status check(const std::uint32_t *words, std::size_t count, std::uint32_t &part) noexcept
+    {
+        return static_cast<status>(pathdb_check(words, count, &part));
+    }
+
+    pathdb::facts facts() const noexcept
+    {
+        pathdb::facts told;
+        pathdb_read_facts(words_, count_, &told);
+        return told;
+    }
+
+    status next(cell at, cell goal, std::uint8_t &move) const noexcept
+    {
+        return static_cast<status>(pathdb_next_move(words_, count_, at, goal, &move));
+    }
+
+    status cost(cell start, cell goal, pathdb::cost &told) const noexcept
+    {
+        return static_cast<status>(pathdb_path_cost(words_, count_, start, goal, &told));
+    }
+
+    // the moves of the path; the vector grows where it has to, and is empty where there is no path
+    status path(cell start, cell goal, std::vector<std::uint8_t> &moves) const
+    {
+        moves.resize(moves.capacity() > 0 ? moves.capacity() : 64);
+        for (;;) {
+            std::uint32_t length = 0;
+            const pathdb_status ended = pathdb_path(words_, count_, start, goal, moves.data(), moves.size(), &length);
+            moves.resize(length);
+            if (ended != PATHDB_TOO_SMALL) return static_cast<status>(ended);
+        }
+    }
+
+    const std::uint32_t *data() const noexcept { return words_; }
+    std::size_t size() const noexcept { return count_; }
+
+private:
+    const std::uint32_t *words_;
+    std::size_t count_;
+};
+
+// The words of an image. It moves and is never copied.
+class image {
+public:
+    image() = default;
+    image(image &&) noexcept = default;
+    image &operator=(image &&) noexcept = default;
+    image(const image &) = delete;
+    image &operator=(const image &) = delete;
+
+    // takes words over that pass the check; else the image is as it was
+    status take(std::vector<std::uint32_t> words, std::uint32_t &part)
+    {
+        const std::uint32_t none = 0;
+        const status found = view::check(words.empty() ? &none : words.data(), words.size(), part);
+        if (found == status::done) words_ = std::move(words);
+        return found;
+    }
+
+    // bakes a map that is given as a text; `room` words are tried first, and then as many as are needed
+    status bake(const std::string &map, order by, baked &told, std::size_t room = 1 << 16)
+    {
+        return bake_with(told, room, [&](std::uint32_t *words, std::size_t count) {
+            return pathdb_bake_text(reinterpret_cast<const std::uint8_t *>(map.c_str()), map.size(),
+                                    static_cast<std::uint32_t>(by), words, count, &told);
+        });
+    }
+
+    // bakes a map that is given as a byte a cell: 0 blocked, 1 land, 2 water
+    status bake(std::uint32_t width, std::uint32_t height, const std::vector<std::uint8_t> &cells, order by, baked &told,
+                std::size_t room = 1 << 16)
+    {
+        const std::uint8_t none = 0;
+        return bake_with(told, room, [&](std::uint32_t *words, std::size_t count) {
+            return pathdb_bake_cells(width, height, cells.empty() ? &none : cells.data(), cells.size(),
+                                     static_cast<std::uint32_t>(by), words, count, &told);
+        });
+    }
+
+    // a view of the words, for as long as the image stands
+    pathdb::view view() const noexcept { return pathdb::view(words_.data(), words_.size()); }
+
+    const std::vector<std::uint32_t> &words() const noexcept { return words_; }
+
+private:
+    template <typename Bake> status bake_with(baked &told, std::size_t room, Bake bake)
+    {
+        std::vector<std::uint32_t> words(room > 0 ? room : 1);
+        for (;;) {
+            const pathdb_status ended = bake(words.data(), words.size());
+            if (ended != PATHDB_DONE && ended != PATHDB_TOO_SMALL) return static_cast<status>(ended);
+            words.resize(told.words);
+            if (ended == PATHDB_TOO_SMALL) continue;
+            words.shrink_to_fit();
+            words_ = std::move(words);
+            return status::done;
+        }
+    }
+
+    std::vector<std::uint32_t> words_;
+};
+
+} // namespace pathdb
+
+#endif
