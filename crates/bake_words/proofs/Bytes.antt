@@ -1,7 +1,8 @@
 -- Words that are read from their bytes.
-use Rattle.std.proofs.Common.{◌≡◌, ℕ, zero, suc, ◌+◌, ◌*◌, ◌/◌, ◌%◌, ◌^◌, ◌<◌, ◌≤◌, List, [], ◌∷◌, ◌++◌, length, get_or, refl, sym, ap, ◌∙◌, arith}
+use Rattle.std.proofs.Common.{◌≡◌, ℕ, zero, suc, ◌+◌, ◌*◌, ◌/◌, ◌%◌, ◌^◌, ◌<◌, ◌≤◌, List, [], ◌∷◌, ◌++◌, length, get_or, set, refl, sym, ap, ◌∙◌, inl, inr, arith}
 use Rattle.std.specs.List.{All, flat_map}
-use Rattle.std.proofs.lemmas.List.{get_or_append_left, get_or-append-add, length-append}
+use Rattle.std.proofs.lemmas.Bool.{cases_lt}
+use Rattle.std.proofs.lemmas.List.{get_or_append_left, get_or-append-add, get_or-set_other, get_or-set_same, length-append, length-set}
 use Rattle.std.proofs.lemmas.Grind.{same_number_lists}
 use Rattle.path_image.specs.Writing.{bytes_of, word_bytes}
 use Rattle.bake_words.specs.Baking.{word_of_bytes}
@@ -18,7 +19,9 @@ bytes_long (word ∷ words) =
 -- a byte of a word
 byte_read : (words : List ℕ) (k j : ℕ) → k < length words → j < 4 → get_or (bytes_of words) (4 * k + j) 0 ≡ get_or (word_bytes (get_or words k 0)) j 0
 byte_read [] k j within low = absurd (omega arith)
-byte_read (word ∷ words) zero j within low = get_or_append_left (word_bytes word) (flat_map word_bytes words) 0 j (omega arith)
+byte_read (word ∷ words) zero j within low =
+    let first : 4 * zero + j ≡ j = omega arith in
+    ap (λ n. get_or (word_bytes word ++ flat_map word_bytes words) n 0) first ∙ get_or_append_left (word_bytes word) (flat_map word_bytes words) 0 j (omega arith)
 byte_read (word ∷ words) (suc k) j within low =
     let step : 4 * suc k + j ≡ 4 + (4 * k + j) = omega arith in
     ap (λ n. get_or (word_bytes word ++ flat_map word_bytes words) n 0) step
@@ -43,3 +46,28 @@ words_back bytes words room same fit long each =
     let read = each k within in
     let back = word_back (get_or words k 0) (fit k 0 inside) in
     omega arith))
+
+-- so many words are put, of as many as the room has
+pub record ArePut (bytes room : List ℕ) (place size : ℕ) : Type 0 where
+  pub long : length room ≡ size
+  pub each : (k : ℕ) → k < place → get_or room k 0 ≡ word_of_bytes bytes k
+
+pub put_none : (bytes room : List ℕ) → ArePut bytes room 0 (length room)
+put_none bytes room = record { long = refl; each = λ k less. absurd (omega arith) }
+
+-- one more
+pub put_more : (bytes room new : List ℕ) (place size word : ℕ) → ArePut bytes room place size → place < size → word ≡ word_of_bytes bytes place
+    → new ≡ set room place word → ArePut bytes new (place + 1) size
+put_more bytes room new place size word p within is same =
+    let long = p.long in
+    let stays = length-set room place word in
+    record {
+      long = ap length same ∙ stays ∙ long;
+      each = λ k less. ap (λ xs. get_or xs k 0) same
+          ∙ elim (cases_lt k place) [
+            | inl early ↦ get_or-set_other room place k word 0 (omega arith) ∙ p.each k early
+            | inr late ↦
+                let here : place ≡ k = omega arith in
+                ap (λ n. get_or (set room place word) n 0) (sym here) ∙ get_or-set_same room place word 0 (omega arith) ∙ is ∙ ap (word_of_bytes bytes) here
+          ];
+    }

@@ -118,10 +118,19 @@ module _ (version : Versioned) (is : IsVersion version) (sides : IsWithinLimits 
       let kind = kind_small version.order in
       let cells = is.searchable in
       let comps = few_comps version is in
-      All-cons IsWord MAGIC_PATH _ (omega arith) (All-cons IsWord MAGIC_IMAGE _ (omega arith) (All-cons IsWord FORM _ (omega arith) (All-cons IsWord (image_size version) _ small
-      (All-cons IsWord version.map.width _ (omega arith) (All-cons IsWord version.map.height _ (omega arith) (All-cons IsWord version.prefix _ prefix
-      (All-cons IsWord (kind_of version.order) _ (omega arith) (All-cons IsWord (passable_count version.map) _ (omega arith)
-      (All-cons IsWord (length version.comps) _ (omega arith) none_wrong)))))))))
+      let nine : List ℕ = length version.comps ∷ [] in
+      let eight : List ℕ = passable_count version.map ∷ nine in
+      let seven : List ℕ = kind_of version.order ∷ eight in
+      let six : List ℕ = version.prefix ∷ seven in
+      let five : List ℕ = version.map.height ∷ six in
+      let four : List ℕ = version.map.width ∷ five in
+      let three : List ℕ = image_size version ∷ four in
+      let two : List ℕ = FORM ∷ three in
+      let one : List ℕ = MAGIC_IMAGE ∷ two in
+      All-cons IsWord MAGIC_PATH one (omega arith) (All-cons IsWord MAGIC_IMAGE two (omega arith) (All-cons IsWord FORM three (omega arith)
+      (All-cons IsWord (image_size version) four small (All-cons IsWord version.map.width five (omega arith) (All-cons IsWord version.map.height six (omega arith)
+      (All-cons IsWord version.prefix seven prefix (All-cons IsWord (kind_of version.order) eight (omega arith)
+      (All-cons IsWord (passable_count version.map) nine (omega arith) (All-cons IsWord (length version.comps) [] (omega arith) none_wrong)))))))))
 
   pub image_fits : All IsWord (image_of version)
   unfolding image_of

@@ -1,2 +1,5 @@
-pub mod Fitting
-pub mod Bytes
+mod Fitting
+mod Bytes
+mod Building
+mod Baked
+mod Given

@@ -3,6 +3,8 @@ use Rattle.std.specs.Prelude.{◌≡◌, ℕ, ◌+◌, ◌*◌, ◌<◌, ◌≤�
 use Rattle.moves.specs.Maps.{Map, IsWithinLimits}
 use Rattle.cell_order.specs.declared.OrderKind.{OrderKind}
 use Rattle.versions.specs.Databases.{Versioned, IsVersion}
+use Rattle.bake_words.specs.declared.fault.BakeFault.{BakeFault}
+use Rattle.bake_words.specs.declared.fault.BakeFault.TheVariants.{TooSmall, NoMemory}
 use Rattle.path_image.specs.Images.{IsImageOf, image_size}
 use Rattle.path_image.specs.Reading.{LeadsInside}
 
@@ -30,6 +32,11 @@ pub record NeedsRoom (map : Map) (order : OrderKind) (room : List ℕ) (needed :
   pub first : IsFirstVersion map order version
   pub size : needed ≡ image_size version
   pub small : length room < needed
+
+-- why nothing was baked; want of memory alone is free
+abbrev pub IsBakeFaultOf : Map → OrderKind → List ℕ → BakeFault → Type 0
+IsBakeFaultOf map order room (TooSmall needed) = NeedsRoom map order room needed
+IsBakeFaultOf map order room NoMemory = Unit {0}
 
 -- a word that is given as four bytes, the lowest first
 abbrev pub word_of_bytes : List ℕ → ℕ → ℕ

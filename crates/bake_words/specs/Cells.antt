@@ -32,3 +32,7 @@ IsCellsFaultOf width height bytes Count = length bytes ≡ width * height → �
 IsCellsFaultOf width height bytes (BadByte place) = (place < length bytes) × (terrain_of_byte (slice_index bytes place) ≡ None)
 IsCellsFaultOf width height bytes TooManyCells = (m : Map) → HasCells width height bytes m → MAX_PASSABLE < passable_count m
 IsCellsFaultOf width height bytes NoMemory = Unit {0}
+
+-- why bytes are no cells, whatever the sides
+abbrev pub IsByteFaultOf : List ℕ → CellsFault → Type 0
+IsByteFaultOf bytes fault = (width height : ℕ) → IsCellsFaultOf width height bytes fault

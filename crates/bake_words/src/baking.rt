@@ -1,11 +1,10 @@
 //! An image that is baked into a room of words.
 
-ghost use Rattle.std.specs.Prelude.{◌≡◌, ℕ, ◌*◌, ◌<◌, Err, IfOk, OnErr, length, slice_index};
+ghost use Rattle.std.specs.Prelude.{◌≡◌, ℕ, ◌+◌, ◌*◌, ◌<◌, IfErr, IfOk, OnErr, length, slice_index};
 ghost use Rattle.moves.specs.Maps.{IsSearchable};
 ghost use Rattle.path_image.specs.Images.{image_of};
 ghost use Rattle.path_image.specs.Writing.{bytes_of};
-ghost use Rattle.bake_words.specs.declared.fault.BakeFault.TheVariants.{TooSmall};
-ghost use Rattle.bake_words.specs.Baking.{BakesInto, NeedsRoom, word_of_bytes};
+ghost use Rattle.bake_words.specs.Baking.{BakesInto, IsBakeFaultOf, word_of_bytes};
 
 use crate::alone::first_version;
 use crate::fault::BakeFault;
@@ -25,8 +24,7 @@ use wire::MemSink;
 pub fn bake(alloc: Global, grid: Grid, kind: OrderKind, room: &mut [u32]) -> Result<u32, BakeFault>
     requires { IsSearchable grid }
     ensures image { IfOk result (BakesInto grid kind room.old room.new) }
-    ensures small { (needed : ℕ) → result ≡ Err (TooSmall needed)
-        → NeedsRoom grid kind room.old needed }
+    ensures fault { IfErr result (IsBakeFaultOf grid kind room.old) }
     ensures kept { OnErr result (room.new ≡ room.old) }
 {
     let version = first_version(alloc, grid, kind)?;

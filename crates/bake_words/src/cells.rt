@@ -1,8 +1,8 @@
 //! Maps that are given as bytes, one a cell.
 
-ghost use Rattle.std.specs.Prelude.{◌≡◌, ◌+◌, ◌*◌, ◌<◌, ◌≤◌, ◌^◌, ◌↔◌, ℕ, IfErr, IfOk, IfNone, IfSome, IsTrue, MatchOption, OnOk, length};
-ghost use Rattle.moves.specs.Maps.{IsSearchable, IsWithinLimits, map_of, passable_count};
-ghost use Rattle.bake_words.specs.Cells.{AreCells, HasCells, IsCellsFaultOf, terrain_of_byte};
+ghost use Rattle.std.specs.Prelude.{◌≡◌, ◌*◌, ◌≤◌, ◌↔◌, [], ◌∷◌, ◌++◌, IfErr, IfOk, IsTrue, OnOk, length};
+ghost use Rattle.moves.specs.Maps.{IsSearchable, IsWithinLimits};
+ghost use Rattle.bake_words.specs.Cells.{AreCells, HasCells, IsByteFaultOf, IsCellsFaultOf, terrain_of_byte};
 
 use crate::fault::CellsFault;
 use moves::{Grid, MAX_CELLS, MAX_PASSABLE, MAX_SIDE, Terrain};
@@ -56,17 +56,26 @@ fn are_sides(width: u32, height: u32) -> bool
 fn terrain_of(alloc: Global, cells: &[u8]) -> Result<Vec<Terrain>, CellsFault>
     requires { length cells.now ≤ MAX_CELLS }
     ensures cells { IfOk result (λ terrain. AreCells cells.now terrain.items) }
+    ensures fault { IfErr result (IsByteFaultOf cells.now) }
 {
     let mut terrain = Vec::with_capacity(alloc, cells.len())?;
     for place in 0..cells.len() {
         match terrain_of_byte(cells[place]) {
-            Some(found) => terrain.push(found)?,
+            Some(found) => push(&mut terrain, found)?,
             None => return Err(CellsFault::BadByte {
                 place: place as u32,
             }),
         }
     }
     Ok(terrain)
+}
+
+/// Puts one more.
+fn push(terrain: &mut Vec<Terrain>, found: Terrain) -> Result<(), AllocError>
+    ensures { OnOk result (terrain.new.items ≡ terrain.old.items ++ found ∷ []) }
+{
+    terrain.push(found)?;
+    Ok(())
 }
 
 /// What a byte stands for.

@@ -5,6 +5,7 @@
 //! length, and no pointer is null. No export keeps anything: all that it reads or writes is the caller's.
 #![tactic(auto)]
 
+pub mod baking;
 pub mod checks;
 pub mod queries;
 mod status;

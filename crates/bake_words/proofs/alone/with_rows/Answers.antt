@@ -1,0 +1,30 @@
+use Rattle.build_pool.proofs.Connecting.{AreGiven, ready, sources_in_order, comp_in_order, kind_small}
+use Rattle.bake_words.proofs.alone.with_rows.Goals as goal
+use Rattle.bake_words.proofs.alone.with_rows.Goals.{In_ok-order}
+
+-- the cells, and the same in their order
+given : (c : In_ok-order) → AreGiven c.args.cells.now c.in_ok-order.order.items
+given c = record { same = c.in_ok-order.ensures.same; can = c.requires }
+
+pub of-requires : goal.of-requires
+of-requires c =
+    let from = sources_in_order _ _ (given (goal.at.of-requires c).In_ok-order) in
+    rw c.deref.ensures.value from.numbered
+
+pub gather_alone-requires-clause-table : goal.gather_alone-requires-clause-table
+gather_alone-requires-clause-table c κs =
+    let is = given (goal.at.gather_alone-requires-clause-table c).In_ok-order in
+    rw c.deref-2.ensures.value (record { sources = sources_in_order _ _ is; edges = rw c.deref.ensures.value at c.in_ok-near.ensures.near; pairs = c.in_ok-near.ensures.pairs })
+
+pub put_rest-requires-clause-sources : goal.put_rest-requires-clause-sources
+put_rest-requires-clause-sources c =
+    let is = given (goal.at.put_rest-requires-clause-sources c).In_ok-order in
+    rw c.deref-3.ensures.value (sources_in_order _ _ is)
+
+pub of_pool-requires : goal.of_pool-requires
+of_pool-requires c =
+    let is = given (goal.at.of_pool-requires c).In_ok-order in
+    let from = sources_in_order _ _ is in
+    let some = rw c.deref-2.ensures.value at c.in_ok-rows.ensures in
+    let all = rw (c.deref-3.ensures.value, some.size) at c.in_ok-put_rest.ensures.whole in
+    comp_in_order _ _ _ (ready _ _ is from.board from.just) _ _ (rw c.number.ensures (kind_small c.args.kind)) all.size (λ place within. (all.each place within).over from.board from.just)
