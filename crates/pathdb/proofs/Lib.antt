@@ -1,2 +1,1 @@
 mod Rooms
-mod Outcomes

@@ -11,9 +11,9 @@ of-requires c =
     let from = sources_in_order _ _ (given (goal.at.of-requires c).In_ok-order) in
     rw c.deref.ensures.value from.numbered
 
-pub gather_alone-requires-clause-table : goal.gather_alone-requires-clause-table
-gather_alone-requires-clause-table c κs =
-    let is = given (goal.at.gather_alone-requires-clause-table c).In_ok-order in
+pub tiled_rows-requires : goal.tiled_rows-requires
+tiled_rows-requires c =
+    let is = given (goal.at.tiled_rows-requires c).In_ok-order in
     rw c.deref-2.ensures.value (record { sources = sources_in_order _ _ is; edges = rw c.deref.ensures.value at c.in_ok-near.ensures.near; pairs = c.in_ok-near.ensures.pairs })
 
 pub put_rest-requires-clause-sources : goal.put_rest-requires-clause-sources
