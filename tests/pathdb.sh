@@ -66,10 +66,14 @@ if command -v g++ >/dev/null; then
   compile threads_raced "${threads[@]}" -O1 -fsanitize=thread &&
     run "the sample in C++, with the sanitizer of threads" "$folder/threads_raced" "${query[@]}"
   if command -v valgrind >/dev/null; then
-    run "the sample in C++, under helgrind" valgrind -q --tool=helgrind --error-exitcode=9 "$folder/threads" "${query[@]}"
+    run "the sample in C++, under valgrind" valgrind -q --error-exitcode=9 --leak-check=full "$folder/threads" "${query[@]}"
   fi
 else
   skip "there is no g++"
+fi
+compile watched gcc -std=c99 -pedantic -O2 -pthread tests/pathdb_threads.c "$lib/libpathdb.a" && if command -v valgrind >/dev/null; then
+  valgrind -q --tool=helgrind --error-exitcode=9 "$folder/watched" maps/tutorial.map 100 >"$folder/found" 2>"$folder/said" ||
+    { fail "threads under helgrind:"; head -n 40 "$folder/said" "$folder/found" >&2; }
 fi
 run "the sample in Python" python3 examples/path.py "$lib/libpathdb.so" "${query[@]}"
 if command -v rustc >/dev/null; then
