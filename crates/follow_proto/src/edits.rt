@@ -1,6 +1,6 @@
 //! The message with accepted edits.
 
-ghost use Rattle.std.specs.Prelude.{◌≡◌, ℕ, ◌+◌, ◌*◌, ◌≤◌, ◌++◌, length, min, take};
+ghost use Rattle.std.specs.Prelude.{◌≡◌, ℕ, ◌+◌, ◌-◌, ◌*◌, ◌≤◌, ◌++◌, drop, length, min, take};
 ghost use Rattle.edit_log.specs.declared.TheConstants.{MAX_CHANGES};
 ghost use Rattle.query_proto.specs.Frames.{StandsAtFront};
 ghost use Rattle.follow_proto.specs.Feeds.{all_edit_bytes, edit_bytes, edits_bytes};
@@ -27,25 +27,38 @@ pub fn edits_head(known: u32, edits: &EditList) -> EditsHead
     ensures head { result.bytes ++ all_edit_bytes (take result.count edits.now.edits)
         ≡ edits_bytes known (take result.count edits.now.edits) }
 {
-    let count = edits.len().min(MAX_SENT);
+    edits_head_at(known, edits, 0)
+}
+
+/// The message with the edits of a list from that place on, as many as one message may have, up to the bytes of the
+/// edits. The first of them is behind so many known ones.
+pub fn edits_head_at(known: u32, edits: &EditList, first: u32) -> EditsHead
+    requires { first ≤ length edits.now.edits }
+    ensures count { result.count ≡ min MAX_SENT (length edits.now.edits - first) }
+    ensures head { result.bytes ++ all_edit_bytes (take result.count (drop first edits.now.edits))
+        ≡ edits_bytes known (take result.count (drop first edits.now.edits)) }
+{
+    let count = (edits.len() - first).min(MAX_SENT);
     let mut bytes = [0; 13];
-    let kind = put_number(&mut bytes, 0, 9 + size_of(edits, count));
-    let first = put_byte(&mut bytes, kind, EDITS);
-    let second = put_number(&mut bytes, first, known);
+    let kind = put_number(&mut bytes, 0, 9 + size_of(edits, first, count));
+    let sort = put_byte(&mut bytes, kind, EDITS);
+    let second = put_number(&mut bytes, sort, known);
     put_number(&mut bytes, second, count);
     EditsHead { bytes, count }
 }
 
-/// How many bytes the first so many edits have.
-fn size_of(edits: &EditList, count: u32) -> u32
-    requires some { count ≤ length edits.now.edits }
+/// How many bytes so many edits from that place on have.
+fn size_of(edits: &EditList, first: u32, count: u32) -> u32
+    requires some { first + count ≤ length edits.now.edits }
     requires few { count ≤ MAX_SENT }
-    ensures size { result ≡ length (all_edit_bytes (take count edits.now.edits)) }
+    ensures size { result ≡ length (all_edit_bytes (take count (drop first edits.now.edits))) }
     ensures limit { result ≤ 321 * count }
 {
+    // That each place fits its type is known from here.
+    let _len = edits.len();
     let mut size = 0;
     for place in 0..count {
-        size += 1 + 5 * edits.changes_at(place).len() as u32;
+        size += 1 + 5 * edits.changes_at(first + place).len() as u32;
     }
     size
 }

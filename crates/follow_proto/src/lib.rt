@@ -12,7 +12,7 @@ mod messages;
 mod writing;
 
 pub use asks::{Ask, read_ask, write_ask};
-pub use edits::{EditsHead, edit_bytes, edits_head};
+pub use edits::{EditsHead, edit_bytes, edits_head, edits_head_at};
 pub use messages::{ahead, no_memory, start_head, terrain_byte};
 
 /// The most edits that one message has.

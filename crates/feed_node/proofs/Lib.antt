@@ -1,0 +1,6 @@
+pub mod Passing
+pub mod Writing
+pub mod Backlogs
+pub mod Sent
+pub mod AskBytes
+pub mod Fed

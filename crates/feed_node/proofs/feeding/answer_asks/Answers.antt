@@ -1,0 +1,46 @@
+use Rattle.std.proofs.Common.{Ok, refl, subst, ◌∙◌, arith}
+use Rattle.path_core.specs.Passes.{OthersAdd}
+use Rattle.path_core.proofs.Passing.{others_none, others_then}
+use Rattle.path_board.specs.Passes.{seen_of}
+use Rattle.feed_node.specs.Feeding.{sight_of}
+use Rattle.feed_node.specs.Turns.{Steps}
+use Rattle.feed_node.proofs.Backlogs.{backlog_none}
+use Rattle.feed_node.proofs.Fed.{fed_fault, fed_more, fed_none}
+use Rattle.feed_node.proofs.feeding.answer_asks.Goals as goal
+
+pub loop-init : goal.loop-init
+loop-init g c = record {
+  fed = fed_none _ _;
+  same = record { board = refl; number = refl; base = refl; made = refl };
+  none = others_none _ _;
+  backlog = backlog_none _ _ _ c.none-backlog.ensures.known c.none-backlog.ensures.edits;
+  parcel = c.requires.none;
+  reads = omega arith;
+  writes = omega arith;
+}
+
+pub returns-in-Err-clause-none : goal.returns-in-Err-clause-none
+returns-in-Err-clause-none g c =
+    others_then _ _ (seen_of c.loop.pass) _ c.loop.invariant.none
+    (subst (λ n. OthersAdd n (seen_of c.loop.pass) (seen_of c.answer_next.new.pass)) c.loop.invariant.same.number c.in-Err.ensures.none)
+
+pub returns-in-Err-clause-feeds : goal.returns-in-Err-clause-feeds
+returns-in-Err-clause-feeds g c =
+    fed_fault _ (sight_of c.loop.pass) _ _ _ _ c.loop.counter c.loop.invariant.fed c.in-Err.fault (omega (arith, c.loop-test.true)) c.in-Err.ensures.steps
+
+pub loop-preserved : goal.loop-preserved
+loop-preserved g c =
+    let p = c.loop.invariant.same in
+    let q = c.in-Ok-true.ensures.same in
+    record {
+      fed = fed_more _ (sight_of c.loop.pass) _ _ _ _ c.loop.counter c.loop.invariant.fed
+          (subst (λ b. Steps (sight_of c.loop.pass) (g.L.Link.talk c.loop.link) (Ok b) (sight_of c.answer_next.new.pass) (g.L.Link.talk c.answer_next.new.link))
+          c.in-Ok-true.field-0-test c.in-Ok-true.ensures.steps);
+      same = record { board = q.board ∙ p.board; number = q.number ∙ p.number; base = q.base ∙ p.base; made = q.made ∙ p.made };
+      none = others_then _ _ (seen_of c.loop.pass) _ c.loop.invariant.none
+          (subst (λ n. OthersAdd n (seen_of c.loop.pass) (seen_of c.answer_next.new.pass)) p.number c.in-Ok-true.ensures.none);
+      backlog = c.in-Ok-true.ensures.backlog;
+      parcel = c.in-Ok-true.ensures.parcel;
+      reads = omega (arith, c.loop.invariant.reads, c.in-Ok-true.ensures.reads);
+      writes = omega (arith, c.loop.invariant.writes, c.in-Ok-true.ensures.writes);
+    }
