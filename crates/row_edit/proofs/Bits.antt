@@ -1,8 +1,8 @@
 -- Tests on sets by their bits.
-use Rattle.std.proofs.Common.{◌≡◌, ℕ, ◌/◌, ◌^◌, ◌<◌, ◌≤◌, ◌⊎◌, w8, Bool, IsTrue, nat_eq, bit_and, arith, inl, inr, sym, subst, ◌∙◌}
+use Rattle.std.proofs.Common.{◌≡◌, ℕ, ◌/◌, ◌^◌, ◌<◌, ◌≤◌, w8, bit_and, arith, inl, inr, sym, subst, ◌∙◌}
 use Rattle.std.specs.Int.{bit_at, bit_not, trailing_zeros}
-use Rattle.std.proofs.lemmas.Bool.{cases_lt, cases_eq, eqb-true}
-use Rattle.std.proofs.lemmas.Nat.Bits.{bit_at_and, bit_at_not, bit_at-lt, bit_at-zero, shr_and_one, bit_at-trailing_zeros}
+use Rattle.std.proofs.lemmas.Bool.{cases_lt, cases_eq}
+use Rattle.std.proofs.lemmas.Nat.Bits.{bit_at_and, bit_at_not, bit_at-lt, shr_and_one, bit_at-trailing_zeros}
 use Rattle.run_pack.specs.Sets.{Has}
 use Rattle.run_pack.proofs.SetLemmas.{Has-from_bit, bit_from_Has, Has-and_right, Has-below, none_in_empty}
 use Rattle.row_edit.specs.Parts.{IsWithin, LeavesRest, HasNoneBelow}

@@ -7,3 +7,4 @@ pub mod Reading
 pub mod RaisedWords
 pub mod TakingOut
 pub mod PuttingIn
+pub mod Going

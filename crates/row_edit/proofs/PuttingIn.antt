@@ -1,17 +1,17 @@
 -- The parts of the row with one place more.
-use Rattle.std.proofs.Common.{◌≡◌, refl, ℕ, ◌+◌, ◌-◌, ◌^◌, ◌<◌, ◌≤◌, List, [], ◌∷◌, ◌++◌, length, map, take, drop, get_or, slice_index, insert, Some, None, arith, subst, sym, ap, ◌∙◌}
+use Rattle.std.proofs.Common.{◌≡◌, refl, ℕ, ◌+◌, ◌-◌, ◌<◌, ◌≤◌, List, [], ◌∷◌, length, map, drop, slice_index, insert, Some, None, arith, subst, sym, ◌∙◌}
 use Rattle.std.proofs.lemmas.List.{length-map}
 use Rattle.std.proofs.lemmas.List.Edits.{get_or-insert_at}
 use Rattle.run_pack.specs.declared.Run.{Run}
 use Rattle.run_pack.specs.declared.TheConstants.{MAX_PLACES}
 use Rattle.run_pack.specs.Sets.{Has, IsCommon, IsLeastIn, ShareNone}
-use Rattle.run_pack.specs.Runs.{start_at, end_at, move_at, run_of_word, IsTight, IsPacked}
-use Rattle.run_pack.proofs.RowLemmas.{border, border-le, border_past, get_or-starts_of, start_at-inside, same_runs}
+use Rattle.run_pack.specs.Runs.{start_at, move_at, run_of_word, IsTight, IsPacked}
+use Rattle.run_pack.proofs.RowLemmas.{border, get_or-starts_of, start_at-inside, same_runs}
 use Rattle.run_pack.proofs.Fewest.{IsPacked-from_tight}
 use Rattle.row_edit.specs.declared.PlaceSet.{PlaceSet}
 use Rattle.row_edit.specs.declared.span.Span.{Span}
 use Rattle.row_edit.specs.Edits.{AreKnown, IsKnownRow}
-use Rattle.row_edit.specs.Parts.{IsSpan, Spans, EndsAt, CutsBefore, AreWith, border_of, joined, raised}
+use Rattle.row_edit.specs.Parts.{IsSpan, EndsAt, CutsBefore, AreWith, border_of, joined, raised}
 use Rattle.row_edit.proofs.TightRuns.{tight_run}
 use Rattle.row_edit.proofs.Shorter.{IsShorter, shorter-insert, common_more}
 use Rattle.row_edit.proofs.Moved.{IsCutAt, later}

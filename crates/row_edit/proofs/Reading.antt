@@ -1,15 +1,14 @@
 -- What known sets and words tell, as they are read.
-use Rattle.std.proofs.Common.{◌≡◌, ℕ, ◌/◌, ◌%◌, ◌<◌, ◌≤◌, List, length, map, get_or, slice_index, bit_and, arith, ap, subst, sym, ◌∙◌}
-use Rattle.std.proofs.lemmas.List.{get_or-map, get_or_past, length-map}
+use Rattle.std.proofs.Common.{◌≡◌, ℕ, ◌/◌, ◌%◌, ◌<◌, ◌≤◌, List, length, map, get_or, bit_and, arith, ap, subst, sym, ◌∙◌}
+use Rattle.std.proofs.lemmas.List.{get_or-map, length-map}
 use Rattle.std.proofs.lemmas.List.Elements.{All-get_or}
-use Rattle.run_pack.specs.declared.Run.{Run}
-use Rattle.run_pack.specs.Sets.{Has, IsCommon}
-use Rattle.run_pack.specs.Runs.{starts_of, move_at, run_of_word, no_run}
+use Rattle.run_pack.specs.Sets.{Has}
+use Rattle.run_pack.specs.Runs.{move_at, run_of_word, no_run}
 use Rattle.run_pack.proofs.SetLemmas.{Has-and, Has-all}
-use Rattle.run_pack.proofs.RowLemmas.{border, border_past, get_or-starts_of}
+use Rattle.run_pack.proofs.RowLemmas.{border_past, get_or-starts_of}
 use Rattle.row_edit.specs.declared.PlaceSet.{PlaceSet}
-use Rattle.row_edit.specs.Edits.{IsSetOf, AreKnown}
-use Rattle.row_edit.specs.Parts.{HoldsCommon, IsKnownAt, border_of}
+use Rattle.row_edit.specs.Edits.{IsSetOf}
+use Rattle.row_edit.specs.Parts.{HoldsCommon, border_of}
 
 pub shared_none : (known : List PlaceSet) (from upto : ℕ) → HoldsCommon known from upto 255
 shared_none known from upto sets all move common = Has-all move common.number

@@ -1,15 +1,14 @@
 -- The whole row, where the list has a place more or less.
-use Rattle.std.proofs.Common.{◌≡◌, refl, ℕ, ◌+◌, ◌-◌, ◌<◌, ◌≤◌, List, [], ◌∷◌, ◌++◌, length, map, take, drop, get_or, slice_index, All, arith, inl, inr, subst, sym, ap, ◌∙◌}
-use Rattle.std.proofs.lemmas.Bool.{cases_lt}
-use Rattle.std.proofs.lemmas.List.{take-append-drop, drop_more, take_more, get_or-take, get_or-drop, length-take-le, drop_all, drop-map, append_assoc}
+use Rattle.std.proofs.Common.{◌≡◌, refl, ℕ, ◌+◌, ◌-◌, ◌<◌, ◌≤◌, List, [], ◌∷◌, ◌++◌, length, map, take, drop, get_or, slice_index, All, arith, subst, sym, ◌∙◌}
+use Rattle.std.proofs.lemmas.List.{take-append-drop, take_more, get_or-take, get_or-drop, length-take-le, drop-map, append_assoc}
 use Rattle.std.proofs.lemmas.List.Elements.{All-from_get_or}
 use Rattle.run_pack.specs.declared.Run.{Run}
-use Rattle.run_pack.specs.Sets.{Has, IsCommon, IsLeastIn, ShareNone}
+use Rattle.run_pack.specs.Sets.{Has, IsLeastIn, ShareNone}
 use Rattle.run_pack.specs.Runs.{starts_of, start_at, move_at, end_at, no_run, IsTight}
-use Rattle.run_pack.proofs.RowLemmas.{border, border_past, get_or-starts_of, start_at-le}
+use Rattle.run_pack.proofs.RowLemmas.{border, get_or-starts_of, start_at-le}
 use Rattle.row_edit.proofs.TightRuns.{IsTightRun, AreTight, border-append, tight_joined, tight_front, tight_back, tight_run, tight_runs, tight_row}
 use Rattle.row_edit.proofs.Shorter.{IsShorter}
-use Rattle.row_edit.proofs.Moved.{IsCutAt, front_stays, earlier, later, border-earlier, border-later, back_moves, back_moves_on, run_without, run_with, run_alone}
+use Rattle.row_edit.proofs.Moved.{IsCutAt, front_stays, earlier, later, border-earlier, border-later, back_moves, back_moves_on, run_with, run_alone}
 
 -- ---- a row cut in two at a run
 

@@ -1,5 +1,5 @@
 -- The parts of the row without a place.
-use Rattle.std.proofs.Common.{◌≡◌, refl, ℕ, ◌+◌, ◌-◌, ◌^◌, ◌<◌, ◌≤◌, ◌⊎◌, List, [], ◌∷◌, ◌++◌, length, map, take, drop, get_or, slice_index, remove, All, Some, None, arith, inl, inr, subst, sym, ap, ◌∙◌}
+use Rattle.std.proofs.Common.{◌≡◌, ℕ, ◌+◌, ◌-◌, ◌^◌, ◌<◌, List, [], ◌∷◌, length, map, drop, get_or, slice_index, remove, None, arith, inl, inr, subst, sym, ◌∙◌}
 use Rattle.std.proofs.lemmas.List.{length-map}
 use Rattle.std.proofs.lemmas.List.Elements.{All-head, All-tail}
 use Rattle.run_pack.specs.declared.Run.{Run}
@@ -10,9 +10,9 @@ use Rattle.run_pack.proofs.Fewest.{IsPacked-from_tight, IsCommon-part}
 use Rattle.row_edit.specs.declared.PlaceSet.{PlaceSet}
 use Rattle.row_edit.specs.declared.span.Span.{Span}
 use Rattle.row_edit.specs.Edits.{IsSetOf, AreKnown, IsKnownRow}
-use Rattle.row_edit.specs.Parts.{IsSpan, Spans, StaysCut, StaysWhole, AreWithout, joined, raised, one_less}
+use Rattle.row_edit.specs.Parts.{Spans, StaysCut, StaysWhole, AreWithout, joined, raised, one_less}
 use Rattle.row_edit.proofs.TightRuns.{IsTightRun, tight_run}
-use Rattle.row_edit.proofs.Shorter.{IsShorter, shorter-remove, common_same, common_back, common_forth, common_more}
+use Rattle.row_edit.proofs.Shorter.{IsShorter, shorter-remove, common_same, common_forth, common_more}
 use Rattle.row_edit.proofs.Moved.{IsCutAt, earlier, run_without}
 use Rattle.row_edit.proofs.Rows.{runs_stay_without, run_goes}
 use Rattle.row_edit.proofs.RaisedWords.{runs-earlier, runs-joined, sinking}

@@ -11,6 +11,7 @@ ghost use Rattle.std.specs.Prelude.{◌≡◌, IfOk, OnErr, MatchBool};
 ghost use Rattle.row_edit.specs.Edits.{TakesOut, PutsIn};
 
 mod copying;
+mod each;
 mod known;
 mod masks;
 mod parts;
@@ -19,6 +20,7 @@ mod with_set;
 mod without;
 
 use crate::copying::append_parts;
+pub use crate::each::{EditRoom, RowEdit, edit_each};
 use crate::with_set::parts_with;
 use crate::without::parts_without;
 use std::alloc::AllocError;

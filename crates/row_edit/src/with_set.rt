@@ -25,11 +25,7 @@ pub(crate) fn parts_with(
     }
     let span = span_of(words, places, put.place.saturating_sub(1))?;
     if has(put.set, span.mv) {
-        return Some(Parts {
-            front: span.number + 1,
-            own: None,
-            back: span.number + 1,
-        });
+        return Some(Parts::staying(span.number + 1));
     }
     if put.place == 0 {
         return parts_from(words, places, put, known, span.number);
@@ -75,11 +71,7 @@ fn parts_from(
         return Some(alone);
     };
     if has(put.set, (*word % 8) as u8) {
-        return Some(Parts {
-            front: number + 1,
-            own: None,
-            back: number + 1,
-        });
+        return Some(Parts::staying(number + 1));
     }
     if is_apart(put.set, most_at(known, put.place)) {
         return Some(alone);

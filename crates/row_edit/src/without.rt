@@ -25,11 +25,7 @@ pub(crate) fn parts_without(
     }
     if span.end - span.start > 1 {
         return if stays_whole(span, places, out, known) {
-            Some(Parts {
-                front: span.number + 1,
-                own: None,
-                back: span.number + 1,
-            })
+            Some(Parts::staying(span.number + 1))
         } else {
             None
         };

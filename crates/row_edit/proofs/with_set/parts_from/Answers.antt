@@ -1,4 +1,4 @@
-use Rattle.std.proofs.Common.{rules, arith, ◌<◌, ◌≤◌, ◌^◌, length, subst}
+use Rattle.std.proofs.Common.{rules, arith, ◌<◌, ◌^◌, subst}
 use Rattle.run_pack.specs.Sets.{Has}
 use Rattle.run_pack.proofs.SetLemmas.{Has-below}
 use Rattle.row_edit.proofs.Reading.{border_behind, move_read}
@@ -14,7 +14,7 @@ pub returns-then-has : goal.returns-then-has
 returns-then-has c =
     let read = c.in-Some.ensures.lookup in
     let same = move_read c.args.words.now c.args.number c.in-Some.word.now read.3.0 read.1 in
-    with_opened _ _ _ _ c.requires.few c.requires.place _ read.3.0 c.requires.here (subst (λ move. Has c.args.put.set move) same (c.has.ensures c.if-has.true)) c.requires.cut
+    rw c.staying.ensures (with_opened _ _ _ _ c.requires.few c.requires.place _ read.3.0 c.requires.here (subst (λ move. Has c.args.put.set move) same (c.has.ensures c.if-has.true)) c.requires.cut)
 
 pub returns-then-is_apart : goal.returns-then-is_apart
 returns-then-is_apart c =

@@ -11,9 +11,9 @@ returns-then-has c =
     let upto = spans.upto in
     let start = spans.is.start in
     let end = spans.is.end in
-    with_kept _ _ _ _ (omega (arith, c.if-places-ge-MAX_PLACES.false)) (omega (arith, c.if-put-places.false)) _ spans.is.within (omega arith) (omega arith)
+    rw c.staying.ensures (with_kept _ _ _ _ (omega (arith, c.if-places-ge-MAX_PLACES.false)) (omega (arith, c.if-put-places.false)) _ spans.is.within (omega arith) (omega arith)
     (subst (λ move. Has c.args.put.set move) spans.is.move (c.has.ensures c.if-has.true))
-    (λ at. cuts_first _ _ _ _ _ spans.is (omega arith))
+    (λ at. cuts_first _ _ _ _ _ spans.is (omega arith)))
 
 pub parts_from-requires-clause-cut : goal.parts_from-requires-clause-cut
 parts_from-requires-clause-cut c =

@@ -4,7 +4,7 @@ use Rattle.row_edit.proofs.without.parts_without.Goals as goal
 
 pub returns-then-stays_whole : goal.returns-then-stays_whole
 returns-then-stays_whole c =
-    without_kept _ _ _ _ _ c.in_ok-span.ensures (c.stays_cut.ensures c.if-not-stays_cut.false) (λ k. (c.type_inv.words k).fits) (c.stays_whole.ensures c.if-stays_whole.true) (omega (arith, c.if-span-gt1.true))
+    rw c.staying.ensures (without_kept _ _ _ _ _ c.in_ok-span.ensures (c.stays_cut.ensures c.if-not-stays_cut.false) (λ k. (c.type_inv.words k).fits) (c.stays_whole.ensures c.if-stays_whole.true) (omega (arith, c.if-span-gt1.true)))
 
 pub returns : goal.returns
 returns c =
