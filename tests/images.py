@@ -28,7 +28,8 @@ def table_of(cells, rows):
     borders = [0]
     for row in rows:
         borders.append(borders[-1] + len(row))
-    return [len(cells), *(y << 16 | x for x, y in cells), *borders, *(start * 8 + move for row in rows for start, move in row)]
+    runs = [start * 8 + move for row in rows for start, move in row]
+    return [len(cells), *(y << 16 | x for x, y in cells), *borders, *runs]
 
 
 class Image:
