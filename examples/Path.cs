@@ -38,7 +38,8 @@ public static unsafe class Pathdb
     static extern uint pathdb_path_cost(uint* words, nuint count, Cell start, Cell goal, Cost* cost);
 
     [DllImport("pathdb")]
-    static extern uint pathdb_path(uint* words, nuint count, Cell start, Cell goal, byte* moves, nuint room, uint* length);
+    static extern uint pathdb_path(uint* words, nuint count, Cell start, Cell goal, byte* moves, nuint room,
+                                   uint* length);
 
     [DllImport("pathdb")]
     static extern nuint pathdb_status_text(uint status, byte* text, nuint room);
@@ -46,7 +47,8 @@ public static unsafe class Pathdb
     [DllImport("pathdb")]
     static extern uint pathdb_bake_text(byte* text, nuint length, uint order, uint* words, nuint room, Baked* baked);
 
-    // The words of the image of a map. An empty array is pinned to null, and the library takes no null: so none is empty.
+    // The words of the image of a map. An empty array is pinned to null, which the library does not take: so none is
+    // empty.
     public static uint[] Bake(byte[] map, uint order)
     {
         if (map.Length == 0) throw new InvalidDataException("no map");

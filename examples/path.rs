@@ -7,7 +7,8 @@
 use std::process::ExitCode;
 
 mod pathdb {
-    //! Images and paths, safe to call: an [`Image`] has passed the check, and borrows its words, so they stay as they are.
+    //! Images and paths, safe to call: an [`Image`] has passed the check, and borrows its words, so they stay as they
+    //! are.
     use std::fmt;
     use std::os::raw::c_char;
 

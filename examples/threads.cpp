@@ -1,5 +1,5 @@
-// Paths in C++ with threads: eight threads ask one image for paths while a ninth bakes another and swaps it in. Prints what
-// `./path_server path MAP SX SY GX GY` prints, from the image that was swapped in.
+// Paths in C++ with threads: eight threads ask one image for paths while a ninth bakes another and swaps it in. Prints
+// what `./path_server path MAP SX SY GX GY` prints, from the image that was swapped in.
 //
 //   c++ -std=c++17 -pthread -Iinclude examples/threads.cpp out/lib/libpathdb.a -o threads
 //   ./threads maps/tutorial.map 2 2 37 17
@@ -56,9 +56,12 @@ void ask(const shelf &images, const std::atomic<bool> &stop, unsigned seed, std:
         const pathdb::view view = image->view();
         const pathdb::facts facts = view.facts();
         for (int turn = 0; turn < 64; turn++) {
-            auto next = [&] { return (seed = seed * 1664525u + 1013904223u) >> 16; };
-            const pathdb::cell start = {static_cast<std::uint16_t>(next() % facts.width), static_cast<std::uint16_t>(next() % facts.height)};
-            const pathdb::cell goal = {static_cast<std::uint16_t>(next() % facts.width), static_cast<std::uint16_t>(next() % facts.height)};
+            const auto below = [&seed](std::uint32_t limit) {
+                seed = seed * 1664525u + 1013904223u;
+                return static_cast<std::uint16_t>((seed >> 16) % limit);
+            };
+            const pathdb::cell start = {below(facts.width), below(facts.height)};
+            const pathdb::cell goal = {below(facts.width), below(facts.height)};
             pathdb::cost cost = {0, 0};
             const pathdb::status told = view.cost(start, goal, cost);
             if (view.path(start, goal, moves) != told || moves.size() != cost.straight + cost.diagonal) wrong++;
@@ -81,7 +84,8 @@ int print_path(const pathdb::view &view, pathdb::cell start, pathdb::cell goal)
         return 1;
     }
     const auto micro = static_cast<unsigned long long>((cost.straight + 1.4142135623730951 * cost.diagonal) * 1e6);
-    std::printf("cost %u %u\nlength %llu.%06llu\nmoves", cost.straight, cost.diagonal, micro / 1000000, micro % 1000000);
+    std::printf("cost %u %u\nlength %llu.%06llu\nmoves", cost.straight, cost.diagonal, micro / 1000000,
+                micro % 1000000);
     for (const std::uint8_t move : moves) std::printf(" %s", names[move]);
     std::putchar('\n');
     return 0;

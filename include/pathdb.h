@@ -1,9 +1,9 @@
 /* pathdb: exact shortest paths on the grid maps of games, from a database that ships with the game.
  *
- * The database of a map is an image: one array of 32-bit words, without pointers, in memory of yours. It may be baked at
- * run time (pathdb_bake_text, pathdb_bake_cells) or before, and be read from a file or mapped: a file of an image has its
- * words one behind the other, the lowest byte first. From the image each path is read by look-ups alone, one a move, and
- * no path is shorter.
+ * The database of a map is an image: one array of 32-bit words, without pointers, in memory of yours. It may be baked
+ * at run time (pathdb_bake_text, pathdb_bake_cells) or before, and be read from a file or mapped: a file of an image
+ * has its words one behind the other, the lowest byte first. From the image each path is read by look-ups alone, one
+ * a move, and no path is shorter.
  *
  *   uint32_t part;
  *   if (pathdb_check(words, count, &part) != PATHDB_DONE) ...                     once, after loading
@@ -12,30 +12,31 @@
  *   pathdb_cell from = {2, 2}, to = {37, 17};
  *   if (pathdb_path(words, count, from, to, moves, sizeof moves, &length) == PATHDB_DONE) ...
  *
- * Maps. Cells lie on a grid, column x and row y from 0 at the upper left. A move leads to one of the eight cells around,
- * and is a number: 0 north (one row up), 1 north-east, 2 east, 3 south-east, 4 south, 5 south-west, 6 west, 7 north-west.
- * A straight move, an even number, has length 1; a diagonal one has length the square root of 2, and is made only where
- * the two cells beside it are passable too. Land and water are passable, and no move leads from the one to the other. A
- * map has sides of 1 to 4096 cells, at most 1048576 cells, and at most 32768 passable ones.
+ * Maps. Cells lie on a grid, column x and row y from 0 at the upper left. A move leads to one of the eight cells
+ * around, and is a number: 0 north (one row up), 1 north-east, 2 east, 3 south-east, 4 south, 5 south-west, 6 west, 7
+ * north-west. A straight move, an even number, has length 1; a diagonal one has length the square root of 2, and is
+ * made only where the two cells beside it are passable too. Land and water are passable, and no move leads from the
+ * one to the other. A map has sides of 1 to 4096 cells, at most 1048576 cells, and at most 32768 passable ones.
  *
- * Lifetime. The library keeps nothing between two calls, has no global state and wants no set-up. All memory that it reads
- * or writes is the caller's, for the time of the call. An image may lie anywhere, be copied, and be mapped from a file
- * that is read only; it is aligned as a uint32_t is.
+ * Lifetime. The library keeps nothing between two calls, has no global state and wants no set-up. All memory that it
+ * reads or writes is the caller's, for the time of the call. An image may lie anywhere, be copied, and be mapped from
+ * a file that is read only; it is aligned as a uint32_t is.
  *
- * Threads. Any number of threads may read one image at once: reading writes nothing but what is handed in for the answer.
- * Baking writes the room that it is given, and so nobody may read that until it is done; to change a map under way, bake
- * the new one into other memory and swap the pointer. The library starts no thread and takes no lock. It must not be
- * called from a signal handler, nor in the forked child of a process with threads.
+ * Threads. Any number of threads may read one image at once: reading writes nothing but what is handed in for the
+ * answer. Baking writes the room that it is given, and so nobody may read that until it is done; to change a map
+ * under way, bake the new one into other memory and swap the pointer. The library starts no thread and takes no lock.
+ * It must not be called from a signal handler, nor in the forked child of a process with threads.
  *
- * Pointers. No pointer is NULL, also where the length beside it is 0. What is handed in to be written overlaps nothing else
- * that is handed in.
+ * Pointers. No pointer is NULL, also where the length beside it is 0. What is handed in to be written overlaps
+ * nothing else that is handed in.
  *
- * Trust. pathdb_check reads any words of any source, inside of them alone. The other calls that read an image want words
- * that passed it, or that a bake of this library wrote, and that have not changed since: this is not tested again. Over
- * words that passed and are no image of a map they still read inside alone, and return.
+ * Trust. pathdb_check reads any words of any source, inside of them alone. The other calls that read an image want
+ * words that passed it, or that a bake of this library wrote, and that have not changed since: this is not tested
+ * again. Over words that passed and are no image of a map they still read inside alone, and return.
  *
- * What is proved: each answer is right over the image of a map, for every map and every two cells, as the contracts in
- * crates/pathdb say; the code that this header declares is compiled from what was proved. C that calls it is not proved.
+ * What is proved: each answer is right over the image of a map, for every map and every two cells, as the contracts
+ * in crates/pathdb say; the code that this header declares is compiled from what was proved. C that calls it is not
+ * proved.
  */
 #ifndef PATHDB_H
 #define PATHDB_H
@@ -75,7 +76,7 @@ typedef enum pathdb_status {
     PATHDB_NO_ORDER = 16,      /* no order has that number */
     PATHDB_TEXT_TOO_LONG = 17, /* the text of a map has more than 2097152 bytes */
     PATHDB_BAD_HEADER = 18,    /* line `line` of a map's text is not that of its header */
-    PATHDB_BAD_SIZE = 19,      /* a side is not from 1 to 4096, or there are too many cells; of a text at line `line` */
+    PATHDB_BAD_SIZE = 19,      /* a side is not from 1 to 4096, or there are too many cells: line `line` */
     PATHDB_BAD_ROW = 20,       /* line `line` has `found` cells, and not `expected` */
     PATHDB_BAD_BYTE = 21,      /* `byte`, which stands for no cell, at column `x` and row `y` */
     PATHDB_MISSING_ROWS = 22,  /* the text ends after `found` rows */
@@ -91,8 +92,8 @@ typedef struct pathdb_cell {
     uint16_t y;
 } pathdb_cell;
 
-/* What a path costs. Its length is straight + diagonal * sqrt(2), in cells; two costs are equal only where both numbers
- * are. */
+/* What a path costs. Its length is straight + diagonal * sqrt(2), in cells; two costs are equal only where both
+ * numbers are. */
 typedef struct pathdb_cost {
     uint32_t straight;
     uint32_t diagonal;
@@ -124,8 +125,8 @@ pathdb_status pathdb_check(const uint32_t *words, size_t count, uint32_t *part);
 /* What an image says of its map. The words passed the check. */
 void pathdb_read_facts(const uint32_t *words, size_t count, pathdb_facts *facts);
 
-/* Where the path from a cell to a goal goes on: the number of the move, which begins a shortest path. A unit that asks
- * again from each cell it comes to walks the path that pathdb_path tells. The words passed the check.
+/* Where the path from a cell to a goal goes on: the number of the move, which begins a shortest path. A unit that
+ * asks again from each cell it comes to walks the path that pathdb_path tells. The words passed the check.
  *   PATHDB_DONE: *move is written.
  *   PATHDB_ARRIVED, PATHDB_UNREACHABLE, PATHDB_OUTSIDE_START .. PATHDB_BLOCKED_GOAL: *move is as it was. */
 pathdb_status pathdb_next_move(const uint32_t *words, size_t count, pathdb_cell at, pathdb_cell goal, uint8_t *move);
@@ -133,7 +134,8 @@ pathdb_status pathdb_next_move(const uint32_t *words, size_t count, pathdb_cell 
 /* What a shortest path costs. The words passed the check. From a cell to itself it costs nothing.
  *   PATHDB_DONE: *cost is written.
  *   PATHDB_UNREACHABLE, PATHDB_OUTSIDE_START .. PATHDB_BLOCKED_GOAL, PATHDB_BROKEN: *cost is as it was. */
-pathdb_status pathdb_path_cost(const uint32_t *words, size_t count, pathdb_cell start, pathdb_cell goal, pathdb_cost *cost);
+pathdb_status pathdb_path_cost(const uint32_t *words, size_t count, pathdb_cell start, pathdb_cell goal,
+                               pathdb_cost *cost);
 
 /* The moves of a shortest path, a byte a move, into a room of so many bytes. The words passed the check.
  *   PATHDB_DONE: *length moves stand in the room, at most `room`. From a cell to itself there are none.
@@ -143,15 +145,15 @@ pathdb_status pathdb_path_cost(const uint32_t *words, size_t count, pathdb_cell 
 pathdb_status pathdb_path(const uint32_t *words, size_t count, pathdb_cell start, pathdb_cell goal, uint8_t *moves,
                           size_t room, uint32_t *length);
 
-/* What a status means, in English and ASCII: writes the text and a byte 0 at its end into a room of so many bytes, as far
- * as it reaches, and answers how long the text is without that byte, fewer than PATHDB_TEXT_ROOM. A number that no status
- * has is "no status". The status is taken as a number, so that any may be asked for. */
+/* What a status means, in English and ASCII: writes the text and a byte 0 at its end into a room of so many bytes, as
+ * far as it reaches, and answers how long the text is without that byte, fewer than PATHDB_TEXT_ROOM. A number that
+ * no status has is "no status". The status is taken as a number, so that any may be asked for. */
 size_t pathdb_status_text(uint32_t status, char *text, size_t room);
 
 /* ---- baking ---- */
 
-/* The order of the cells in the database. Which of several shortest paths is told depends on it, and how many words an
- * image has: depth first mostly has fewer. */
+/* The order of the cells in the database. Which of several shortest paths is told depends on it, and how many words
+ * an image has: depth first mostly has fewer. */
 typedef enum pathdb_order {
     PATHDB_ROWS = 0, /* row by row */
     PATHDB_DFS = 1   /* depth first */
@@ -168,17 +170,17 @@ typedef struct pathdb_baked {
     uint32_t found;
 } pathdb_baked;
 
-/* Bakes the image of a map that is given as a text in the format of MovingAI: `type octile`, `height H`, `width W`, `map`,
- * and a line for each row; `.`, `G` and `S` are land, `W` is water, `@`, `O` and `T` are blocked. `order` is a number of
- * pathdb_order. The image is written to the first words of the room.
- *   PATHDB_DONE: the first baked->words words of the room are the image, and may be read without a check; the others are
- *     as they were. The same map and order give the same words.
+/* Bakes the image of a map that is given as a text in the format of MovingAI: `type octile`, `height H`, `width W`,
+ * `map`, and a line for each row; `.`, `G` and `S` are land, `W` is water, `@`, `O` and `T` are blocked. `order` is a
+ * number of pathdb_order. The image is written to the first words of the room.
+ *   PATHDB_DONE: the first baked->words words of the room are the image, and may be read without a check; the others
+ *     are as they were. The same map and order give the same words.
  *   PATHDB_TOO_SMALL: the image has baked->words words, and the room is as it was.
  *   PATHDB_NO_ORDER .. PATHDB_NO_MEMORY: why there is none. The room is as it was.
- * How many words an image has is known only once the rows are built: a bake into too small a room takes the time of the
- * whole. Rooms and corridors have some 30 words a passable cell, open ground with scattered obstacles 150. It takes memory
- * by the three functions below, for the database and for the image once more, gives it all back, and works with the calling
- * thread alone: a second or so for 10000 passable cells, ten for 30000. */
+ * How many words an image has is known only once the rows are built: a bake into too small a room takes the time of
+ * the whole. Rooms and corridors have some 30 words a passable cell, open ground with scattered obstacles 150. It
+ * takes memory by the three functions below, for the database and for the image once more, gives it all back, and
+ * works with the calling thread alone: a second or so for 10000 passable cells, ten for 30000. */
 pathdb_status pathdb_bake_text(const uint8_t *text, size_t length, uint32_t order, uint32_t *words, size_t room,
                                pathdb_baked *baked);
 
@@ -188,14 +190,14 @@ pathdb_status pathdb_bake_cells(uint32_t width, uint32_t height, const uint8_t *
 
 /* ---- the memory that baking takes ---- */
 
-/* Three functions of the program's own, which pathdb_heap.c defines over malloc, realloc and free: it is in libpathdb.so,
- * and in libpathdb.a as an object of its own, which the linker takes only where the program does not define the three
- * itself. Queries never call them.
+/* Three functions of the program's own, which pathdb_heap.c defines over malloc, realloc and free: it is in
+ * libpathdb.so, and in libpathdb.a as an object of its own, which the linker takes only where the program does not
+ * define the three itself. Queries never call them.
  *
- * rattle_alloc gives a block of so many bytes, aligned to `align`, a power of two up to 16. rattle_realloc makes a block
- * of `kept` used bytes one of `bytes`, with these bytes as they were; where it fails the old block is as it was.
- * rattle_dealloc takes back what one of the two gave. All three may be called from several threads at once. Where there
- * is no memory `ok` is false, and `at` is any pointer but NULL. */
+ * rattle_alloc gives a block of so many bytes, aligned to `align`, a power of two up to 16. rattle_realloc makes a
+ * block of `kept` used bytes one of `bytes`, with these bytes as they were; where it fails the old block is as it
+ * was. rattle_dealloc takes back what one of the two gave. All three may be called from several threads at once.
+ * Where there is no memory `ok` is false, and `at` is any pointer but NULL. */
 typedef struct rattle_block {
     bool ok;
     void *at;

@@ -1,5 +1,6 @@
-// pathdb for C++17: pathdb.h with types that own their words. Nothing is copied: an image moves, a view points at words of
-// somebody else's, and moves are written into a vector that is used again. Nothing throws but a vector that gets no memory.
+// pathdb for C++17: pathdb.h with types that own their words. Nothing is copied: an image moves, a view points at words
+// of somebody else's, and moves are written into a vector that is used again. Nothing throws but a vector that gets no
+// memory.
 #ifndef PATHDB_HPP
 #define PATHDB_HPP
 
@@ -58,8 +59,8 @@ inline std::string text(status which)
     return std::string(room, length);
 }
 
-// Words of somebody else's that passed the check, or that a bake wrote, and that stay as they are while it is used. It is
-// two numbers, and any number of threads may use one.
+// Words of somebody else's that passed the check, or that a bake wrote, and that stay as they are while it is used. It
+// is two numbers, and any number of threads may use one.
 class view {
 public:
     view(const std::uint32_t *words, std::size_t count) noexcept : words_(words), count_(count) {}
@@ -135,8 +136,8 @@ public:
     }
 
     // bakes a map that is given as a byte a cell: 0 blocked, 1 land, 2 water
-    status bake(std::uint32_t width, std::uint32_t height, const std::vector<std::uint8_t> &cells, order by, baked &told,
-                std::size_t room = 1 << 16)
+    status bake(std::uint32_t width, std::uint32_t height, const std::vector<std::uint8_t> &cells, order by,
+                baked &told, std::size_t room = 1 << 16)
     {
         const std::uint8_t none = 0;
         return bake_with(told, room, [&](std::uint32_t *words, std::size_t count) {

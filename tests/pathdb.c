@@ -1,10 +1,11 @@
-/* Images with flipped bits and cut ends: each is refused by the check, or answered inside of the memory that was handed in.
+/* Images with flipped bits and cut ends: each is refused by the check, or answered inside of the memory that was handed
+ * in.
  *
  *   pathdb ROUNDS MAP..
  *
- * The words end where memory ends that may not be read, or begin behind such, and the room for moves ends there too: so a
- * read or a write outside of them ends the program by a signal, whoever makes it. Prints how many images were refused and
- * how many were answered, and ends with 1 where a status or a move is none. */
+ * The words end where memory ends that may not be read, or begin behind such, and the room for moves ends there too: so
+ * a read or a write outside of them ends the program by a signal, whoever makes it. Prints how many images were refused
+ * and how many were answered, and ends with 1 where a status or a move is none. */
 #define _GNU_SOURCE
 #include "pathdb.h"
 
@@ -111,7 +112,8 @@ static void ask(const uint32_t *words, size_t count, struct fence fence)
         told = pathdb_next_move(words, count, start, goal, &move);
         if (told >= PATHDB_TOO_SMALL || (told == PATHDB_DONE) != (move < 8)) fail("a next move that is none");
         told = pathdb_path_cost(words, count, start, goal, &cost);
-        if (told > PATHDB_BROKEN || told == PATHDB_ARRIVED || told == PATHDB_TOO_SMALL) fail("a status that a cost does not have");
+        if (told > PATHDB_BROKEN || told == PATHDB_ARRIVED || told == PATHDB_TOO_SMALL)
+            fail("a status that a cost does not have");
     }
 }
 
@@ -134,7 +136,8 @@ int main(int argc, char **argv)
         words = round % 2 ? (uint32_t *)fence.begin : (uint32_t *)fence.end - count;
         memcpy(words, copy, count * sizeof *words);
         told = pathdb_check(words, count, &part);
-        if (told != PATHDB_DONE && (told < PATHDB_NO_IMAGE || told > PATHDB_WRONG_HOME)) fail("a status that a check does not have");
+        if (told != PATHDB_DONE && (told < PATHDB_NO_IMAGE || told > PATHDB_WRONG_HOME))
+            fail("a status that a check does not have");
         if (told != PATHDB_DONE) {
             refused++;
             continue;

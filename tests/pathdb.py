@@ -84,17 +84,24 @@ def compare_maps(library, program, options):
                     start = (rng.randint(0, width), rng.randint(0, height))
                     goal = (rng.randint(0, width), rng.randint(0, height))
                     wanted = told_by_program(program, name, start, goal, order_name)
-                    judge(f"map {number} {order_name} {start} {goal}", told_by_library(library, image, start, goal), wanted)
+                    what = f"map {number} {order_name} {start} {goal}"
+                    judge(what, told_by_library(library, image, start, goal), wanted)
                     if wanted[1].startswith("cost"):
-                        moves = [ctypes_path.MOVES[move] for move in walk_by_steps(library, image, start, goal, 40 * 30)]
-                        judge(f"steps of map {number} {order_name} {start} {goal}", " ".join(["moves"] + moves), wanted[1].split("\n")[2])
+                        steps = walk_by_steps(library, image, start, goal, 40 * 30)
+                        moves = " ".join(["moves"] + [ctypes_path.MOVES[move] for move in steps])
+                        judge(f"steps of {what}", moves, wanted[1].split("\n")[2])
+
+
+def numbers_of(baked):
+    """What a bake tells, but for what is 0."""
+    return {name: getattr(baked, name) for name, _ in baked._fields_ if getattr(baked, name)}
 
 
 def bake(library, text, order, room):
     """The status of a bake, what it tells, and the room."""
     words, baked = (c_uint32 * max(room, 1))(*([7] * max(room, 1))), ctypes_path.Baked()
     status = library.calls.pathdb_bake_text(text, len(text), order, words, room, byref(baked))
-    return library.text(status), {name: getattr(baked, name) for name, _ in baked._fields_ if getattr(baked, name)}, list(words)
+    return library.text(status), numbers_of(baked), list(words)
 
 
 def faults(library):
@@ -107,7 +114,8 @@ def faults(library):
     judge("the image of three cells", bake(library, row, 0, 28), ("done", {"words": 26}, image + [7, 7]))
     judge("a room of just 26", bake(library, row, 0, 26), ("done", {"words": 26}, image))
     for room in (0, 1, 25):
-        judge(f"a room of {room}", bake(library, row, 0, room), ("room for too few", {"words": 26}, [7] * max(room, 1)))
+        wanted = ("room for too few", {"words": 26}, [7] * max(room, 1))
+        judge(f"a room of {room}", bake(library, row, 0, room), wanted)
     cases = (
         ("no order", row, 2, "no order has this number", {}),
         ("header", b"type\n", 0, "wrong line of a map's header", {"line": 1}),
@@ -132,17 +140,18 @@ def with_cells(library, image):
     def bake_cells(width, height, cells, order=0):
         words, baked = (c_uint32 * 64)(), ctypes_path.Baked()
         room = (c_uint8 * max(len(cells), 1))(*cells)
+        sides = (c_uint32(width), c_uint32(height))
         status = calls.pathdb_bake_cells(
-            c_uint32(width), c_uint32(height), room, c_size_t(len(cells)), c_uint32(order), words, c_size_t(64), byref(baked)
+            *sides, room, c_size_t(len(cells)), c_uint32(order), words, c_size_t(64), byref(baked)
         )
-        told = {name: getattr(baked, name) for name, _ in baked._fields_ if getattr(baked, name)}
-        return library.text(status), told, list(words[: baked.words])
+        return library.text(status), numbers_of(baked), list(words[: baked.words])
 
     judge("three cells", bake_cells(3, 1, [1, 1, 1]), ("done", {"words": 26}, image))
     judge("no sides", bake_cells(0, 1, []), ("sides that no map may have", {}, []))
     judge("long sides", bake_cells(4097, 1, []), ("sides that no map may have", {}, []))
     judge("a cell too few", bake_cells(3, 1, [1, 1]), ("more cells or fewer than the sides say", {}, []))
-    judge("a byte of no cell", bake_cells(3, 2, [1, 1, 1, 1, 3, 1]), ("byte that stands for no cell", {"x": 1, "y": 1, "byte": 3}, []))
+    wanted = ("byte that stands for no cell", {"x": 1, "y": 1, "byte": 3}, [])
+    judge("a byte of no cell", bake_cells(3, 2, [1, 1, 1, 1, 3, 1]), wanted)
     judge("no order of cells", bake_cells(3, 1, [1, 1, 1], 9), ("no order has this number", {}, []))
     judge("too many cells", bake_cells(256, 129, [2] * 256 * 129), ("too many passable cells", {}, []))
     water = bake_cells(3, 1, [1, 0, 2], 1)

@@ -1,8 +1,8 @@
 #!/usr/bin/env bash
 # The library for C: its samples are built and run, each has to print the path of README.md; under valgrind and the
 # sanitizers of gcc too; the library beside the program on random maps; images with flipped bits and cut ends. The library
-# is that in the folder PATHDB_LIB, or out/lib; where there is none, `release/lib` makes it of what was built here. Prints
-# only where something is not as it should be, and on standard error what is skipped for want of a tool.
+# is that in the folder PATHDB_LIB, or else in out/lib, or in release/pathdb; where there is none, `release/lib` makes it of
+# what `rt lib` has built here. Prints only where something is not as it should be, and what is skipped for want of a tool.
 set -u
 # shellcheck source=tests/built.bash
 . "$(dirname "$(readlink -f "${BASH_SOURCE[0]}")")/built.bash" || exit 1
@@ -16,7 +16,7 @@ trap 'rm -rf "$folder"' EXIT
 skip() { echo "pathdb.sh: skipped: $*" >&2; }
 fail() { echo "pathdb.sh: $*" >&2; status=1; }
 
-lib=${PATHDB_LIB-out/lib}
+for lib in ${PATHDB_LIB-out/lib release/pathdb}; do [ ! -f "$lib/libpathdb.a" ] || break; done
 if [ ! -f "$lib/libpathdb.a" ]; then
   [ -f crates/pathdb/out/libpathdb.a ] || { skip "there is no library; release/lib makes it"; exit 0; }
   lib=$folder/lib

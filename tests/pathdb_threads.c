@@ -3,7 +3,8 @@
  *
  *   pathdb_threads MAP QUERIES
  *
- * Prints how many moves the paths of the first thread have, and ends with 1 where another thread found something else. */
+ * Prints how many moves the paths of the first thread have, and ends with 1 where another thread found something
+ * else. */
 #include "pathdb.h"
 
 #include <pthread.h>
