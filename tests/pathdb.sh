@@ -1,8 +1,9 @@
 #!/usr/bin/env bash
 # The library for C: its samples are built and run, each has to print the path of README.md; under valgrind and the
-# sanitizers of gcc too; the library beside the program on random maps; images with flipped bits and cut ends. The library
-# is that in the folder PATHDB_LIB, or else in out/lib, or in release/pathdb; where there is none, `release/lib` makes it of
-# what `rt lib` has built here. Prints only where something is not as it should be, and what is skipped for want of a tool.
+# sanitizers of gcc too; the library beside the program on random maps; images with flipped bits and cut ends. The
+# library is that in the folder PATHDB_LIB, or else in out/lib, or in release/pathdb; where there is none,
+# `release/lib` makes it of what `rt lib` has built here. Prints only where something is not as it should be, and what
+# is skipped for want of a tool.
 set -u
 # shellcheck source=tests/built.bash
 . "$(dirname "$(readlink -f "${BASH_SOURCE[0]}")")/built.bash" || exit 1
@@ -45,7 +46,8 @@ compile() {
     { fail "$name could not be compiled:"; head -n 40 "$folder/said" >&2; return 1; }
 }
 
-checked=(-fsanitize=address,undefined -fno-sanitize-recover=all)
+checked=('-fsanitize=address,undefined' -fno-sanitize-recover=all)
+watched=(valgrind -q --error-exitcode=9 --leak-check=full)
 c=(gcc -std=c99 -pedantic examples/path.c "$lib/libpathdb.a")
 compile c "${c[@]}" -O2 && run "the sample in C" "$folder/c" "${query[@]}"
 compile c_checked "${c[@]}" "${checked[@]}" && run "the sample in C, with sanitizers" "$folder/c_checked" "${query[@]}"
@@ -54,7 +56,7 @@ compile c_heap gcc -O2 examples/path.c tests/pathdb_heap.c "$lib/libpathdb.a" &&
 compile c_shared gcc -O2 examples/path.c -L"$lib" -lpathdb -Wl,-rpath,"$(readlink -f "$lib")" &&
   run "the sample in C over libpathdb.so" "$folder/c_shared" "${query[@]}"
 if command -v valgrind >/dev/null; then
-  run "the sample in C, under valgrind" valgrind -q --error-exitcode=9 --leak-check=full "$folder/c" "${query[@]}"
+  run "the sample in C, under valgrind" "${watched[@]}" "$folder/c" "${query[@]}"
 else
   skip "there is no valgrind"
 fi
@@ -66,14 +68,16 @@ if command -v g++ >/dev/null; then
   compile threads_raced "${threads[@]}" -O1 -fsanitize=thread &&
     run "the sample in C++, with the sanitizer of threads" "$folder/threads_raced" "${query[@]}"
   if command -v valgrind >/dev/null; then
-    run "the sample in C++, under valgrind" valgrind -q --error-exitcode=9 --leak-check=full "$folder/threads" "${query[@]}"
+    run "the sample in C++, under valgrind" "${watched[@]}" "$folder/threads" "${query[@]}"
   fi
 else
   skip "there is no g++"
 fi
-compile watched gcc -std=c99 -pedantic -O2 -pthread tests/pathdb_threads.c "$lib/libpathdb.a" && if command -v valgrind >/dev/null; then
-  valgrind -q --tool=helgrind --error-exitcode=9 "$folder/watched" maps/tutorial.map 100 >"$folder/found" 2>"$folder/said" ||
-    { fail "threads under helgrind:"; head -n 40 "$folder/said" "$folder/found" >&2; }
+if command -v valgrind >/dev/null; then
+  compile side_by_side gcc -std=c99 -pedantic -O2 -pthread tests/pathdb_threads.c "$lib/libpathdb.a" &&
+    { valgrind -q --tool=helgrind --error-exitcode=9 "$folder/side_by_side" maps/tutorial.map 100 \
+      >"$folder/found" 2>"$folder/said" ||
+      { fail "threads under helgrind:"; head -n 40 "$folder/said" "$folder/found" >&2; }; }
 fi
 run "the sample in Python" python3 examples/path.py "$lib/libpathdb.so" "${query[@]}"
 if command -v rustc >/dev/null; then
@@ -93,13 +97,16 @@ maps=(maps/tutorial.map tests/maps/row.map tests/maps/water.map)
 spoilt() {
   local what=$1
   shift
-  "$@" >"$folder/found" 2>"$folder/said" || { fail "spoilt images, $what: status $?"; head -n 20 "$folder/said" >&2; return; }
-  grep -qE '^refused [1-9][0-9]* answered [1-9][0-9]*$' "$folder/found" || fail "spoilt images, $what: $(cat "$folder/found")"
+  "$@" >"$folder/found" 2>"$folder/said" ||
+    { fail "spoilt images, $what: status $?"; head -n 20 "$folder/said" >&2; return; }
+  grep -qE '^refused [1-9][0-9]* answered [1-9][0-9]*$' "$folder/found" ||
+    fail "spoilt images, $what: $(cat "$folder/found")"
 }
-compile spoilt gcc -std=c11 -O2 tests/pathdb.c "$lib/libpathdb.a" && spoilt plain "$folder/spoilt" "$rounds" "${maps[@]}"
+compile spoilt gcc -std=c11 -O2 tests/pathdb.c "$lib/libpathdb.a" &&
+  spoilt plain "$folder/spoilt" "$rounds" "${maps[@]}"
 compile spoilt_checked gcc -std=c11 -O1 tests/pathdb.c "$lib/libpathdb.a" "${checked[@]}" &&
   spoilt "with sanitizers" "$folder/spoilt_checked" "$rounds" "${maps[@]}"
 if command -v valgrind >/dev/null; then
-  spoilt "under valgrind" valgrind -q --error-exitcode=9 --leak-check=full "$folder/spoilt" $((rounds / 100 + 1)) "${maps[@]}"
+  spoilt "under valgrind" "${watched[@]}" "$folder/spoilt" $((rounds / 100 + 1)) "${maps[@]}"
 fi
 exit "$status"

@@ -1,5 +1,5 @@
-/* Memory of a program's own for a bake: a block that only grows. It is for the tests, which see by it that a program may
- * define the three functions itself. */
+/* Memory of a program's own for a bake: a block that only grows. It is for the tests, which see by it that a program
+ * may define the three functions itself. */
 #include "pathdb.h"
 
 #include <stdlib.h>

@@ -1,21 +1,18 @@
 -- Each word of an image is below what 32 bits count.
-use Rattle.std.proofs.Common.{◌≡◌, ℕ, zero, suc, ◌+◌, ◌*◌, ◌^◌, ◌<◌, ◌≤◌, List, [], ◌∷◌, ◌++◌, length, get_or, map, take, sym, subst, inl, inr, arith}
+use Rattle.std.proofs.Common.{ℕ, suc, ◌+◌, ◌*◌, ◌^◌, ◌<◌, List, [], ◌∷◌, length, get_or, map, sym, subst, inl, inr, arith}
 use Rattle.std.specs.List.{All, flat_map, range_with_len}
 use Rattle.std.proofs.lemmas.List.Elements.{All-append, All-cons, All-from_get_or, All-map}
 use Rattle.std.proofs.lemmas.List.FromFn.{get_or-map-range_with_len, length-map-range_with_len}
-use Rattle.moves.specs.declared.TheConstants.{MAX_CELLS, MAX_PASSABLE, MAX_SIDE}
 use Rattle.moves.specs.Maps.{IsWithinLimits, cell_at, passable_count}
 use Rattle.moves.proofs.RowMajor.{place_of_cell_at, row_inside}
 use Rattle.cell_order.specs.Orders.{kind_of}
 use Rattle.build_pool.proofs.Connecting.{kind_small}
-use Rattle.run_pack.specs.declared.Run.{Run}
-use Rattle.run_pack.specs.declared.TheConstants.{MAX_PLACES}
 use Rattle.run_pack.specs.Runs.{word_of}
 use Rattle.row_store.specs.Rows.{row_at}
 use Rattle.row_store.specs.Comps.{Comp, IsComp}
 use Rattle.row_store.proofs.CompLaws.{row_kept}
 use Rattle.versions.specs.Databases.{Versioned, IsVersion, comp_at, no_comp}
-use Rattle.path_image.specs.declared.TheConstants.{MAGIC_PATH, MAGIC_IMAGE, FORM, HEAD, HALF, BLOCKED}
+use Rattle.path_image.specs.declared.TheConstants.{MAGIC_PATH, MAGIC_IMAGE, FORM}
 use Rattle.path_image.specs.Images.{cell_word, head_of, home_word, homes_of, image_of, image_size, row_start, row_words, starts_of, table_of, table_start}
 use Rattle.path_image.proofs.Homes.{home_of_passable, passable_or_not, small_place, word_of_blocked, word_of_home}
 use Rattle.path_image.proofs.Sizes.{few_comps, flat_front, runs_size, small_image, small_table, table_size}

@@ -1,12 +1,12 @@
 -- Cells that are given as bytes.
-use Rattle.std.proofs.Common.{◌≡◌, ℕ, ◌+◌, ◌*◌, ◌<◌, ◌≤◌, List, [], ◌∷◌, ◌++◌, length, get_or, map, take, Option, Some, None, refl, sym, ap, subst, ◌∙◌, arith}
+use Rattle.std.proofs.Common.{◌≡◌, ℕ, ◌+◌, ◌<◌, ◌≤◌, List, [], ◌∷◌, ◌++◌, length, get_or, map, take, Option, Some, None, refl, sym, ap, subst, ◌∙◌}
 use Rattle.std.specs.List.{count_by}
 use Rattle.std.proofs.lemmas.List.{map-append, map_more, take_all}
 use Rattle.moves.specs.declared.Terrain.{Terrain}
 use Rattle.moves.specs.declared.Terrain.TheVariants.{Blocked}
 use Rattle.moves.specs.declared.TheConstants.{MAX_PASSABLE}
-use Rattle.moves.specs.Maps.{Map, IsWithinLimits, is_passable, map_of, passable_count}
-use Rattle.bake_words.specs.Cells.{AreCells, HasCells, terrain_of_byte}
+use Rattle.moves.specs.Maps.{Map, is_passable, passable_count}
+use Rattle.bake_words.specs.Cells.{AreCells, terrain_of_byte}
 
 -- one more cell
 pub cells_more : (bytes : List ℕ) (place : ℕ) (terrain pushed : List Terrain) (found : Terrain) → place < length bytes → AreCells (take place bytes) terrain

@@ -1,9 +1,9 @@
 -- Maps that are given as bytes, one a cell, row by row. An example: the bytes 1 0 2 with the sides 3 and 1 are the map `.@W`.
-use Rattle.std.specs.Prelude.{◌≡◌, ℕ, ◌*◌, ◌<◌, ◌≤◌, List, length, map, Option, Some, None, slice_index, if◌then◌else◌, ◌==◌}
+use Rattle.std.specs.Prelude.{◌≡◌, ℕ, ◌*◌, ◌<◌, List, length, map, Option, Some, None, slice_index, if◌then◌else◌, ◌==◌}
 use Rattle.moves.specs.declared.Terrain.{Terrain}
 use Rattle.moves.specs.declared.Terrain.TheVariants.{Blocked, Land, Water}
 use Rattle.moves.specs.declared.TheConstants.{MAX_PASSABLE}
-use Rattle.moves.specs.Maps.{Map, IsWithinLimits, map_of, passable_count}
+use Rattle.moves.specs.Maps.{Map, IsWithinLimits, passable_count}
 use Rattle.bake_words.specs.declared.fault.CellsFault.{CellsFault}
 use Rattle.bake_words.specs.declared.fault.CellsFault.TheVariants.{Sides, Count, BadByte, TooManyCells, NoMemory}
 

@@ -11,7 +11,8 @@ use Rattle.bake_words.specs.Baking.{BakesInto, NeedsRoom}
 use Rattle.bake_words.specs.Cells.{HasCells, IsCellsFaultOf}
 use Rattle.pathdb.specs.declared.baking.PathdbBaked.{PathdbBaked}
 use Rattle.pathdb.specs.declared.status.Status.{Status}
-use Rattle.pathdb.specs.declared.status.Status.TheVariants.{Done, TooSmall, NoOrder, TextTooLong, BadHeader, BadSize, BadRow, BadByte, MissingRows, ExtraLine, TooManyCells, WrongCount, NoMemory}
+use Rattle.pathdb.specs.declared.status.Status.TheVariants.{Done, TooSmall, NoOrder, TextTooLong, BadHeader, BadSize}
+use Rattle.pathdb.specs.declared.status.Status.TheVariants.{BadRow, BadByte, MissingRows, ExtraLine, TooManyCells, WrongCount, NoMemory}
 
 -- the fault of a map's text that a status and what is told beside it stand for
 abbrev pub map_fault_of : Status → PathdbBaked → Option MapFault

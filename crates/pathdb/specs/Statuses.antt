@@ -8,7 +8,9 @@ use Rattle.path_image.specs.declared.checking.ImageFault.TheVariants.{Magic, For
 use Rattle.path_image.specs.Answers.{overwritten}
 use Rattle.pathdb.specs.declared.TheConstants.{LAST_STATUS}
 use Rattle.pathdb.specs.declared.status.Status.{Status}
-use Rattle.pathdb.specs.declared.status.Status.TheVariants.{Done, Arrived, Unreachable, OutsideStart, BlockedStart, OutsideGoal, BlockedGoal, TooSmall, Broken, NoImage, OtherForm, WrongLength, WrongSides, WrongLists, WrongTable, WrongHome, NoOrder, TextTooLong, BadHeader, BadSize, BadRow, BadByte, MissingRows, ExtraLine, TooManyCells, WrongCount, NoMemory}
+use Rattle.pathdb.specs.declared.status.Status.TheVariants.{Done, Arrived, Unreachable, OutsideStart, BlockedStart, OutsideGoal, BlockedGoal, TooSmall, Broken}
+use Rattle.pathdb.specs.declared.status.Status.TheVariants.{NoImage, OtherForm, WrongLength, WrongSides, WrongLists, WrongTable, WrongHome}
+use Rattle.pathdb.specs.declared.status.Status.TheVariants.{NoOrder, TextTooLong, BadHeader, BadSize, BadRow, BadByte, MissingRows, ExtraLine, TooManyCells, WrongCount, NoMemory}
 
 -- the number of a status
 abbrev pub status_number : Status → ℕ

@@ -27,8 +27,9 @@ pub struct PathdbFacts {
     pub prefix: u32,
 }
 
-/// Looks once at words of whatever source: whether each number in them leads inside. Where that is so the other calls may
-/// be made with them. Else `part` is the number of the component or of the cell that is wrong, where it is one, and 0.
+/// Looks once at words of whatever source: whether each number in them leads inside. Where that is so the other calls
+/// may be made with them. Else `part` is the number of the component or of the cell that is wrong, where it is one, and
+/// 0.
 #[unsafe(no_mangle)]
 pub extern "C" fn pathdb_check(words: &[u32], part: &mut u32) -> u32
     ensures told { Tells result (SaysCheck words.now part.new) }

@@ -1,8 +1,9 @@
 //! The database of a map for C: an image in the caller's memory is checked, read and baked.
 //!
-//! Each export calls a function of the libraries below and says its clauses again. What C sees of it, `include/pathdb.h`
-//! says in the words of C: the numbers of the statuses are those of [`Status::number`], a slice is a pointer and then a
-//! length, and no pointer is null. No export keeps anything: all that it reads or writes is the caller's.
+//! Each export calls a function of the libraries below and says its clauses again. What C sees of it,
+//! `include/pathdb.h` says in the words of C: the numbers of the statuses are those of [`Status::number`], a slice is a
+//! pointer and then a length, and no pointer is null. No export keeps anything: all that it reads or writes is the
+//! caller's.
 #![tactic(auto)]
 
 pub mod baking;

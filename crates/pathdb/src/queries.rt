@@ -69,8 +69,8 @@ pub extern "C" fn pathdb_path_cost(
     path_cost(words, start.cell(), goal.cell(), cost).number()
 }
 
-/// Writes the moves of the path from a cell to another into a room, a byte a move, and how many there are. Where the room
-/// has too few places for them it has the first of them, and the count is how many there are.
+/// Writes the moves of the path from a cell to another into a room, a byte a move, and how many there are. Where the
+/// room has too few places for them it has the first of them, and the count is how many there are.
 #[unsafe(no_mangle)]
 pub extern "C" fn pathdb_path(
     words: &[u32],

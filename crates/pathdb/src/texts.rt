@@ -7,8 +7,9 @@ ghost use Rattle.pathdb.specs.Statuses.{Means, NumbersAreApart, WritesMeaning};
 
 use crate::Status;
 
-/// Writes what the number of a status means, in words of ASCII and with a byte 0 at its end, as far as the room reaches;
-/// [`TEXT_ROOM`](crate::TEXT_ROOM) bytes are enough for each. The answer is how long the text is, without that byte.
+/// Writes what the number of a status means, in words of ASCII and with a byte 0 at its end, as far as the room
+/// reaches; [`TEXT_ROOM`](crate::TEXT_ROOM) bytes are enough for each. The answer is how long the text is, without that
+/// byte.
 #[unsafe(no_mangle)]
 pub extern "C" fn pathdb_status_text(status: u32, room: &mut [u8]) -> usize
     ensures writes { WritesMeaning status room.old room.new result }

@@ -1,4 +1,4 @@
-use Rattle.std.proofs.Common.{◌≡◌, ◌*◌, ◌<◌, ◌≤◌, length, take, refl, ◌∙◌, arith}
+use Rattle.std.proofs.Common.{◌≤◌, length, refl, ◌∙◌, arith}
 use Rattle.std.proofs.lemmas.List.{length-take-le}
 use Rattle.bake_words.proofs.Baked.{baked, image_bytes_long}
 use Rattle.bake_words.proofs.baking.bake.Goals as goal

@@ -1,6 +1,5 @@
-use Rattle.std.proofs.Common.{◌≡◌, ◌<◌, sym, ap, subst, arith}
+use Rattle.std.proofs.Common.{sym, subst, arith}
 use Rattle.std.proofs.lemmas.Result.{err_from_is_err_and}
-use Rattle.moves.specs.Maps.{map_of, passable_count}
 use Rattle.bake_words.specs.Cells.{AreCells}
 use Rattle.bake_words.proofs.Given.{as_many}
 use Rattle.bake_words.proofs.cells.grid_of_cells.Goals as goal

@@ -1,4 +1,4 @@
-use Rattle.std.proofs.Common.{◌≡◌, ◌∙◌, length, min, ap, arith}
+use Rattle.std.proofs.Common.{◌∙◌, length, min, ap, arith}
 use Rattle.pathdb.proofs.Rooms.{text_put}
 use Rattle.pathdb.proofs.texts.put_text.Goals as goal
 
