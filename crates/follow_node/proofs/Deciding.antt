@@ -1,7 +1,7 @@
 -- What becomes of a follower depends on the bytes alone.
-use Rattle.std.proofs.Common.{◌≡◌, ◌⊎◌, inl, inr, ℕ, ◌+◌, ◌<◌, ◌≤◌, Option, Some, None, MatchOption, List, [], ◌∷◌, ◌++◌, length, drop, refl, sym, subst, ap, ◌∙◌, arith}
+use Rattle.std.proofs.Common.{◌≡◌, ◌⊎◌, inl, inr, ℕ, ◌+◌, Option, Some, None, MatchOption, List, [], ◌∷◌, ◌++◌, length, drop, refl, sym, subst, ap, ◌∙◌}
 use Rattle.std.proofs.lemmas.Bool.{cases_lt}
-use Rattle.std.proofs.lemmas.List.{append-nil, append_assoc}
+use Rattle.std.proofs.lemmas.List.{append_assoc}
 use Rattle.cell_order.specs.declared.OrderKind.{OrderKind}
 use Rattle.edit_log.specs.declared.edit.Edit.{Edit}
 use Rattle.edit_log.specs.Verdicts.{MayBeAccepted}
@@ -9,11 +9,11 @@ use Rattle.path_core.specs.declared.entry.Entry.TheVariants.{Accept}
 use Rattle.path_core.specs.Histories.{accepted_count, map_now, IsLegal}
 use Rattle.follow_proto.specs.declared.TheConstants.{MAX_FRAME}
 use Rattle.follow_node.specs.declared.faults.FollowFault.{FollowFault}
-use Rattle.follow_node.specs.Following.{Followed, Hears, Judges, LeavesBoard, Refuses, TakesFront, TakesNone, accepts, board_after, fault_after, with_edits, CanAllBeAccepted}
+use Rattle.follow_node.specs.Following.{Followed, Judges, LeavesBoard, TakesFront, TakesNone, accepts, board_after, fault_after, with_edits, CanAllBeAccepted}
 use Rattle.follow_node.specs.StreamLaws.{BytesDecide}
-use Rattle.follow_node.specs.Streams.{Following, EndsMessage, IsBegun, IsTooLong, IsWhole, Takes, TakesNext, Took, size_said}
+use Rattle.follow_node.specs.Streams.{Following, EndsMessage, IsBegun, IsTooLong, IsWhole, Takes, Took, size_said}
 use Rattle.follow_node.proofs.Spellings.{frames_spell_one_message, same_message}
-use Rattle.follow_node.proofs.Submitted.{accepts_both, with_both}
+use Rattle.follow_node.proofs.Submitted.{accepts_both}
 
 -- an edit that may not be accepted behind some edits is accepted in no list that begins with these and it
 not_in : (board : Followed) (taken rest : List Edit) (refused : Edit)
@@ -111,7 +111,7 @@ same_by before after other byte p q (inl is) = p.begun is ∙ sym (q.begun is)
 same_by before after other byte p q (inr (inl is)) = p.too_long is ∙ sym (q.too_long is)
 same_by before after other byte p q (inr (inr is)) = same_ended before after other (before.held ++ byte ∷ []) (p.whole is) (q.whole is)
 
-stage : (held : List ℕ) → IsBegun held ⊎ (IsTooLong held ⊎ IsWhole held)
+pub stage : (held : List ℕ) → IsBegun held ⊎ (IsTooLong held ⊎ IsWhole held)
 stage held = elim (cases_lt (length held) 4) [
   | inl few ↦ inl (inl few)
   | inr told ↦ elim (cases_lt MAX_FRAME (size_said held)) [

@@ -2,7 +2,7 @@
 use Rattle.std.proofs.Common.{◌≡◌, ℕ, zero, suc, ◌+◌, ◌-◌, ◌*◌, ◌<◌, ◌≤◌, List, [], ◌∷◌, ◌++◌, All, length, take, drop, set, get_or, slice_index, refl, sym, subst, ap, ap₂, ◌∙◌, arith}
 use Rattle.std.proofs.Math.Seq.{drop-append-add}
 use Rattle.std.proofs.lemmas.List.Elements.{All-push}
-use Rattle.std.proofs.lemmas.List.{append-nil, append_assoc, drop-drop, drop_all, drop_at, flat_map_more, length-append, length-drop, take_all, take_more, take_more_set}
+use Rattle.std.proofs.lemmas.List.{append-nil, append_assoc, drop-drop, drop_all, drop_at, flat_map_more, length-append, length-drop, take_all, take_more_set}
 use Rattle.edit_log.specs.declared.edit.CellChange.{CellChange}
 use Rattle.query_proto.specs.Frames.{change_bytes, changes_bytes}
 use Rattle.query_proto.proofs.Several.{changes_long}

@@ -1,13 +1,13 @@
 -- The parts of the frame of a message.
-use Rattle.std.proofs.Common.{◌≡◌, ℕ, ◌+◌, ◌*◌, ◌^◌, ◌<◌, ◌≤◌, List, [], ◌∷◌, ◌++◌, length, map, drop, slice_index, refl, sym, subst, ap, ap₂, ◌∙◌, arith}
-use Rattle.std.proofs.lemmas.List.{length-append, length-drop, length-map}
+use Rattle.std.proofs.Common.{◌≡◌, ℕ, ◌+◌, ◌*◌, ◌^◌, ◌<◌, ◌≤◌, List, [], ◌∷◌, ◌++◌, length, map, drop, slice_index, sym, subst, ap, ap₂, ◌∙◌, arith}
+use Rattle.std.proofs.lemmas.List.{length-drop, length-map}
 use Rattle.byteorder.specs.Endian.{big_bytes}
 use Rattle.moves.specs.declared.Terrain.{Terrain}
 use Rattle.moves.specs.Maps.{Map, IsSearchable, IsWithinLimits, map_of}
 use Rattle.edit_log.specs.declared.edit.CellChange.{CellChange}
 use Rattle.query_proto.specs.Frames.{terrain_byte}
 use Rattle.follow_proto.specs.declared.kinds.TheConstants as kind
-use Rattle.follow_proto.specs.Feeds.{Message, IsMessage, IsStartMap, all_edit_bytes, frame_bytes}
+use Rattle.follow_proto.specs.Feeds.{all_edit_bytes, frame_bytes}
 use Rattle.follow_proto.specs.Feeds.Message.{Start, Edits}
 use Rattle.follow_node.specs.Reading.{AreEditsOf, SpellNoEdits, SpellNoTerrain, Spells, SpellsNoEdits, SpellsNoStart}
 use Rattle.follow_node.proofs.Numbers.{same_number}

@@ -8,3 +8,8 @@ pub mod Submitted
 pub mod Heard
 pub mod Taken
 pub mod Deciding
+pub mod Messages
+pub mod Rounding
+pub mod WholeMessages
+pub mod LeadingEdits
+pub mod Agreeing

@@ -1,5 +1,5 @@
 -- A frame spells one message at most.
-use Rattle.std.proofs.Common.{◌≡◌, ℕ, suc, ◌+◌, ◌^◌, ◌<◌, ◌≤◌, List, [], ◌∷◌, ◌++◌, All, length, drop, map, get_or, slice_index, refl, sym, ap, ap₂, ◌∙◌, arith}
+use Rattle.std.proofs.Common.{◌≡◌, ℕ, suc, ◌^◌, ◌<◌, List, [], ◌∷◌, ◌++◌, All, length, drop, map, slice_index, refl, sym, ap, ap₂, ◌∙◌, arith}
 use Rattle.std.proofs.lemmas.List.{append_assoc, append-nil}
 use Rattle.byteorder.specs.Endian.{big_bytes, big_from}
 use Rattle.byteorder.specs.Numbers.{big_number-reads_back}
@@ -50,15 +50,17 @@ same_edit : (one other : List CellChange) (r s : List ℕ) → IsSent one → Is
 same_edit one other r s a b e =
     same_changes one other r s (ap (λ l. slice_index l 0) e) a.places b.places (ap (drop 1) e)
 
--- edits with the same bytes are the same
-pub same_edits : (one other : List (List CellChange)) → length one ≡ length other → All IsSent one → All IsSent other
-    → all_edit_bytes one ≡ all_edit_bytes other → one ≡ other
-same_edits [] [] size a b e = refl
-same_edits [] (y ∷ other) size a b e = absurd (omega (arith, size))
-same_edits (x ∷ one) [] size a b e = absurd (omega (arith, size))
-same_edits (x ∷ one) (y ∷ other) size a b e =
-    let first = same_edit x y (all_edit_bytes one) (all_edit_bytes other) (a 0 x (omega arith)) (b 0 y (omega arith)) e in
-    ap₂ (λ c cs. c ∷ cs) first.0 (same_edits one other (omega (arith, size)) (all_rest IsSent x one a) (all_rest IsSent y other b) first.1)
+-- as many edits with the same bytes in front of others are the same
+pub same_edits_then : (one other : List (List CellChange)) (r s : List ℕ) → length one ≡ length other → All IsSent one → All IsSent other
+    → all_edit_bytes one ++ r ≡ all_edit_bytes other ++ s → (one ≡ other) × (r ≡ s)
+same_edits_then [] [] r s size a b e = (refl, e)
+same_edits_then [] (y ∷ other) r s size a b e = absurd (omega (arith, size))
+same_edits_then (x ∷ one) [] r s size a b e = absurd (omega (arith, size))
+same_edits_then (x ∷ one) (y ∷ other) r s size a b e =
+    let whole = sym (append_assoc (edit_bytes x) (all_edit_bytes one) r) ∙ e ∙ append_assoc (edit_bytes y) (all_edit_bytes other) s in
+    let first = same_edit x y (all_edit_bytes one ++ r) (all_edit_bytes other ++ s) (a 0 x (omega arith)) (b 0 y (omega arith)) whole in
+    let rest = same_edits_then one other r s (omega (arith, size)) (all_rest IsSent x one a) (all_rest IsSent y other b) first.1 in
+    (ap₂ (λ c cs. c ∷ cs) first.0 rest.0, rest.1)
 
 -- the edits that a frame spells, and behind how many
 pub same_message : (frame : List ℕ) (k known : ℕ) (one other : List (List CellChange)) → Spells frame (Edits k one) → Spells frame (Edits known other)
@@ -68,7 +70,19 @@ same_message frame k known one other a b =
     a.0.0 b.0.0 (ap (drop 1) (sym a.1 ∙ b.1)) in
     let second = same_number (length one) (length other) (all_edit_bytes one) (all_edit_bytes other)
     (omega (arith, a.0.1.few)) (omega (arith, b.0.1.few)) first.1 in
-    (first.0, same_edits one other second.0 a.0.1.each b.0.1.each second.1)
+    let ends = append-nil (all_edit_bytes one) ∙ second.1 ∙ sym (append-nil (all_edit_bytes other)) in
+    (first.0, (same_edits_then one other [] [] second.0 a.0.1.each b.0.1.each ends).0)
+
+-- the same, where the one frame is the front of the other
+pub same_front_message : (frame more : List ℕ) (k known : ℕ) (one other : List (List CellChange)) → Spells frame (Edits k one)
+    → Spells (frame ++ more) (Edits known other) → one ≡ other
+same_front_message frame more k known one other a b =
+    let whole = ap (λ l. l ++ more) (sym a.1) ∙ b.1 in
+    let first = same_number k known ((big_bytes 4 (length one) ++ all_edit_bytes one) ++ more) (big_bytes 4 (length other) ++ all_edit_bytes other)
+    a.0.0 b.0.0 (ap (drop 1) whole) in
+    let second = same_number (length one) (length other) (all_edit_bytes one ++ more) (all_edit_bytes other)
+    (omega (arith, a.0.1.few)) (omega (arith, b.0.1.few)) first.1 in
+    (same_edits_then one other more [] second.0 a.0.1.each b.0.1.each (second.1 ∙ sym (append-nil (all_edit_bytes other)))).0
 
 -- ---- any message
 

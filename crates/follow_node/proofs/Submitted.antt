@@ -1,5 +1,5 @@
 -- Edits that are accepted one after the other.
-use Rattle.std.proofs.Common.{◌≡◌, ◌==◌, ℕ, suc, ◌+◌, ◌<◌, ◌≤◌, Bool, false, cond, inl, inr, List, [], ◌∷◌, ◌++◌, length, map, take, drop, get_or, refl, sym, subst, ap, ◌∙◌, arith}
+use Rattle.std.proofs.Common.{◌≡◌, ◌==◌, ℕ, suc, ◌+◌, ◌<◌, ◌≤◌, Bool, false, cond, List, [], ◌∷◌, ◌++◌, length, take, drop, get_or, refl, sym, subst, ap, ◌∙◌, arith}
 use Rattle.std.specs.List.{fold}
 use Rattle.std.proofs.lemmas.Bool.Decides.{nat_tests}
 use Rattle.std.proofs.lemmas.List.{append-nil, append_assoc, map-append, take-append-drop, take_all, take_more}
@@ -7,15 +7,14 @@ use Rattle.std.proofs.lemmas.List.Sums.{fold-append}
 use Rattle.edit_log.specs.declared.edit.Edit.{Edit}
 use Rattle.edit_log.specs.Verdicts.{MayBeAccepted}
 use Rattle.path_core.specs.declared.entry.Entry.{Entry}
-use Rattle.path_core.specs.declared.entry.Entry.TheVariants.{Accept, Publish}
+use Rattle.path_core.specs.declared.entry.Entry.TheVariants.{Accept}
 use Rattle.path_core.specs.Histories.{accepted_count, edits_of, map_now, prefix_after, published_prefix, IsLegal}
 use Rattle.path_core.proofs.Bounds.{legal_histories_are_bounded}
 use Rattle.path_core.proofs.Growing.{count_goes_on}
 use Rattle.path_core.proofs.LegalHistories.{beginnings_are_legal, one_more_is_legal}
 use Rattle.follow_node.specs.declared.faults.FollowFault.{FollowFault}
-use Rattle.follow_node.specs.declared.faults.FollowFault.TheVariants as fault
-use Rattle.follow_node.specs.Following.{Followed, accepts, after_edits, with_edits, with_published}
-use Rattle.follow_node.specs.Hearing.{AcceptsAll, AcceptsFront, IsSubmitFault, RunsOutBehind, SubmitsAll, SubmitsFront}
+use Rattle.follow_node.specs.Following.{Followed, accepts, with_edits, with_published}
+use Rattle.follow_node.specs.Hearing.{AcceptsAll, IsSubmitFault, SubmitsAll, SubmitsFront}
 use Rattle.follow_node.proofs.EditBytes.{next_of}
 
 -- ---- boards with edits

@@ -2,7 +2,7 @@
 --
 -- A feed begins with the map before any edit, and goes on with edits that were accepted on it. The follower accepts them
 -- on a board of its own, and publishes a version behind each message that has any.
-use Rattle.std.specs.Prelude.{◌≡◌, ◌⊎◌, ℕ, ◌<◌, ◌≤◌, ⊤, Option, Some, None, List, [], ◌∷◌, ◌++◌, length, map, option_map}
+use Rattle.std.specs.Prelude.{◌≡◌, ◌⊎◌, ℕ, ⊤, Option, Some, None, List, [], ◌∷◌, ◌++◌, map, option_map}
 use Rattle.moves.specs.Maps.{Map}
 use Rattle.cell_order.specs.declared.OrderKind.{OrderKind}
 use Rattle.edit_log.specs.declared.edit.Edit.{Edit}
@@ -11,7 +11,7 @@ use Rattle.path_core.specs.declared.entry.Entry.{Entry}
 use Rattle.path_core.specs.declared.entry.Entry.TheVariants.{Accept, Publish}
 use Rattle.path_core.specs.Boards.{Boarded}
 use Rattle.path_core.specs.Histories.{accepted_count, map_now, IsLegal}
-use Rattle.follow_proto.specs.Feeds.{Message, IsMessage, frame_bytes}
+use Rattle.follow_proto.specs.Feeds.{Message}
 use Rattle.follow_proto.specs.Feeds.Message.{Start, Edits, Ahead, NoMemory}
 use Rattle.follow_node.specs.declared.faults.FollowFault.{FollowFault}
 use Rattle.follow_node.specs.declared.faults.FollowFault.TheVariants as fault

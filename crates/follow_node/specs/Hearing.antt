@@ -1,5 +1,5 @@
 -- What the steps by which a frame is heard do.
-use Rattle.std.specs.Prelude.{◌≡◌, ◌⊎◌, ℕ, ◌<◌, List, [], ◌∷◌, ◌++◌, Option, None, Some}
+use Rattle.std.specs.Prelude.{◌≡◌, ◌⊎◌, ℕ, List, ◌∷◌, ◌++◌, Option, Some}
 use Rattle.cell_order.specs.declared.OrderKind.{OrderKind}
 use Rattle.moves.specs.Maps.{Map}
 use Rattle.versions.specs.Databases.{Versioned, IsVersion}
@@ -9,7 +9,7 @@ use Rattle.path_core.specs.Histories.{accepted_count}
 use Rattle.follow_proto.specs.Feeds.Message.{Start, Ahead, NoMemory}
 use Rattle.follow_node.specs.declared.faults.FollowFault.{FollowFault}
 use Rattle.follow_node.specs.declared.faults.FollowFault.TheVariants as fault
-use Rattle.follow_node.specs.Following.{Followed, after_edits, followed_of, new_followed, with_edits, CanAllBeAccepted, CannotBeAccepted, Judges, JudgesOrHalts}
+use Rattle.follow_node.specs.Following.{Followed, after_edits, new_followed, with_edits, CanAllBeAccepted, CannotBeAccepted, Judges, JudgesOrHalts}
 use Rattle.follow_node.specs.Reading.{Spells, SpellsNoStart}
 
 -- the version of that map and prefix, in that order

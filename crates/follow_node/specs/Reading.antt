@@ -1,5 +1,5 @@
 -- What is read of the bytes of a message.
-use Rattle.std.specs.Prelude.{◌≡◌, ℕ, ◌<◌, ◌≤◌, Option, MatchOption, List, ◌∷◌, ◌++◌, All, length, map}
+use Rattle.std.specs.Prelude.{◌≡◌, ℕ, List, ◌∷◌, ◌++◌, All, length, map}
 use Rattle.moves.specs.declared.Terrain.{Terrain}
 use Rattle.moves.specs.Maps.{Map}
 use Rattle.edit_log.specs.declared.edit.CellChange.{CellChange}

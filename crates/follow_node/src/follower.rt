@@ -4,8 +4,9 @@ ghost use Rattle.std.specs.Prelude.{◌≡◌, ◌⊎◌, ◌↔◌, ℕ, ◌<�
 ghost use Rattle.follow_proto.specs.Feeds.{ask_bytes};
 ghost use Rattle.follow_node.specs.declared.faults.FollowFault.TheVariants.{NoMemory};
 ghost use Rattle.follow_node.specs.Following.{followed_of, Judges, JudgesOrHalts};
+ghost use Rattle.follow_node.specs.Links.{IsAwaited};
 ghost use Rattle.follow_node.specs.Stages.{IsStage};
-ghost use Rattle.follow_node.specs.Streams.{accepted_of, new_following, place_behind, RunsShort, StopsShort, Takes, Took};
+ghost use Rattle.follow_node.specs.Streams.{accepted_of, new_following, place_behind, IsBegun, RunsShort, StopsShort, Takes, Took};
 
 use crate::faults::FollowFault;
 use crate::hearing::hear;
@@ -175,6 +176,29 @@ impl Follower {
         ensures { IsTrue result ↔ 0 < length self.now.held }
     {
         !self.held.is_empty()
+    }
+
+    /// How many bytes are to come of the message that was begun, or of its length while that is not known; 0 where none
+    /// was begun.
+    pub(crate) fn wanted(&self) -> usize
+        requires { IsBegun self.now.held }
+        ensures { IsAwaited self.now.held result }
+    {
+        let have = self.held.len();
+        if have == 0 {
+            return 0;
+        }
+        if have < 4 {
+            return 4 - have;
+        }
+        4 + BigEndian::read_u32(&self.held) as usize - have
+    }
+
+    /// How many bytes have come of the message that was begun.
+    pub(crate) fn held_count(&self) -> u64
+        ensures { result ≡ length self.now.held }
+    {
+        self.held.len() as u64
     }
 
     /// The bytes of the ask for the edits past those that were accepted.

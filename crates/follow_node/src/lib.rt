@@ -7,8 +7,10 @@ pub mod faults;
 pub mod follower;
 mod hearing;
 pub mod laws;
+pub mod links;
 mod reading;
 mod starts;
 
 pub use faults::FollowFault;
 pub use follower::Follower;
+pub use links::{LinkFault, follow_link};

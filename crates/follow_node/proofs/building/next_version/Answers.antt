@@ -1,7 +1,7 @@
 use Rattle.std.proofs.Common.{◌∙◌, sym, subst}
 use Rattle.std.specs.Arc.{arc_value}
 use Rattle.std.proofs.lemmas.Result.{IfOk-weaker}
-use Rattle.moves.specs.Maps.{Map, IsSearchable}
+use Rattle.moves.specs.Maps.{IsSearchable}
 use Rattle.follow_node.specs.Hearing.{IsNextVersion, IsVersionOf}
 use Rattle.follow_node.proofs.NextVersions.{inside, next_made, searchable, within}
 use Rattle.follow_node.proofs.building.next_version.Goals as goal

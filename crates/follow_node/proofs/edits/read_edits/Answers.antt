@@ -1,4 +1,4 @@
-use Rattle.std.proofs.Common.{◌+◌, ◌*◌, ◌∙◌, ap, subst, length, arith}
+use Rattle.std.proofs.Common.{◌+◌, ◌*◌, ap, subst, length, arith}
 use Rattle.follow_node.specs.Reading.{BeginsWithNoEdit}
 use Rattle.follow_node.proofs.EditBytes.{all_from, edits_stuck, one_edit_more}
 use Rattle.follow_node.proofs.edits.read_edits.Goals as goal

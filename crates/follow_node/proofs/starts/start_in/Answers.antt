@@ -1,6 +1,6 @@
-use Rattle.std.proofs.Common.{◌≡◌, ◌∙◌, sym, ap, subst, arith}
+use Rattle.std.proofs.Common.{◌≡◌, ◌∙◌, sym, ap, arith}
 use Rattle.std.proofs.lemmas.Option.{MatchOption-at_some}
-use Rattle.moves.specs.Maps.{IsSearchable, passable_count}
+use Rattle.moves.specs.Maps.{passable_count}
 use Rattle.follow_node.proofs.EditBytes.{all_from}
 use Rattle.follow_node.proofs.Frames.{HasTwo, same_map}
 use Rattle.follow_node.proofs.starts.start_in.Goals as goal

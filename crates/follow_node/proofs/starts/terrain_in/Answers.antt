@@ -1,4 +1,3 @@
-use Rattle.std.proofs.Common.{arith}
 use Rattle.follow_node.proofs.TerrainBytes.{no_terrain}
 use Rattle.follow_node.proofs.starts.terrain_in.Goals as goal
 
