@@ -14,7 +14,7 @@ use Rattle.feed_node.specs.declared.feeding.FeedEnded.TheVariants.{Quiet, Spent}
 use Rattle.feed_node.specs.declared.feeding.FeedEnded.{FeedEnded}
 use Rattle.feed_node.specs.declared.feeding.FeedFault.{FeedFault}
 use Rattle.feed_node.specs.declared.feeding.FeedFault.TheVariants as fault
-use Rattle.feed_node.specs.Feeds.{Told, Answers, AnswersAll, asked_bytes, told_bytes}
+use Rattle.feed_node.specs.Feeds.{FeedsBeginAnywhere, Told, Answers, AnswersAll, asked_bytes, told_bytes}
 use Rattle.feed_node.specs.Feeding.{EndsSo, FeedsBehind, Sight}
 use Rattle.feed_node.specs.Asking.{EndsBetween, LacksAsk}
 use Rattle.feed_node.specs.Turns.{StepsOn, Steps}
@@ -26,6 +26,11 @@ answers_more : (before mid after : List Entry) (tolds : List Told) (told : Told)
 answers_more before mid after [] told p q =
     (after, record { point = q.point; goes = begins_then before mid q.point p q.goes; on = q.on; says = q.says }, begins_itself after)
 answers_more before mid after (first ∷ tolds) told (next, a, rest) q = (next, a, answers_more next mid after tolds told rest q)
+
+pub feeds_begin_anywhere : FeedsBeginAnywhere
+feeds_begin_anywhere point history [] p = record { rest = history; is = refl }
+feeds_begin_anywhere point history (told ∷ tolds) (after, a, rest) =
+    (after, record { point = a.point; goes = record { rest = a.point; is = refl }; on = a.on; says = a.says }, rest)
 
 asked_more : (tolds : List Told) (told : Told) → asked_bytes (tolds ++ told ∷ []) ≡ asked_bytes tolds ++ ask_bytes told.known
 asked_more tolds told =

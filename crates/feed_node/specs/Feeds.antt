@@ -39,6 +39,10 @@ abbrev pub AnswersAll : List Entry → List Told → List Entry → Type 0
 AnswersAll before [] now = BeginsWith now before
 AnswersAll before (told ∷ rest) now = (after : List Entry) × Answers before told after × AnswersAll after rest now
 
+-- a feed that goes on from some point is one from the beginning on
+abbrev pub FeedsBeginAnywhere : Type 0
+FeedsBeginAnywhere = (point history : List Entry) (tolds : List Told) → AnswersAll point tolds history → AnswersAll [] tolds history
+
 -- the bytes of the asks
 abbrev pub asked_bytes : List Told → List ℕ
 asked_bytes tolds = flat_map (λ told. ask_bytes told.known) tolds

@@ -53,9 +53,9 @@ pub enum FeedFault {
 /// Sends the map before any edit over a link, and then answers the asks that come in, one after the other, by what the
 /// pass sees of the board. Others may edit and publish meanwhile; the pass enters nothing.
 ///
-/// A message leaves in pieces of 16,384 bytes, and its edits go from the list that the board gives to the piece. The list
-/// is asked for when it has fewer edits left than a message may have: so a follower that is far behind costs the board
-/// one list. Memory is taken for that list alone.
+/// A message leaves in pieces of 16,384 bytes, and its edits go from the list that the board gives to the piece. The
+/// list is asked for when it has fewer edits left than a message may have: so a follower that is far behind costs the
+/// board one list. Memory is taken for that list alone.
 ///
 /// # Errors
 ///
