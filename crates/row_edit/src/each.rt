@@ -18,6 +18,7 @@ pub enum RowEdit {
 }
 
 /// Room for the rows between edits, and for what is known of their lists. It is taken once and used for many rows.
+#[derive(Drop)]
 pub struct EditRoom {
     words: Vec<u32>,
     next_words: Vec<u32>,

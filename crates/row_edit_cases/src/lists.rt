@@ -61,7 +61,7 @@ impl Random {
     }
 
     /// A set, in seven of eight cases with that move.
-    fn set_with(&mut self, shared: u32) -> u8 {
+    pub fn set_with(&mut self, shared: u32) -> u8 {
         let others = self.below(256) as u8 & self.below(256) as u8;
         let own = if self.below(8) == 0 {
             self.below(8)

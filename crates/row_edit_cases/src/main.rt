@@ -7,8 +7,8 @@ mod lists;
 mod trying;
 
 use crate::lists::{Random, SETS, short_list};
-use crate::trying::{Seen, Tally, count, taken, try_out, try_put};
-use row_edit::PlaceSet;
+use crate::trying::{Seen, Tally, added, count, taken, try_each, try_out, try_put};
+use row_edit::{PlaceSet, RowEdit};
 use std::alloc::{AllocError, Global};
 use std::io;
 
@@ -29,10 +29,15 @@ fn main(rt: HostRuntime) -> io::Result<()> {
     ] {
         let (out, put) = short_lists(alloc, seen)?;
         let (made_out, made_put) = made_lists(alloc, seen)?;
+        let each = edited_lists(alloc, seen)?;
         println!(rt; "short lists, {name} known, out: {}", told(alloc, out)?)?;
         println!(rt; "short lists, {name} known, in: {}", told(alloc, put)?)?;
         println!(rt; "made lists, {name} known, out: {}", told(alloc, made_out)?)?;
         println!(rt; "made lists, {name} known, in: {}", told(alloc, made_put)?)?;
+        println!(rt;
+            "made lists, {name} known, up to four edits: {}",
+            told(alloc, each)?
+        )?;
     }
     Ok(())
 }
@@ -78,4 +83,51 @@ fn made_lists(alloc: Global, seen: Seen) -> Result<(Tally, Tally), AllocError> {
         try_put(alloc, &rest, own, seen, &mut put)?;
     }
     Ok((out, put))
+}
+
+/// Up to four edits, one after the other, of each made list.
+fn edited_lists(alloc: Global, seen: Seen) -> Result<Tally, AllocError> {
+    let mut each = Tally::default();
+    let mut random = Random::of(2);
+    for _ in 0..MADE {
+        let sets = random.list(alloc, LONG)?;
+        let (edits, changed) = some_edits(alloc, &mut random, &sets)?;
+        try_each(alloc, &sets, &edits, &changed, seen, &mut each)?;
+    }
+    Ok(each)
+}
+
+/// One to four edits of a list, and the list after them.
+fn some_edits(
+    alloc: Global,
+    random: &mut Random,
+    sets: &[u8],
+) -> Result<(Vec<RowEdit>, Vec<u8>), AllocError> {
+    let mut edits = Vec::new(alloc);
+    let mut changed = Vec::new(alloc);
+    changed.extend_from_slice(sets)?;
+    for _ in 0..=random.below(4) {
+        let (edit, next) = some_edit(alloc, random, &changed)?;
+        edits.push(edit)?;
+        changed = next;
+    }
+    Ok((edits, changed))
+}
+
+/// An edit of a list, and the list after it: a place is taken out, but not the last one that is left, or put in.
+fn some_edit(
+    alloc: Global,
+    random: &mut Random,
+    sets: &[u8],
+) -> Result<(RowEdit, Vec<u8>), AllocError> {
+    let places = count(sets);
+    let place = random.below(places.max(1));
+    if places > 1 && random.below(2) == 0 {
+        let (rest, own) = taken(alloc, sets, place)?;
+        return Ok((RowEdit::Out(own), rest));
+    }
+    let shared = random.below(8);
+    let set = random.set_with(shared);
+    let put = PlaceSet { place, set };
+    Ok((RowEdit::In(put), added(alloc, sets, put)?))
 }

@@ -3,7 +3,7 @@
 ghost use Rattle.std.specs.Prelude.{IsTrue};
 ghost use Rattle.run_pack.specs.Runs.{ArePackable};
 
-use row_edit::{PlaceSet, put_in, take_out};
+use row_edit::{EditRoom, PlaceSet, RowEdit, edit_each, put_in, take_out};
 use run_pack::{MAX_PLACES, append_words};
 use std::alloc::{AllocError, Global};
 
@@ -60,15 +60,7 @@ pub fn try_out(
     tally: &mut Tally,
 ) -> Result<(), AllocError> {
     let (changed, own) = taken(alloc, sets, place)?;
-    let mut known = Vec::new(alloc);
-    for (at, set) in (0u32..).zip(sets.iter()) {
-        if at != place && seen.sees(at, place) {
-            known.push(PlaceSet {
-                place: at,
-                set: *set,
-            })?;
-        }
-    }
+    let known = known_sets(alloc, sets, place, seen)?;
     let words = words_of(alloc, &[], sets)?;
     let wanted = words_of(alloc, &[BEFORE], &changed)?;
     let mut row = words_of(alloc, &[BEFORE], &[])?;
@@ -91,6 +83,21 @@ pub fn taken(alloc: Global, sets: &[u8], place: u32) -> Result<(Vec<u8>, PlaceSe
     Ok((rest, own))
 }
 
+/// A list with one place more.
+pub fn added(alloc: Global, sets: &[u8], put: PlaceSet) -> Result<Vec<u8>, AllocError> {
+    let mut more = Vec::new(alloc);
+    for (at, set) in (0u32..).zip(sets.iter()) {
+        if at == put.place {
+            more.push(put.set)?;
+        }
+        more.push(*set)?;
+    }
+    if put.place == count(sets) {
+        more.push(put.set)?;
+    }
+    Ok(more)
+}
+
 /// Puts a set into a list before a place.
 pub fn try_put(
     alloc: Global,
@@ -99,29 +106,69 @@ pub fn try_put(
     seen: Seen,
     tally: &mut Tally,
 ) -> Result<(), AllocError> {
-    let mut changed = Vec::new(alloc);
-    let mut known = Vec::new(alloc);
-    for (at, set) in (0u32..).zip(sets.iter()) {
-        if at == put.place {
-            changed.push(put.set)?;
-        }
-        changed.push(*set)?;
-        if seen.sees(at, put.place) {
-            known.push(PlaceSet {
-                place: at,
-                set: *set,
-            })?;
-        }
-    }
-    if put.place == count(sets) {
-        changed.push(put.set)?;
-    }
+    let changed = added(alloc, sets, put)?;
+    let known = known_sets(alloc, sets, put.place, seen)?;
     let words = words_of(alloc, &[], sets)?;
     let wanted = words_of(alloc, &[BEFORE], &changed)?;
     let mut row = words_of(alloc, &[BEFORE], &[])?;
     let decided = put_in(&words, count(sets), put, &known, &mut row)?;
     tally.add(decided, &row, &wanted);
     Ok(())
+}
+
+/// Makes some edits of a list, one after the other, where what is known is told of the first list and the place of the
+/// first edit. `changed` is the list after them.
+pub fn try_each(
+    alloc: Global,
+    sets: &[u8],
+    edits: &[RowEdit],
+    changed: &[u8],
+    seen: Seen,
+    tally: &mut Tally,
+) -> Result<(), AllocError> {
+    let known = known_sets(alloc, sets, first_place(edits), seen)?;
+    let words = words_of(alloc, &[], sets)?;
+    let wanted = words_of(alloc, &[BEFORE], changed)?;
+    let mut row = words_of(alloc, &[BEFORE], &[])?;
+    let mut room = EditRoom::new(alloc);
+    let decided = edit_each(&words, count(sets), edits, &known, &mut room, &mut row)?;
+    tally.add(decided, &row, &wanted);
+    Ok(())
+}
+
+/// The place of the first edit.
+fn first_place(edits: &[RowEdit]) -> u32 {
+    match edits.first() {
+        Some(edit) => place_of(*edit),
+        None => 0,
+    }
+}
+
+/// The place of an edit.
+fn place_of(edit: RowEdit) -> u32 {
+    match edit {
+        RowEdit::Out(one) => one.place,
+        RowEdit::In(one) => one.place,
+    }
+}
+
+/// The sets of a list that are known where a place is changed.
+fn known_sets(
+    alloc: Global,
+    sets: &[u8],
+    place: u32,
+    seen: Seen,
+) -> Result<Vec<PlaceSet>, AllocError> {
+    let mut known = Vec::new(alloc);
+    for (at, set) in (0u32..).zip(sets.iter()) {
+        if seen.sees(at, place) {
+            known.push(PlaceSet {
+                place: at,
+                set: *set,
+            })?;
+        }
+    }
+    Ok(known)
 }
 
 /// How many sets there are.
