@@ -7,7 +7,7 @@ bake.sh runs it.
 """
 import glob, os, random, re, resource, signal, struct, subprocess, sys, tempfile
 
-from db_model import Map, made_map, rows_of, text_of
+from map_model import Map, made_map, rows_of, text_of
 from images import Image, words_of
 from judging import TOP, Judge
 from terminal import CLEARED, Terminal

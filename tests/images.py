@@ -3,7 +3,7 @@
 import math
 import struct
 
-from db_model import STEPS
+from map_model import STEPS
 
 BLOCKED = 0xFFFFFFFF
 NAMES = ["N", "NE", "E", "SE", "S", "SW", "W", "NW"]
