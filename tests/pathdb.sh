@@ -1,9 +1,9 @@
 #!/usr/bin/env bash
 # The library for C: its samples are built and run, each has to print the path of README.md; under valgrind and the
-# sanitizers of gcc too; the library beside the program on random maps; images with flipped bits and cut ends. The
-# library is that in the folder PATHDB_LIB, or else in out/lib, or in release/pathdb; where there is none,
-# `release/lib` makes it of what `rt lib` has built here. Prints only where something is not as it should be, and what
-# is skipped for want of a tool.
+# sanitizers of gcc too; the library beside the program on random maps; want of memory; spoilt images. The library is
+# that in the folder PATHDB_LIB, or else in out/lib, or in release/pathdb; where there is none, `release/lib` makes it
+# of what `rt lib` has built here. Prints only where something is not as it should be, and what is skipped for want of a
+# tool.
 set -u
 # shellcheck source=tests/built.bash
 . "$(dirname "$(readlink -f "${BASH_SOURCE[0]}")")/built.bash" || exit 1
@@ -51,8 +51,6 @@ watched=(valgrind -q --error-exitcode=9 --leak-check=full)
 c=(gcc -std=c99 -pedantic examples/path.c "$lib/libpathdb.a")
 compile c "${c[@]}" -O2 && run "the sample in C" "$folder/c" "${query[@]}"
 compile c_checked "${c[@]}" "${checked[@]}" && run "the sample in C, with sanitizers" "$folder/c_checked" "${query[@]}"
-compile c_heap gcc -O2 examples/path.c tests/pathdb_heap.c "$lib/libpathdb.a" &&
-  run "the sample in C with memory of its own" "$folder/c_heap" "${query[@]}"
 compile c_shared gcc -O2 examples/path.c -L"$lib" -lpathdb -Wl,-rpath,"$(readlink -f "$lib")" &&
   run "the sample in C over libpathdb.so" "$folder/c_shared" "${query[@]}"
 if command -v valgrind >/dev/null; then
@@ -89,6 +87,9 @@ if command -v rustc >/dev/null; then
 else
   skip "there is no rustc"
 fi
+compile memory gcc -std=c11 -O2 tests/pathdb_memory.c "$lib/libpathdb.a" "${checked[@]}" &&
+  { "$folder/memory" maps/tutorial.map >"$folder/found" 2>"$folder/said" ||
+    { fail "want of memory:"; head -n 40 "$folder/said" "$folder/found" >&2; }; }
 
 python3 tests/pathdb.py "$lib/libpathdb.so" "$program" || status=1
 
