@@ -1,0 +1,11 @@
+pub mod Rows
+pub mod Fronts
+pub mod Ordering
+pub mod Existing
+pub mod Parting
+pub mod Spots
+pub mod Reading
+pub mod Joining
+pub mod Tables
+pub mod Placing
+pub mod Heading

@@ -1,0 +1,9 @@
+pub mod Parts
+pub mod Plans
+pub mod Rooms
+pub mod Faults
+pub mod Examples
+pub mod Laws
+pub mod Joins
+pub mod Homes
+pub mod Heads
