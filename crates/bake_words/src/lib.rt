@@ -1,6 +1,6 @@
 //! Images that are baked into words of the caller's, by the calling thread alone.
 //!
-//! The map is a grid, which [`map_read::read_map`] reads from a text and [`grid_of_cells`] makes of bytes. [`bake`]
+//! The map is a grid, which `read_map` of map_read reads from a text and [`grid_of_cells`] makes of bytes. [`bake`]
 //! builds its first version, row by row of sixteen near sources at a time, and writes the image of that into a room.
 //! (Botea 2011; Strasser, Harabor and Botea 2014)
 #![tactic(auto)]
