@@ -114,7 +114,9 @@ module _ (map : Map) (cell : Cell) (ball : Cell → Bool) (inside : IsInside map
             (let less = cheaper others path in at_most_trans _ _ _ (best.least less.0 less.1) less.2);
       }
 
-      best_without : (moves : List Move) → IsBest map source moves to → (others : List Move) → Leads (without map cell) source others to → IsAtMost (cost_of others) (cost_of moves) → IsBest (without map cell) source others to
+      best_without : (moves : List Move) → IsBest map source moves to
+          → (others : List Move) → Leads (without map cell) source others to → IsAtMost (cost_of others) (cost_of moves)
+          → IsBest (without map cell) source others to
       best_without moves best others path cheap = record {
         leads = path;
         least = λ more way. at_most_trans _ _ _ cheap (best.least more (leads_with source more to way));

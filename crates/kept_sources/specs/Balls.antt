@@ -52,4 +52,5 @@ pub record KeepsAll (map : Map) (cell : Cell) (ball : Cell → Bool) (source : C
 -- The law of the ball.
 abbrev pub BallsKeepSources : Type 0
 BallsKeepSources =
-    (map : Map) (cell source : Cell) (ball : Cell → Bool) → IsInside map cell → IsBall ball cell → KeepsBall map cell ball source → KeepsAll map cell ball source
+    (map : Map) (cell source : Cell) (ball : Cell → Bool)
+    → IsInside map cell → IsBall ball cell → KeepsBall map cell ball source → KeepsAll map cell ball source

@@ -10,7 +10,8 @@ use Rattle.row_edit.specs.declared.each.RowEdit.TheVariants.{Out}
 use Rattle.row_edit.specs.Edits.{IsSetOf, IsKnownRow, TakesOut, edited, edited_by, Suits, SuitEach, TakesEdits}
 use Rattle.row_edit.specs.Rooms.{EditsRow, MovesKnown, KeepsKnown, IsBetween}
 
-pub edits_out : (words : List ℕ) (places : ℕ) (out : PlaceSet) (known : List PlaceSet) (old new : List ℕ) → TakesOut words places out known old new → EditsRow words places (Out out) known old new (places - 1)
+pub edits_out : (words : List ℕ) (places : ℕ) (out : PlaceSet) (known : List PlaceSet) (old new : List ℕ)
+    → TakesOut words places out known old new → EditsRow words places (Out out) known old new (places - 1)
 edits_out words places out known old new takes sets row its = record {
   appends = takes sets (record { packed = row.packed; count = row.count; agree = All-cons (λ one. IsSetOf sets one) out known its row.agree });
   count = omega (arith, length-remove sets out.place its.inside, row.count);
@@ -19,14 +20,16 @@ edits_out words places out known old new takes sets row its = record {
 -- ---- what is known
 
 -- what is known so far, with one of the former sets more
-pub knows_more : (edit : RowEdit) (known next : List PlaceSet) (new d : PlaceSet) (i : ℕ) → KeepsKnown edit known next → i < length known → MovesKnown edit (get_or known i d) new → KeepsKnown edit known (next ++ new ∷ [])
+pub knows_more : (edit : RowEdit) (known next : List PlaceSet) (new d : PlaceSet) (i : ℕ)
+    → KeepsKnown edit known next → i < length known → MovesKnown edit (get_or known i d) new → KeepsKnown edit known (next ++ new ∷ [])
 knows_more edit known next new d i before inside moves sets its all =
     All-push (λ one. IsSetOf (edited sets edit) one) next new (before sets its all)
     (moves sets its (All-get_or (λ one. IsSetOf sets one) known i d inside all))
 
 -- ---- the row
 
-pub goes_on : (words : List ℕ) (places : ℕ) (edit : RowEdit) (known : List PlaceSet) (new : List ℕ) (after : ℕ) (next : List PlaceSet) → EditsRow words places edit known [] new after → KeepsKnown edit known next
+pub goes_on : (words : List ℕ) (places : ℕ) (edit : RowEdit) (known : List PlaceSet) (new : List ℕ) (after : ℕ) (next : List PlaceSet)
+    → EditsRow words places edit known [] new after → KeepsKnown edit known next
     → (sets : List ℕ) → IsKnownRow words places known sets → Suits sets edit → IsKnownRow new after next (edited sets edit)
 goes_on words places edit known new after next edits keeps sets row its =
     let made = edits sets row its in
@@ -48,7 +51,8 @@ between_first words places known edits sets row suit = record {
   same = refl;
 }
 
-pub between_more : (words : List ℕ) (places : ℕ) (known : List PlaceSet) (edits : List RowEdit) (i : ℕ) (d : RowEdit) (now : List ℕ) (left : ℕ) (next : List PlaceSet) (now' : List ℕ) (left' : ℕ) (next' : List PlaceSet)
+pub between_more : (words : List ℕ) (places : ℕ) (known : List PlaceSet) (edits : List RowEdit) (i : ℕ) (d : RowEdit) (now : List ℕ) (left : ℕ)
+    (next : List PlaceSet) (now' : List ℕ) (left' : ℕ) (next' : List PlaceSet)
     → AreBetween words places known edits i now left next → i < length edits
     → ((sets : List ℕ) → IsKnownRow now left next sets → Suits sets (get_or edits i d) → IsKnownRow now' left' next' (edited sets (get_or edits i d)))
     → AreBetween words places known edits (i + 1) now' left' next'

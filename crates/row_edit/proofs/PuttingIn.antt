@@ -80,7 +80,8 @@ module _ (words : List ℕ) (places : ℕ) (put : PlaceSet) (known : List PlaceS
         rw (runs-joined words (word ∷ []) (raised 8 (drop number words)) number number later (behind-later number))
         (IsPacked-from_tight _ _ (rw run at new))
 
-  pub with_kept : (number : ℕ) → number < length words → border_of words places number ≤ put.place → put.place ≤ border_of words places (number + 1) → Has put.set (move_at (map run_of_word words) number)
+  pub with_kept : (number : ℕ) → number < length words → border_of words places number ≤ put.place → put.place ≤ border_of words places (number + 1)
+      → Has put.set (move_at (map run_of_word words) number)
       → (border_of words places number ≡ put.place → CutsBefore words places number put known)
       → AreWith words places put known (record { front = number + 1; own = None; back = number + 1 })
   with_kept number there from upto has cut = record {

@@ -50,7 +50,8 @@ All-behind P words back each =
     All-from_get_or P (drop back words) 0 (λ k within. subst P (sym (get_or-drop back words k 0)) (each (back + k) (omega arith) (omega arith)))
 
 -- behind a run that starts after the first place, all words can sink
-pub sinking : (words : List ℕ) (back : ℕ) → Rises (map run_of_word words) → ((k : ℕ) → get_or words k 0 < 2 ^ 32) → (back < length words → 0 < start_at (map run_of_word words) back) → All CanSink (drop back words)
+pub sinking : (words : List ℕ) (back : ℕ) → Rises (map run_of_word words) → ((k : ℕ) → get_or words k 0 < 2 ^ 32)
+    → (back < length words → 0 < start_at (map run_of_word words) back) → All CanSink (drop back words)
 sinking words back rises fits late =
     let size = length-map words run_of_word in
     All-behind CanSink words back (λ k behind inside.

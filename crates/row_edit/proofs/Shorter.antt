@@ -28,7 +28,9 @@ shorter-insert sets place set inside = record {
 }
 
 -- what is common to some sets is common to others, each of which is one of them
-common_along : (xs ys : List ℕ) (from upto from' upto' move : ℕ) → ((k : ℕ) → from' ≤ k → k < upto' → (j : ℕ) × (from ≤ j) × (j < upto) × (slice_index xs j ≡ slice_index ys k)) → IsCommon xs from upto move → IsCommon ys from' upto' move
+common_along : (xs ys : List ℕ) (from upto from' upto' move : ℕ)
+    → ((k : ℕ) → from' ≤ k → k < upto' → (j : ℕ) × (from ≤ j) × (j < upto) × (slice_index xs j ≡ slice_index ys k))
+    → IsCommon xs from upto move → IsCommon ys from' upto' move
 common_along xs ys from upto from' upto' move same common = record {
   number = common.number;
   everywhere = λ k a b.

@@ -1,5 +1,5 @@
 -- The parts of the row without a place.
-use Rattle.std.proofs.Common.{◌≡◌, ℕ, ◌+◌, ◌-◌, ◌^◌, ◌<◌, List, [], ◌∷◌, length, map, drop, get_or, slice_index, remove, None, arith, inl, inr, subst, sym, ◌∙◌}
+use Rattle.std.proofs.Common.{◌≡◌, ℕ, ◌+◌, ◌-◌, ◌^◌, ◌<◌, ◌≤◌, List, [], ◌∷◌, length, map, drop, get_or, slice_index, remove, None, arith, inl, inr, subst, sym, ◌∙◌}
 use Rattle.std.proofs.lemmas.List.{length-map}
 use Rattle.std.proofs.lemmas.List.Elements.{All-head, All-tail}
 use Rattle.run_pack.specs.declared.Run.{Run}
@@ -19,7 +19,8 @@ use Rattle.row_edit.proofs.RaisedWords.{runs-earlier, runs-joined, sinking}
 
 -- ---- a row, and a run of it
 
-module _ (words : List ℕ) (places : ℕ) (out : PlaceSet) (known : List PlaceSet) (span : Span) (spans : Spans words places out.place span) (sets : List ℕ) (row : IsKnownRow words places (out ∷ known) sets) where
+module _ (words : List ℕ) (places : ℕ) (out : PlaceSet) (known : List PlaceSet) (span : Span) (spans : Spans words places out.place span)
+    (sets : List ℕ) (row : IsKnownRow words places (out ∷ known) sets) where
   abbrev runs : List Run
   runs = map run_of_word words
 
@@ -93,20 +94,28 @@ module _ (words : List ℕ) (places : ℕ) (out : PlaceSet) (known : List PlaceS
   packed_kept : StaysCut span places out known → StaysWhole span places out known → span.start + 1 < span.end → ((k : ℕ) → get_or words k 0 < 2 ^ 32)
       → IsPacked (map run_of_word (joined words (record { front = span.number + 1; own = None; back = span.number + 1 }) one_less)) shorter
   packed_kept cut whole more fits =
-      let new = runs_stay_without runs sets shorter out.place short tight span.number inside (omega (arith, start_is, spans.from)) (omega (arith, end_is, spans.upto)) (omega (arith, short.size, spans.from, row.count, border-le runs places (rw (← row.count) tight.row) (span.number + 1), spans.is.end)) (still_cut cut) (still_whole whole more) in
+      let from : start_at runs span.number ≤ out.place = omega (arith, start_is, spans.from) in
+      let upto : out.place < end_at runs (length sets) span.number = omega (arith, end_is, spans.upto) in
+      let last = border-le runs places (rw (← row.count) tight.row) (span.number + 1) in
+      let some : 0 < length shorter = omega (arith, short.size, spans.from, row.count, last, spans.is.end) in
+      let new = runs_stay_without runs sets shorter out.place short tight span.number inside from upto some (still_cut cut) (still_whole whole more) in
       rw (runs-joined words [] (raised one_less (drop (span.number + 1) words)) (span.number + 1) (span.number + 1) earlier (behind-earlier fits))
       (IsPacked-from_tight _ _ new)
 
   packed_gone : StaysCut span places out known → span.end ≡ span.start + 1 → 1 < places → ((k : ℕ) → get_or words k 0 < 2 ^ 32)
       → IsPacked (map run_of_word (joined words (record { front = span.number; own = None; back = span.number + 1 }) one_less)) shorter
   packed_gone cut alone two fits =
-      let from = spans.from in
-      let upto = spans.upto in
-      let new = run_goes runs sets shorter out.place short tight span.number inside (omega (arith, start_is, spans.from)) (omega (arith, end_is, spans.upto)) (omega (arith, short.size, row.count)) (still_cut cut) (omega (arith, start_is)) (omega (arith, end_is)) in
+      let from : start_at runs span.number ≤ out.place = omega (arith, start_is, spans.from) in
+      let upto : out.place < end_at runs (length sets) span.number = omega (arith, end_is, spans.upto) in
+      let some : 0 < length shorter = omega (arith, short.size, row.count) in
+      let begin : start_at runs span.number ≡ out.place = omega (arith, start_is, spans.from, spans.upto) in
+      let end : end_at runs (length sets) span.number ≡ out.place + 1 = omega (arith, end_is, spans.from, spans.upto) in
+      let new = run_goes runs sets shorter out.place short tight span.number inside from upto some (still_cut cut) begin end in
       rw (runs-joined words [] (raised one_less (drop (span.number + 1) words)) span.number (span.number + 1) earlier (behind-earlier fits))
       (IsPacked-from_tight _ _ new)
 
-module _ (words : List ℕ) (places : ℕ) (out : PlaceSet) (known : List PlaceSet) (span : Span) (spans : Spans words places out.place span) (cut : StaysCut span places out known) (fits : (k : ℕ) → get_or words k 0 < 2 ^ 32) where
+module _ (words : List ℕ) (places : ℕ) (out : PlaceSet) (known : List PlaceSet) (span : Span) (spans : Spans words places out.place span)
+    (cut : StaysCut span places out known) (fits : (k : ℕ) → get_or words k 0 < 2 ^ 32) where
   pub without_kept : StaysWhole span places out known → span.start + 1 < span.end → AreWithout words places out known (record { front = span.number + 1; own = None; back = span.number + 1 })
   without_kept whole more = record {
     front = omega (arith, spans.is.within);

@@ -23,11 +23,13 @@ pub record IsKnownRow (words : List ℕ) (places : ℕ) (known : List PlaceSet) 
 -- behind the words that were there stand those of the packed row of the sets without this place, whichever sets have
 -- these words for their row, this set there, and the sets that are known
 abbrev pub TakesOut : List ℕ → ℕ → PlaceSet → List PlaceSet → List ℕ → List ℕ → Type 0
-TakesOut words places out known old new = (sets : List ℕ) → IsKnownRow words places (out ∷ known) sets → AppendsRow old new (remove sets out.place)
+TakesOut words places out known old new =
+    (sets : List ℕ) → IsKnownRow words places (out ∷ known) sets → AppendsRow old new (remove sets out.place)
 
 -- the same of the sets with one more, which stands at that place before those that were there and behind it
 abbrev pub PutsIn : List ℕ → ℕ → PlaceSet → List PlaceSet → List ℕ → List ℕ → Type 0
-PutsIn words places put known old new = (sets : List ℕ) → IsKnownRow words places known sets → AppendsRow old new (insert sets put.place put.set)
+PutsIn words places put known old new =
+    (sets : List ℕ) → IsKnownRow words places known sets → AppendsRow old new (insert sets put.place put.set)
 
 -- the list after an edit: without that place, or with that set before that place
 abbrev pub edited : List ℕ → RowEdit → List ℕ
@@ -52,4 +54,5 @@ SuitEach sets (edit ∷ edits) = Suits sets edit × SuitEach (edited sets edit) 
 -- behind the words that were there stand those of the packed row of the sets after these edits, whichever sets have
 -- these words for their row, the sets that are known, and those that the edits say
 abbrev pub TakesEdits : List ℕ → ℕ → List RowEdit → List PlaceSet → List ℕ → List ℕ → Type 0
-TakesEdits words places edits known old new = (sets : List ℕ) → IsKnownRow words places known sets → SuitEach sets edits → AppendsRow old new (edited_by sets edits)
+TakesEdits words places edits known old new =
+    (sets : List ℕ) → IsKnownRow words places known sets → SuitEach sets edits → AppendsRow old new (edited_by sets edits)

@@ -1,5 +1,6 @@
 -- What is read of known sets and of a row, and how the words of a new row are made of the former. Inside the crate.
-use Rattle.std.specs.Prelude.{◌≡◌, ℕ, ◌+◌, ◌-◌, ◌^◌, ◌%◌, ◌<◌, ◌≤◌, ◌⊎◌, List, [], ◌∷◌, ◌++◌, Option, Some, None, length, map, take, drop, slice_index, slice_index_or, insert, remove}
+use Rattle.std.specs.Prelude.{◌≡◌, ℕ, ◌+◌, ◌-◌, ◌^◌, ◌%◌, ◌<◌, ◌≤◌, ◌⊎◌, List, [], ◌∷◌, ◌++◌, length, map, take, drop, insert, remove}
+use Rattle.std.specs.Prelude.{Option, Some, None, slice_index, slice_index_or}
 use Rattle.run_pack.specs.Sets.{Has, IsCommon}
 use Rattle.run_pack.specs.Runs.{IsPacked, starts_of, move_at, run_of_word}
 use Rattle.row_edit.specs.declared.PlaceSet.{PlaceSet}
@@ -17,11 +18,14 @@ IsKnownAt known place set = (sets : List ℕ) → AreKnown known sets → IsSetO
 
 -- each move of the place's set is in this set
 abbrev pub HoldsAllAt : List PlaceSet → ℕ → ℕ → Type 0
-HoldsAllAt known place set = (sets : List ℕ) → AreKnown known sets → (move : ℕ) → move < 8 → Has (slice_index sets place) move → Has set move
+HoldsAllAt known place set =
+    (sets : List ℕ) → AreKnown known sets → (move : ℕ) → move < 8 → Has (slice_index sets place) move → Has set move
 
 -- each move of this set is in the place's set, and the place is one of the list
 abbrev pub HoldsOnlyOf : List PlaceSet → ℕ → ℕ → Type 0
-HoldsOnlyOf known place set = (sets : List ℕ) → AreKnown known sets → (move : ℕ) → Has set move → (place < length sets) × Has (slice_index sets place) move
+HoldsOnlyOf known place set =
+    (sets : List ℕ) → AreKnown known sets → (move : ℕ) → Has set move
+    → (place < length sets) × Has (slice_index sets place) move
 
 -- one set has no move that another has not
 abbrev pub IsWithin : ℕ → ℕ → Type 0
@@ -62,16 +66,22 @@ StaysCut span places out known = span.start ≡ out.place → 0 < span.number �
 -- each move that the run's other sets have is in the place's set, or else it is not below the run's own and not in the
 -- set behind the run
 abbrev pub StaysWhole : Span → ℕ → PlaceSet → List PlaceSet → Type 0
-StaysWhole span places out known = (sets : List ℕ) → AreKnown known sets → (move : ℕ) → IsCommon sets span.start out.place move → IsCommon sets (out.place + 1) span.end move
+StaysWhole span places out known =
+    (sets : List ℕ) → AreKnown known sets → (move : ℕ)
+    → IsCommon sets span.start out.place move → IsCommon sets (out.place + 1) span.end move
     → (Has out.set move) ⊎ ((span.mv ≤ move) × (span.end < places → Has (slice_index sets span.end) move → ⊥))
 
 -- each move of the run that is in the new set is in the set behind the run
 abbrev pub EndsAt : Span → PlaceSet → List PlaceSet → Type 0
-EndsAt span put known = (sets : List ℕ) → AreKnown known sets → (move : ℕ) → IsCommon sets span.start put.place move → Has put.set move → (put.place < length sets) × Has (slice_index sets put.place) move
+EndsAt span put known =
+    (sets : List ℕ) → AreKnown known sets → (move : ℕ) → IsCommon sets span.start put.place move → Has put.set move
+    → (put.place < length sets) × Has (slice_index sets put.place) move
 
 -- no move of the run before this one is in the new set
 abbrev pub CutsBefore : List ℕ → ℕ → ℕ → PlaceSet → List PlaceSet → Type 0
-CutsBefore words places number put known = 0 < number → (sets : List ℕ) → IsKnownRow words places known sets → (move : ℕ) → IsCommon sets (border_of words places (number - 1)) put.place move → Has put.set move → ⊥
+CutsBefore words places number put known =
+    0 < number → (sets : List ℕ) → IsKnownRow words places known sets → (move : ℕ)
+    → IsCommon sets (border_of words places (number - 1)) put.place move → Has put.set move → ⊥
 
 -- a word as a list, where there is one
 abbrev pub own_words : Option ℕ → List ℕ
@@ -94,10 +104,12 @@ one_less = 2 ^ 32 - 8
 pub record AreWithout (words : List ℕ) (places : ℕ) (out : PlaceSet) (known : List PlaceSet) (parts : Parts) : Type 0 where
   pub front : parts.front ≤ length words
   pub back : parts.back ≤ length words
-  pub packed : (sets : List ℕ) → IsKnownRow words places (out ∷ known) sets → IsPacked (map run_of_word (joined words parts one_less)) (remove sets out.place)
+  pub packed : (sets : List ℕ) → IsKnownRow words places (out ∷ known) sets
+      → IsPacked (map run_of_word (joined words parts one_less)) (remove sets out.place)
 
 -- the parts of the row with one place more
 pub record AreWith (words : List ℕ) (places : ℕ) (put : PlaceSet) (known : List PlaceSet) (parts : Parts) : Type 0 where
   pub front : parts.front ≤ length words
   pub back : parts.back ≤ length words
-  pub packed : (sets : List ℕ) → IsKnownRow words places known sets → IsPacked (map run_of_word (joined words parts 8)) (insert sets put.place put.set)
+  pub packed : (sets : List ℕ) → IsKnownRow words places known sets
+      → IsPacked (map run_of_word (joined words parts 8)) (insert sets put.place put.set)

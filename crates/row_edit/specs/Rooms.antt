@@ -13,7 +13,8 @@ pub record HasEdited (old new sets : List ℕ) (places : ℕ) : Type 0 where
 
 -- so it is whichever list has the row, the known sets and the set that the edit says
 abbrev pub EditsRow : List ℕ → ℕ → RowEdit → List PlaceSet → List ℕ → List ℕ → ℕ → Type 0
-EditsRow words places edit known old new after = (sets : List ℕ) → IsKnownRow words places known sets → Suits sets edit → HasEdited old new (edited sets edit) after
+EditsRow words places edit known old new after =
+    (sets : List ℕ) → IsKnownRow words places known sets → Suits sets edit → HasEdited old new (edited sets edit) after
 
 -- a known set after an edit
 abbrev pub MovesKnown : RowEdit → PlaceSet → PlaceSet → Type 0
@@ -25,7 +26,9 @@ KeepsKnown edit old new = (sets : List ℕ) → Suits sets edit → AreKnown old
 
 -- the row before an edit and after it, over so many places
 abbrev pub GoesOn : EditRoom → EditRoom → ℕ → ℕ → RowEdit → Type 0
-GoesOn old new places after edit = (sets : List ℕ) → IsKnownRow old.words.items places old.known.items sets → Suits sets edit → IsKnownRow new.words.items after new.known.items (edited sets edit)
+GoesOn old new places after edit =
+    (sets : List ℕ) → IsKnownRow old.words.items places old.known.items sets → Suits sets edit
+    → IsKnownRow new.words.items after new.known.items (edited sets edit)
 
 -- some list has this row, these edits are left of it, and they lead where all edits of the first list do
 pub record IsBetween (sets : List ℕ) (all rest : List RowEdit) (words : List ℕ) (places : ℕ) (known : List PlaceSet) : Type 0 where

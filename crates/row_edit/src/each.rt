@@ -62,8 +62,8 @@ impl EditRoom {
     }
 }
 
-/// Appends the words of the row of a list after several edits, one after the other, and says that it did; or leaves all as
-/// it is, where what is known does not decide one of them.
+/// Appends the words of the row of a list after several edits, one after the other, and says that it did; or leaves
+/// all as it is, where what is known does not decide one of them.
 ///
 /// It is as `take_out` and `put_in`. Each edit is told in the places of the list that is there by then, and `known` in
 /// those of the first list; what is known of the others follows.

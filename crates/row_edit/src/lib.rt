@@ -1,10 +1,10 @@
 //! One place more or less in a tight row of runs: the words of the new row from those of the former, where a few known
 //! sets decide it.
 //!
-//! A row is kept by `run_pack`: it holds one move for each run of neighbouring places whose sets share that move. Where
-//! a place is taken out of the list, or put in, most rows stay as they are, but for the places behind it, which are one
-//! earlier or later. Whether a row does is a matter of few sets, those at the place and beside it mostly; no other set is
-//! looked at.
+//! A row is kept by `run_pack`: it holds one move for each run of neighbouring places whose sets share that move.
+//! Where a place is taken out of the list, or put in, most rows stay as they are, but for the places behind it, which
+//! are one earlier or later. Whether a row does is a matter of few sets, those at the place and beside it mostly; no
+//! other set is looked at.
 #![tactic(auto)]
 
 ghost use Rattle.std.specs.Prelude.{◌≡◌, IfOk, OnErr, MatchBool};
@@ -37,13 +37,13 @@ pub struct PlaceSet {
     pub set: u8,
 }
 
-/// Appends the words of the row of a list of sets without one place, and says that it did; or leaves all as it is, where
-/// what is known does not decide that row.
+/// Appends the words of the row of a list of sets without one place, and says that it did; or leaves all as it is,
+/// where what is known does not decide that row.
 ///
 /// `words` are the words of the packed row of a list of so many places, `out` is the place with its set in that list,
-/// and `known` are some of the other sets, in any order: those at the next places on both sides tell most, then those of
-/// the same run, of the run before, and at the next run's first place. The answer is right for each list that has this row
-/// and these sets.
+/// and `known` are some of the other sets, in any order: those at the next places on both sides tell most, then those
+/// of the same run, of the run before, and at the next run's first place. The answer is right for each list that has
+/// this row and these sets.
 ///
 /// The only error is want of memory. The row is then as before.
 pub fn take_out(
@@ -68,10 +68,10 @@ pub fn take_out(
 /// Appends the words of the row of a list of sets with one place more, and says that it did; or leaves all as it is,
 /// where what is known does not decide that row.
 ///
-/// `words` are the words of the packed row of a list of so many places, `put` is the new place with its set, which stands
-/// before the set that was there, or behind the last one; and `known` are some of the former sets, in any order, as for
-/// `take_out`. A place behind the end of the list, a set without a move, or a list that a word cannot count with one more
-/// place, is never decided.
+/// `words` are the words of the packed row of a list of so many places, `put` is the new place with its set, which
+/// stands before the set that was there, or behind the last one; and `known` are some of the former sets, in any
+/// order, as for `take_out`. A place behind the end of the list, a set without a move, or a list that a word cannot
+/// count with one more place, is never decided.
 ///
 /// The only error is want of memory. The row is then as before.
 pub fn put_in(

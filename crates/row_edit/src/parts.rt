@@ -2,8 +2,8 @@
 
 ghost use Rattle.std.specs.Prelude.{◌≡◌};
 
-/// The words before run `front`, then a word of its own where there is one, then the words from run `back` on, whose runs
-/// start one place earlier or later.
+/// The words before run `front`, then a word of its own where there is one, then the words from run `back` on, whose
+/// runs start one place earlier or later.
 #[derive(Clone, Copy)]
 pub(crate) struct Parts {
     pub(crate) front: usize,

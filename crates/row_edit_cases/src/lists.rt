@@ -44,8 +44,8 @@ impl Random {
         (self.state >> 33) as u32 % bound
     }
 
-    /// Up to so many sets, of which neighbours often share a move: a move that stays for some places is in each, and some
-    /// others beside it.
+    /// Up to so many sets, of which neighbours often share a move: a move that stays for some places is in each, and
+    /// some others beside it.
     pub fn list(&mut self, alloc: Global, most: u32) -> Result<Vec<u8>, AllocError>
         requires { 0 < most }
     {

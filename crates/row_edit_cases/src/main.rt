@@ -1,6 +1,6 @@
-//! Rows of lists with one place less or more, made of the former rows and beside them packed anew: for all short lists of
-//! a few sets, and for made lists. It says how many edits were tried, how many of them few known sets decide, and how many
-//! rows are others than they should be.
+//! Rows of lists with one place less or more, made of the former rows and beside them packed anew: for all short
+//! lists of a few sets, and for made lists. It says how many edits were tried, how many of them few known sets
+//! decide, and how many rows are others than they should be.
 #![tactic(auto)]
 
 mod lists;

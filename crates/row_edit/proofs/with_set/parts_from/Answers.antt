@@ -8,7 +8,8 @@ use Rattle.row_edit.proofs.with_set.parts_from.Goals as goal
 pub returns-in_default : goal.returns-in_default
 returns-in_default c =
     let past = border_behind c.args.words.now c.args.places c.args.number c.in_default.ensures.lookup.3 in
-    with_own _ _ _ _ c.requires.few c.requires.place _ _ c.requires.number c.requires.here c.least_word.ensures.start c.least_word.ensures.least (λ inner. absurd (omega (arith, past, c.requires.here))) c.requires.cut
+    let word = c.least_word.ensures in
+    with_own _ _ _ _ c.requires.few c.requires.place _ _ c.requires.number c.requires.here word.start word.least (λ inner. absurd (omega (arith, past, c.requires.here))) c.requires.cut
 
 pub returns-then-has : goal.returns-then-has
 returns-then-has c =

@@ -4,9 +4,12 @@ use Rattle.row_edit.proofs.without.parts_without.Goals as goal
 
 pub returns-then-stays_whole : goal.returns-then-stays_whole
 returns-then-stays_whole c =
-    rw c.staying.ensures (without_kept _ _ _ _ _ c.in_ok-span.ensures (c.stays_cut.ensures c.if-not-stays_cut.false) (λ k. (c.type_inv.words k).fits) (c.stays_whole.ensures c.if-stays_whole.true) (omega (arith, c.if-span-gt1.true)))
+    let cut = c.stays_cut.ensures c.if-not-stays_cut.false in
+    let whole = c.stays_whole.ensures c.if-stays_whole.true in
+    rw c.staying.ensures (without_kept _ _ _ _ _ c.in_ok-span.ensures cut (λ k. (c.type_inv.words k).fits) whole (omega (arith, c.if-span-gt1.true)))
 
 pub returns : goal.returns
 returns c =
     let spans = c.in_ok-span.ensures in
-    without_gone _ _ _ _ _ spans (c.stays_cut.ensures c.if-not-stays_cut.false) (λ k. (c.type_inv.words k).fits) (omega (arith, c.if-span-gt1.false, spans.from, spans.upto)) (omega (arith, c.if-places-lt2.false))
+    let cut = c.stays_cut.ensures c.if-not-stays_cut.false in
+    without_gone _ _ _ _ _ spans cut (λ k. (c.type_inv.words k).fits) (omega (arith, c.if-span-gt1.false, spans.from, spans.upto)) (omega (arith, c.if-places-lt2.false))
