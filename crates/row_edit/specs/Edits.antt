@@ -26,7 +26,7 @@ abbrev pub TakesOut : List ℕ → ℕ → PlaceSet → List PlaceSet → List �
 TakesOut words places out known old new =
     (sets : List ℕ) → IsKnownRow words places (out ∷ known) sets → AppendsRow old new (remove sets out.place)
 
--- the same of the sets with one more, which stands at that place before those that were there and behind it
+-- the same of the sets with one more, at that place and before the set that was there, or behind the last
 abbrev pub PutsIn : List ℕ → ℕ → PlaceSet → List PlaceSet → List ℕ → List ℕ → Type 0
 PutsIn words places put known old new =
     (sets : List ℕ) → IsKnownRow words places known sets → AppendsRow old new (insert sets put.place put.set)
