@@ -82,7 +82,8 @@ module _ (plan : Planned) (sources : Sources) (cells : List Cell) (is : IsCompon
       let short : All (λ row. length row ≤ length cells) rows =
       All-from_get_or (λ row. length row ≤ length cells) rows []
       (λ place within. (let row = all.each place (omega arith) in let sets = row.first.whole in let few = length-row _ _ row.tight.row in omega arith)) in
-      let few = counted_short (length cells) (take sources.count (drop sources.first rows)) (All-take (λ row. length row ≤ length cells) sources.count (drop sources.first rows) (All-drop (λ row. length row ≤ length cells) sources.first rows short)) in
+      let few = counted_short (length cells) (take sources.count (drop sources.first rows))
+      (All-take (λ row. length row ≤ length cells) sources.count (drop sources.first rows) (All-drop (λ row. length row ≤ length cells) sources.first rows short)) in
       let many = rw taken at few in
       let is_long = ap length (part_is version sources) in
       omega arith

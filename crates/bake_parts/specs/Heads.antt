@@ -13,7 +13,8 @@ BreaksParts plan parts = (version : Versioned) → IsFirstVersion plan.on plan.o
 
 -- so many words the version's image has
 abbrev pub SizesImage : Planned → List ℕ → ℕ → Type 0
-SizesImage plan parts size = (version : Versioned) → IsFirstVersion plan.on plan.order version → AreParts version parts → size ≡ image_size version
+SizesImage plan parts size =
+    (version : Versioned) → IsFirstVersion plan.on plan.order version → AreParts version parts → size ≡ image_size version
 
 -- and so many before the tables
 abbrev pub CountsBefore : Planned → ℕ → Type 0
@@ -21,7 +22,8 @@ CountsBefore plan count = (version : Versioned) → IsFirstVersion plan.on plan.
 
 -- the first words are these, if the image has so many
 abbrev pub BeginsImage : Planned → ℕ → List ℕ → Type 0
-BeginsImage plan size words = (version : Versioned) → IsFirstVersion plan.on plan.order version → size ≡ image_size version → words ≡ head_of version
+BeginsImage plan size words =
+    (version : Versioned) → IsFirstVersion plan.on plan.order version → size ≡ image_size version → words ≡ head_of version
 
 -- the whole image stands at the front of the room, if it has so many
 abbrev pub PutsImage : Planned → List ℕ → ℕ → List ℕ → List ℕ → Type 0

@@ -24,8 +24,8 @@ use path_image::{FORM, HEAD, MAGIC_IMAGE, MAGIC_PATH};
 use std::alloc::{AllocError, Global};
 use std::marker::Model;
 
-/// A map and an order, of whose version before all edits parts are written: for each component its cells in the order, and the
-/// neighbours of each. It is only read, so any number of threads may share it.
+/// A map and an order, of whose version before all edits parts are written: for each component its cells in the
+/// order, and the neighbours of each. It is only read, so any number of threads may share it.
 #[derive(Drop)]
 pub struct Bake {
     grid: Grid,
@@ -48,7 +48,8 @@ impl Model for Bake {
 }
 
 impl Bake {
-    /// The components of the map, each with its cells in the order. It takes 20 bytes a passable cell, and 4 for each cell of the map.
+    /// The components of the map, each with its cells in the order. It takes 20 bytes a passable cell, and 4 for each
+    /// cell of the map.
     ///
     /// # Errors
     ///
@@ -119,13 +120,13 @@ impl Bake {
         Some(3 + u64::from(sources.count) * (1 + size))
     }
 
-    /// Writes the part of the sources at the front of a room, and says how many words it has; those behind it stay as they
-    /// were. It takes 92 bytes for each cell of the component, once, and gives them back.
+    /// Writes the part of the sources at the front of a room, and says how many words it has; those behind it stay as
+    /// they were. It takes 92 bytes for each cell of the component, once, and gives them back.
     ///
     /// # Errors
     ///
-    /// That the map has no such sources; that the room has too few words, and how many are needed; or that memory runs out.
-    /// What the room has then is of no use.
+    /// That the map has no such sources; that the room has too few words, and how many are needed; or that memory
+    /// runs out. What the room has then is of no use.
     pub fn write_part(
         &self,
         alloc: Global,
@@ -146,16 +147,18 @@ impl Bake {
         Ok(needed)
     }
 
-    /// Puts the image together at the front of a room, from its parts, which lie one behind the other in the order of the
-    /// components and of their cells; says how many words it has. The words behind it stay as they were. It takes no memory.
+    /// Puts the image together at the front of a room, from its parts, which lie one behind the other in the order of
+    /// the components and of their cells; says how many words it has. The words behind it stay as they were. It takes
+    /// no memory.
     ///
-    /// The heads of the parts and the numbers of their runs are judged, and that nothing is missing, comes twice or is left. The
-    /// runs are not: parts that were written for another map or another order, or were changed since, may pass.
+    /// The heads of the parts and the numbers of their runs are judged, and that nothing is missing, comes twice or
+    /// is left. The runs are not: parts that were written for another map or another order, or were changed since,
+    /// may pass.
     ///
     /// # Errors
     ///
-    /// The first part that isn't the one that is next, or ends too early; or that the room has too few words, and how many are
-    /// needed. In the second case the room stays as it was; in the first what it has is of no use.
+    /// The first part that isn't the one that is next, or ends too early; or that the room has too few words, and how
+    /// many are needed. In the second case the room stays as it was; in the first what it has is of no use.
     pub fn join(&self, parts: &[u32], room: &mut [u32]) -> Result<usize, JoinFault>
         ensures image { IfOk result (JoinsParts self.now parts.now room.old room.new) }
         ensures fits { IfOk result (λ count. count ≤ length room.old) }
@@ -184,6 +187,7 @@ impl Bake {
         let components = self.components.as_slice();
         let tables = tables_size(components, parts)?;
         let size = u64::from(self.tables_at()) + tables;
+        // (The image of a version has fewer words than a word can count.)
         if size > u64::from(u32::MAX) {
             return Err(BrokenPart { part: 0 });
         }

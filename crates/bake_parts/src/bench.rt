@@ -1,7 +1,8 @@
 //! The rows of the sources of a part, one behind the other.
 //!
-//! Sixteen sources at a time are solved in the lanes of a vector: the one whose row is next, and those of the next ones that are
-//! near it. Where a tile isn't solved the row is found by a plain search. It is the same row: rows depend on the cells alone.
+//! Sixteen sources at a time are solved in the lanes of a vector: the one whose row is next, and those of the next
+//! ones that are near it. Where a tile isn't solved the row is found by a plain search. It is the same row: rows
+//! depend on the cells alone.
 
 ghost use Rattle.std.specs.Prelude.{◌≡◌, ◌+◌, ◌<◌, ◌≤◌, ◌^◌, None, IfOk, IfSome, OnOk, false, length, slice_index_or, true};
 ghost use Rattle.moves.specs.Maps.{IsSearchable};
@@ -21,7 +22,8 @@ use std::alloc::{AllocError, Global};
 /// How often at most the places of a tile are gone over back and forth, before its rows are given up.
 const SWEEPS: u32 = 64;
 
-/// The memory for the rows of a component, taken once: that of one tile, and that of a plain search as soon as one is needed.
+/// The memory for the rows of a component, taken once: that of one tile, and that of a plain search as soon as one is
+/// needed.
 #[derive(Drop)]
 pub(crate) struct Bench {
     alloc: Global,

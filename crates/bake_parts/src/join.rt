@@ -1,7 +1,7 @@
 //! The image of a map, put together from its parts.
 //!
-//! The words of the image are put one behind the other. Where the rows of a component begin stands before their runs, so the rows are
-//! gone over several times.
+//! The words of the image are put one behind the other. Where the rows of a component begin stands before their runs,
+//! so the rows are gone over several times.
 
 ghost use Rattle.std.specs.Prelude.{◌≡◌, ◌+◌, ◌*◌, ◌<◌, ◌≤◌, ◌^◌, ◌∷◌, [], IfOk, OnErr, OnOk, length, map};
 ghost use Rattle.path_image.specs.Images.{cell_word};

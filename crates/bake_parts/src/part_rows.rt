@@ -105,8 +105,8 @@ impl<'a> PartRows<'a> {
     }
 }
 
-/// How many rows a part has whose first source is that place of the component; `None` where the words don't begin with its head,
-/// or the component has too few cells behind the place.
+/// How many rows a part has whose first source is that place of the component; `None` where the words don't begin
+/// with its head, or the component has too few cells behind the place.
 fn head_of(words: &[u32], component: u32, place: u32, size: u32) -> Option<u32>
     requires { place < size }
     ensures some { IfSome result (λ count. (rest : List ℕ) × (words.now ≡ component ∷ place ∷ count ∷ rest)) }

@@ -7,7 +7,8 @@ use Rattle.bake_parts.proofs.bench.put_rows.Goals as goal
 pub loop-index-init : goal.loop-index-init
 loop-index-init c =
     record {
-      rows = rows_none c.args.component.now c.args.sources c.args.room.now c.put-at.new.room c.put-at.result c.put-at.ensures.end (c.put-at.ensures.front c.args.room.now [] refl (front_none c.args.room.now));
+      rows = rows_none c.args.component.now c.args.sources c.args.room.now c.put-at.new.room c.put-at.result c.put-at.ensures.end
+          (c.put-at.ensures.front c.args.room.now [] refl (front_none c.args.room.now));
       ready = c.in_ok-bench.ensures.ready;
       plain = subst (λ p. MayHaveRoom c.args.grid.now c.args.component.now p) (sym c.in_ok-bench.ensures.none) tt;
     }

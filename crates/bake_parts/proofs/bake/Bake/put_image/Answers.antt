@@ -32,6 +32,7 @@ returns-clause-image c =
     let all = has_all _ _ _ inv version first in
     image_put version c.put-homes.result c.put-starts.result c.in_ok-tables.tables _ c.args.room.now c.put-homes.new.room c.put-starts.new.room c.put_starts.new.room c.put_tables.new.room
     (subst (PutsWords 0 c.put-homes.result c.args.room.now c.put-homes.new.room) (c.head-head.ensures version first long) (record { end = c.put-homes.ensures.end; grows = c.put-homes.ensures.front }))
-    (subst (PutsWords c.put-homes.result c.put-starts.result c.put-homes.new.room c.put-starts.new.room) (c.as_slice-words.ensures.value ∙ homes.are version first) (record { end = c.put-starts.ensures.end; grows = c.put-starts.ensures.front }))
+    (subst (PutsWords c.put-homes.result c.put-starts.result c.put-homes.new.room c.put-starts.new.room) (c.as_slice-words.ensures.value ∙ homes.are version first)
+    (record { end = c.put-starts.ensures.end; grows = c.put-starts.ensures.front }))
     (starts version all are (record { first = c.tables_at-start.ensures.size version first; small = small_first _ _ _ inv version first }))
     (tables version all are)
