@@ -3,7 +3,7 @@
 //! The words of the image are put one behind the other. Where the rows of a component begin stands before their runs,
 //! so the rows are gone over several times.
 
-ghost use Rattle.std.specs.Prelude.{◌≡◌, ◌+◌, ◌*◌, ◌<◌, ◌≤◌, ◌^◌, ◌∷◌, [], IfOk, OnErr, OnOk, length, map};
+ghost use Rattle.std.specs.Prelude.{◌≡◌, ◌+◌, ◌*◌, ◌<◌, ◌≤◌, ◌^◌, IfOk, OnErr, OnOk, length, map};
 ghost use Rattle.path_image.specs.Images.{cell_word};
 ghost use Rattle.bake_parts.specs.Joins.{AreNoParts, AreNoRows, CountsRuns, HasTable, IsNoTable, PassesRows, PassesTable, PutsBorders, PutsRuns, PutsStarts, PutsTable, PutsTables, PutsWords, SizesTables};
 
