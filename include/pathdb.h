@@ -24,7 +24,9 @@
  *
  * Threads. Any number of threads may read one image at once: reading writes nothing but what is handed in for the
  * answer. Baking writes the room that it is given, and so nobody may read that until it is done; to change a map
- * under way, bake the new one into other memory and swap the pointer. The library starts no thread and takes no lock.
+ * under way, bake the new one into other memory and swap the pointer. Any number of threads may bake at once, each
+ * into a room of its own: so an image is baked by all of them, each its parts (pathdb_part), and put together by one
+ * (pathdb_join). The library starts no thread and takes no lock.
  * It must not be called from a signal handler, nor in the forked child of a process with threads.
  *
  * Pointers. No pointer is NULL, also where the length beside it is 0. What is handed in to be written overlaps
@@ -83,7 +85,11 @@ typedef enum pathdb_status {
     PATHDB_EXTRA_LINE = 23,    /* line `line`, behind the rows, is not blank */
     PATHDB_TOO_MANY_CELLS = 24, /* more than 32768 passable cells; of a text the first too many is at `x` and `y` */
     PATHDB_WRONG_COUNT = 25,   /* there are not width * height cells */
-    PATHDB_NO_MEMORY = 26      /* memory ran out */
+    PATHDB_NO_MEMORY = 26,     /* memory ran out */
+
+    /* of a bake in parts */
+    PATHDB_NO_SOURCES = 27,    /* the map has no such sources */
+    PATHDB_BROKEN_PART = 28    /* a part is not the next one, or ends too early: `found` parts have begun there */
 } pathdb_status;
 
 /* A cell: its column and its row, from 0. */
@@ -161,7 +167,8 @@ typedef enum pathdb_order {
 
 /* What a bake tells beside its status; a number that the status does not speak of is 0. Lines count from 1. */
 typedef struct pathdb_baked {
-    uint32_t words;    /* how many words the image has: with PATHDB_DONE and PATHDB_TOO_SMALL */
+    uint32_t words;    /* how many words the image or the part has, or how many components there are: with PATHDB_DONE
+                          and PATHDB_TOO_SMALL */
     uint32_t line;
     uint32_t x;
     uint32_t y;
@@ -178,15 +185,77 @@ typedef struct pathdb_baked {
  *   PATHDB_TOO_SMALL: the image has baked->words words, and the room is as it was.
  *   PATHDB_NO_ORDER .. PATHDB_NO_MEMORY: why there is none. The room is as it was.
  * How many words an image has is known only once the rows are built: a bake into too small a room takes the time of
- * the whole. Rooms and corridors have some 30 words a passable cell, open ground with scattered obstacles 150. It
- * takes memory by the three functions below, for the database and for the image once more, gives it all back, and
- * works with the calling thread alone: a second or so for 10000 passable cells, ten for 30000. */
+ * the whole. In the order row by row an open map of n passable cells has about 2.2 * sqrt(n) words a cell, and other
+ * maps mostly have fewer; depth first they have some two thirds of that or less. It takes memory by the three
+ * functions below, for the database and for the image once more, gives it all back, and works with the calling thread
+ * alone: a second or so for 10000 passable cells, ten for 30000. */
 pathdb_status pathdb_bake_text(const uint8_t *text, size_t length, uint32_t order, uint32_t *words, size_t room,
                                pathdb_baked *baked);
 
 /* The same of a map that is given by its sides and a byte a cell, row by row: 0 is blocked, 1 land and 2 water. */
 pathdb_status pathdb_bake_cells(uint32_t width, uint32_t height, const uint8_t *cells, size_t length, uint32_t order,
                                 uint32_t *words, size_t room, pathdb_baked *baked);
+
+/* ---- baking in parts ---- */
+
+/* A map may be baked by several threads of the caller's: each writes the words of some parts into memory of its own,
+ * and one call puts the image together. It is word for word that of pathdb_bake_cells, however it was cut.
+ *
+ *   uint32_t sizes[64];
+ *   pathdb_components(width, height, cells, length, order, sizes, 64, &baked);         baked.words components
+ *   pathdb_sources some = {component, first, how_many};
+ *   pathdb_part(width, height, cells, length, order, some, words, room, &baked);       on each thread
+ *   pathdb_join(width, height, cells, length, order, parts, count, words, room, &baked);
+ *
+ * How to cut. The sources of a component are its cells, numbered from 0 in the order; each has one row in the image.
+ * Cut those of each component into blocks that stand one behind the other: each source has to be in one part, and in
+ * one alone. No call keeps anything for the next: each makes what it has to know of the map anew from all of its
+ * cells. That is cheap beside the rows of many sources, and dear beside those of few: take some hundred at least, or
+ * all of a small component. For pathdb_join lay the words of all parts one behind the other, by component and then by
+ * first source.
+ *
+ * Memory. The three functions below are called by the threads side by side. A part takes 92 bytes for each cell of its
+ * component, and each call some 20 for each passable cell and some 10 for each cell of the map; all is given back. A
+ * part has at most 3 + count * (1 + cells of its component) words, and mostly far fewer.
+ *
+ * The maps, the orders and the refusals are those of pathdb_bake_cells; what is refused of cells and order is told by
+ * the same statuses and numbers. With a status for which nothing else is said, what the room has is of no use. */
+
+/* Sources of one component that stand one behind the other. */
+typedef struct pathdb_sources {
+    uint32_t component; /* its number, from 0 */
+    uint32_t first;     /* the first of its sources, from 0 */
+    uint32_t count;     /* how many, one at least */
+} pathdb_sources;
+
+/* How many passable cells each component of a map has, a word a component.
+ *   PATHDB_DONE: there are baked->words components, and the first words of the room are their sizes; the others are as
+ *     they were. A map without passable cells has none.
+ *   PATHDB_TOO_SMALL: there are baked->words components, and the room is as it was.
+ *   PATHDB_NO_ORDER, PATHDB_BAD_SIZE, PATHDB_BAD_BYTE, PATHDB_TOO_MANY_CELLS .. PATHDB_NO_MEMORY: why not. */
+pathdb_status pathdb_components(uint32_t width, uint32_t height, const uint8_t *cells, size_t length, uint32_t order,
+                                uint32_t *sizes, size_t room, pathdb_baked *baked);
+
+/* The part of some sources: words for pathdb_join alone, which are no image.
+ *   PATHDB_DONE: the first baked->words words of the room are the part; the others are as they were.
+ *   PATHDB_TOO_SMALL: the part has baked->words words. It takes the time of the whole part.
+ *   PATHDB_NO_SOURCES: the component has no such sources, or there is no such component.
+ *   PATHDB_NO_ORDER, PATHDB_BAD_SIZE, PATHDB_BAD_BYTE, PATHDB_TOO_MANY_CELLS .. PATHDB_NO_MEMORY: why not. */
+pathdb_status pathdb_part(uint32_t width, uint32_t height, const uint8_t *cells, size_t length, uint32_t order,
+                          pathdb_sources sources, uint32_t *words, size_t room, pathdb_baked *baked);
+
+/* Puts the image together from its parts, which are `count` words in all. Any words may be handed in as parts: they are
+ * read inside alone.
+ *   PATHDB_DONE: the first baked->words words of the room are the image; the others are as they were. Where the parts
+ *     are those of this map and this order it may be read without a check. The heads of the parts and how many words
+ *     each row has were looked at, and the rows were not: parts of another map or order, or that were changed, may
+ *     pass and make words that only pathdb_check can judge.
+ *   PATHDB_TOO_SMALL: the image has baked->words words, and the room is as it was.
+ *   PATHDB_BROKEN_PART: a part is not the one that is next, or ends too early, or words are left behind the last;
+ *     baked->found parts have begun where that shows.
+ *   PATHDB_NO_ORDER, PATHDB_BAD_SIZE, PATHDB_BAD_BYTE, PATHDB_TOO_MANY_CELLS .. PATHDB_NO_MEMORY: why not. */
+pathdb_status pathdb_join(uint32_t width, uint32_t height, const uint8_t *cells, size_t length, uint32_t order,
+                          const uint32_t *parts, size_t count, uint32_t *words, size_t room, pathdb_baked *baked);
 
 /* ---- the memory that baking takes ---- */
 

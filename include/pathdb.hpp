@@ -6,6 +6,8 @@
 
 #include "pathdb.h"
 
+#include <algorithm>
+#include <cmath>
 #include <cstddef>
 #include <cstdint>
 #include <string>
@@ -18,6 +20,7 @@ using cell = pathdb_cell;
 using cost = pathdb_cost;
 using facts = pathdb_facts;
 using baked = pathdb_baked;
+using sources = pathdb_sources;
 
 enum class order : std::uint32_t { rows = PATHDB_ROWS, dfs = PATHDB_DFS };
 
@@ -48,7 +51,9 @@ enum class status : std::uint32_t {
     extra_line = PATHDB_EXTRA_LINE,
     too_many_cells = PATHDB_TOO_MANY_CELLS,
     wrong_count = PATHDB_WRONG_COUNT,
-    no_memory = PATHDB_NO_MEMORY
+    no_memory = PATHDB_NO_MEMORY,
+    no_sources = PATHDB_NO_SOURCES,
+    broken_part = PATHDB_BROKEN_PART
 };
 
 // what a status means
@@ -146,24 +151,91 @@ public:
         });
     }
 
+    // The same image, baked in parts of `most` sources at most. `run(count, job)` is the caller's way to have jobs
+    // done: it calls job(0) to job(count - 1), from any threads and side by side, and returns once all have ended.
+    template <typename Run>
+    status bake_parts(std::uint32_t width, std::uint32_t height, const std::vector<std::uint8_t> &cells, order by,
+                      baked &told, std::uint32_t most, Run run)
+    {
+        const std::uint8_t none = 0;
+        const std::uint8_t *const at = cells.empty() ? &none : cells.data();
+        const auto number = static_cast<std::uint32_t>(by);
+        std::vector<std::uint32_t> sizes(64);
+        const status counted = fill(sizes, told, [&](std::uint32_t *words, std::size_t count) {
+            return pathdb_components(width, height, at, cells.size(), number, words, count, &told);
+        });
+        if (counted != status::done) return counted;
+        std::vector<part> parts = cut(sizes, std::max<std::uint32_t>(most, 1));
+        run(parts.size(), [&](std::size_t which) {
+            part &some = parts[which];
+            some.words.resize(some.room);
+            some.ended = fill(some.words, some.told, [&](std::uint32_t *words, std::size_t count) {
+                return pathdb_part(width, height, at, cells.size(), number, some.from, words, count, &some.told);
+            });
+        });
+        std::vector<std::uint32_t> all;
+        for (const part &some : parts) {
+            told = some.told;
+            if (some.ended != status::done) return some.ended;
+            all.insert(all.end(), some.words.begin(), some.words.end());
+        }
+        const std::uint32_t nothing = 0;
+        return bake_with(told, 1, [&](std::uint32_t *words, std::size_t count) {
+            return pathdb_join(width, height, at, cells.size(), number, all.empty() ? &nothing : all.data(), all.size(),
+                               words, count, &told);
+        });
+    }
+
     // a view of the words, for as long as the image stands
     pathdb::view view() const noexcept { return pathdb::view(words_.data(), words_.size()); }
 
     const std::vector<std::uint32_t> &words() const noexcept { return words_; }
 
 private:
-    template <typename Bake> status bake_with(baked &told, std::size_t room, Bake bake)
+    // some sources, how many words are tried first, and what came of them
+    struct part {
+        sources from;
+        std::size_t room;
+        std::vector<std::uint32_t> words;
+        baked told;
+        status ended;
+    };
+
+    // the sources of components of these sizes, in blocks of so many at most
+    static std::vector<part> cut(const std::vector<std::uint32_t> &sizes, std::uint32_t most)
     {
-        std::vector<std::uint32_t> words(room > 0 ? room : 1);
+        std::vector<part> parts;
+        for (std::uint32_t component = 0; component < sizes.size(); component++) {
+            const std::uint32_t size = sizes[component];
+            // mostly enough for a row
+            const std::size_t row = 1 + std::min<std::size_t>(size, 64 + 3 * static_cast<std::size_t>(std::sqrt(size)));
+            for (std::uint32_t first = 0; first < size; first += most) {
+                const std::uint32_t count = std::min(most, size - first);
+                parts.push_back({{component, first, count}, 3 + count * row, {}, {}, status::no_memory});
+            }
+        }
+        return parts;
+    }
+
+    // the words that a call writes, with as many as it wants where there are too few
+    template <typename Bake> static status fill(std::vector<std::uint32_t> &words, const baked &told, Bake bake)
+    {
         for (;;) {
             const pathdb_status ended = bake(words.data(), words.size());
             if (ended != PATHDB_DONE && ended != PATHDB_TOO_SMALL) return static_cast<status>(ended);
             words.resize(told.words);
-            if (ended == PATHDB_TOO_SMALL) continue;
-            words.shrink_to_fit();
-            words_ = std::move(words);
-            return status::done;
+            if (ended == PATHDB_DONE) return status::done;
         }
+    }
+
+    template <typename Bake> status bake_with(baked &told, std::size_t room, Bake bake)
+    {
+        std::vector<std::uint32_t> words(room > 0 ? room : 1);
+        const status ended = fill(words, told, bake);
+        if (ended != status::done) return ended;
+        words.shrink_to_fit();
+        words_ = std::move(words);
+        return status::done;
     }
 
     std::vector<std::uint32_t> words_;

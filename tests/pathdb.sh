@@ -68,6 +68,15 @@ if command -v g++ >/dev/null; then
   if command -v valgrind >/dev/null; then
     run "the sample in C++, under valgrind" "${watched[@]}" "$folder/threads" "${query[@]}"
   fi
+  parts=(g++ -std=c++17 -pedantic -pthread examples/parts.cpp "$lib/libpathdb.a")
+  compile parts "${parts[@]}" -O2 && run "the sample of parts" "$folder/parts" "${query[@]}"
+  compile parts_checked "${parts[@]}" "${checked[@]}" &&
+    run "the sample of parts, with sanitizers" "$folder/parts_checked" "${query[@]}"
+  compile parts_raced "${parts[@]}" -O1 -fsanitize=thread &&
+    run "the sample of parts, with the sanitizer of threads" "$folder/parts_raced" "${query[@]}"
+  if command -v valgrind >/dev/null; then
+    run "the sample of parts, under valgrind" "${watched[@]}" "$folder/parts" "${query[@]}"
+  fi
 else
   skip "there is no g++"
 fi

@@ -1,3 +1,4 @@
 pub mod Statuses
 pub mod Calls
 pub mod Bakes
+pub mod Parts

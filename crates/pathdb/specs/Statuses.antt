@@ -10,7 +10,7 @@ use Rattle.pathdb.specs.declared.TheConstants.{LAST_STATUS}
 use Rattle.pathdb.specs.declared.status.Status.{Status}
 use Rattle.pathdb.specs.declared.status.Status.TheVariants.{Done, Arrived, Unreachable, OutsideStart, BlockedStart, OutsideGoal, BlockedGoal, TooSmall, Broken}
 use Rattle.pathdb.specs.declared.status.Status.TheVariants.{NoImage, OtherForm, WrongLength, WrongSides, WrongLists, WrongTable, WrongHome}
-use Rattle.pathdb.specs.declared.status.Status.TheVariants.{NoOrder, TextTooLong, BadHeader, BadSize, BadRow, BadByte, MissingRows, ExtraLine, TooManyCells, WrongCount, NoMemory}
+use Rattle.pathdb.specs.declared.status.Status.TheVariants.{NoOrder, TextTooLong, BadHeader, BadSize, BadRow, BadByte, MissingRows, ExtraLine, TooManyCells, WrongCount, NoMemory, NoSources, BrokenPart}
 
 -- the number of a status
 abbrev pub status_number : Status → ℕ
@@ -41,6 +41,8 @@ status_number ExtraLine = 23
 status_number TooManyCells = 24
 status_number WrongCount = 25
 status_number NoMemory = 26
+status_number NoSources = 27
+status_number BrokenPart = 28
 
 -- no two statuses have one number
 abbrev pub NumbersAreApart : Type 0
@@ -75,6 +77,8 @@ status_text ExtraLine = codes "line behind the rows"
 status_text TooManyCells = codes "too many passable cells"
 status_text WrongCount = codes "more cells or fewer than the sides say"
 status_text NoMemory = codes "out of memory"
+status_text NoSources = codes "no such sources"
+status_text BrokenPart = codes "broken part"
 
 -- the refusal of a query that a status stands for
 abbrev pub refusal_of : Status → Option QueryRefusal

@@ -34,7 +34,7 @@ pub struct PathdbBaked {
 }
 
 /// No number.
-const NOTHING: PathdbBaked = PathdbBaked {
+pub(crate) const NOTHING: PathdbBaked = PathdbBaked {
     words: 0,
     line: 0,
     x: 0,
@@ -128,7 +128,7 @@ fn bake_grid(alloc: Global, grid: Grid, kind: OrderKind, words: &mut [u32]) -> (
 }
 
 /// That an image has so many words.
-fn with_words(words: u32) -> PathdbBaked
+pub(crate) fn with_words(words: u32) -> PathdbBaked
     ensures { result.words ≡ words }
 {
     PathdbBaked { words, ..NOTHING }
@@ -178,7 +178,7 @@ fn with_byte(x: u32, y: u32, byte: u8) -> PathdbBaked
 }
 
 /// What is told of bytes that are no cells of a map with so many columns.
-fn of_cells_fault(fault: CellsFault, width: u32, cells: &[u8]) -> (Status, PathdbBaked)
+pub(crate) fn of_cells_fault(fault: CellsFault, width: u32, cells: &[u8]) -> (Status, PathdbBaked)
     ensures { cells_fault_of width result.0 result.1 ≡ Some fault }
 {
     match fault {
@@ -205,7 +205,7 @@ fn cell_at(place: u32, width: u32) -> (u32, u32)
 }
 
 /// The order with that number.
-fn order_of(number: u32) -> Option<OrderKind>
+pub(crate) fn order_of(number: u32) -> Option<OrderKind>
     ensures order { IfSome result (λ order. kind_of order ≡ number) }
     ensures none { IfNone result (1 < number) }
 {

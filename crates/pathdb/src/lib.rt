@@ -1,4 +1,4 @@
-//! The database of a map for C: an image in the caller's memory is checked, read and baked.
+//! The database of a map for C: an image in the caller's memory is checked, read and baked, in parts too.
 //!
 //! Each export calls a function of the libraries below and says its clauses again. What C sees of it,
 //! `include/pathdb.h` says in the words of C: the numbers of the statuses are those of [`Status::number`], a slice is a
@@ -8,6 +8,7 @@
 
 pub mod baking;
 pub mod checks;
+pub mod parts;
 pub mod queries;
 mod status;
 pub mod texts;
@@ -15,7 +16,7 @@ pub mod texts;
 pub use status::Status;
 
 /// The greatest number of a status.
-pub const LAST_STATUS: u32 = 26;
+pub const LAST_STATUS: u32 = 28;
 
 /// How many bytes each text of a status has place in, with the byte 0 at its end.
 pub const TEXT_ROOM: usize = 64;

@@ -64,6 +64,10 @@ pub enum Status {
     WrongCount,
     /// Memory ran out.
     NoMemory,
+    /// The map has no such sources.
+    NoSources,
+    /// A part is not the one that is next, or ends too early.
+    BrokenPart,
 }
 
 impl Status {
@@ -100,6 +104,8 @@ impl Status {
             Status::TooManyCells => 24,
             Status::WrongCount => 25,
             Status::NoMemory => 26,
+            Status::NoSources => 27,
+            Status::BrokenPart => 28,
         }
     }
 
@@ -135,6 +141,8 @@ impl Status {
             24 => Some(Status::TooManyCells),
             25 => Some(Status::WrongCount),
             26 => Some(Status::NoMemory),
+            27 => Some(Status::NoSources),
+            28 => Some(Status::BrokenPart),
             _ => None,
         }
     }
@@ -172,6 +180,8 @@ impl Status {
             Status::TooManyCells => "too many passable cells",
             Status::WrongCount => "more cells or fewer than the sides say",
             Status::NoMemory => "out of memory",
+            Status::NoSources => "no such sources",
+            Status::BrokenPart => "broken part",
         }
     }
 
