@@ -215,7 +215,7 @@ pathdb_status pathdb_bake_cells(uint32_t width, uint32_t height, const uint8_t *
  * first source.
  *
  * Memory. The three functions below are called by the threads side by side. A part takes 92 bytes for each cell of its
- * component, and each call some 20 for each passable cell and some 10 for each cell of the map; all is given back. A
+ * component, and each call some 20 for each passable cell and 12 for each cell of the map; all is given back. A
  * part has at most 3 + count * (1 + cells of its component) words, and mostly far fewer.
  *
  * The maps, the orders and the refusals are those of pathdb_bake_cells; what is refused of cells and order is told by
