@@ -1,7 +1,7 @@
 // An image that is baked in parts, in C++: by four threads, in one part and in several, beside the image of one call.
 // Prints what `./path_server path MAP SX SY GX GY` prints, from the image of the parts.
 //
-//   c++ -std=c++17 -pthread -Iinclude examples/parts.cpp out/lib/libpathdb.a -o parts
+//   c++ -std=c++17 -pthread -Iinclude examples/parts.cpp release/pathdb/libpathdb.a -o parts
 //   ./parts maps/tutorial.map 2 2 37 17
 #include "pathdb.hpp"
 

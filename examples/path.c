@@ -1,6 +1,6 @@
 /* A path in C: reads a map, bakes its image, and prints what `./path_server path MAP SX SY GX GY` prints.
  *
- *   cc -Iinclude examples/path.c out/lib/libpathdb.a -o path
+ *   cc -Iinclude examples/path.c release/pathdb/libpathdb.a -o path
  *   ./path maps/tutorial.map 2 2 37 17
  *
  * A game would bake once, keep the words in a file, and begin with pathdb_check. */

@@ -2,7 +2,7 @@
 """A path in Python by ctypes: bakes the image of a map and prints what `./path_server path MAP SX SY GX GY` prints.
 
     examples/path.py LIBRARY MAP SX SY GX GY
-    examples/path.py out/lib/libpathdb.so maps/tutorial.map 2 2 37 17
+    examples/path.py release/pathdb/libpathdb.so maps/tutorial.map 2 2 37 17
 """
 import ctypes
 import math

@@ -1,7 +1,7 @@
 //! A path in Rust: a safe wrapper over the C library, and what `./path_server path MAP SX SY GX GY` prints.
 //!
 //! ```text
-//! rustc -O -L out/lib examples/path.rs -o path
+//! rustc -O -L release/pathdb examples/path.rs -o path
 //! ./path maps/tutorial.map 2 2 37 17
 //! ```
 use std::process::ExitCode;

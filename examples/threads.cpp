@@ -1,7 +1,7 @@
 // Paths in C++ with threads: eight threads ask one image for paths while a ninth bakes another and swaps it in. Prints
 // what `./path_server path MAP SX SY GX GY` prints, from the image that was swapped in.
 //
-//   c++ -std=c++17 -pthread -Iinclude examples/threads.cpp out/lib/libpathdb.a -o threads
+//   c++ -std=c++17 -pthread -Iinclude examples/threads.cpp release/pathdb/libpathdb.a -o threads
 //   ./threads maps/tutorial.map 2 2 37 17
 #include "pathdb.hpp"
 
