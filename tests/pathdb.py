@@ -1,9 +1,9 @@
 #!/usr/bin/env python3
 """The library for C beside the program: on random maps in both orders each path of the library, the sample in Python
-between, is word for word what `path_server path` prints; images in parts are those of one call; and what the calls say
-of faulty maps, rooms, parts and images.
+between, is word for word what `path_server path` prints; images in parts are those of one call, and those that
+`path_bake` puts, where it is named; and what the calls say of faulty maps, rooms, parts and images.
 
-    tests/pathdb.py LIBRARY PROGRAM [--maps N] [--queries N] [--seed S]
+    tests/pathdb.py LIBRARY PROGRAM [--bake PROGRAM] [--maps N] [--queries N] [--seed S]
 
 Prints what differs, and the status is 1 then.
 """
@@ -12,6 +12,7 @@ import ctypes
 import importlib.util
 import os
 import random
+import struct
 import subprocess
 import sys
 import tempfile
@@ -83,6 +84,9 @@ def compare_maps(library, program, options):
                 library.check(image)
                 plan = (width, height, bytes_of(width, height, cells))
                 compare_parts(library, f"map {number} {order_name}", plan, order, list(image))
+                if options.bake:
+                    put = subprocess.run([options.bake, name, "--order", order_name], stdout=subprocess.PIPE).stdout
+                    judge(f"path_bake of map {number} {order_name}", put, struct.pack(f"<{len(image)}I", *image))
                 for _ in range(options.queries):
                     start = (rng.randint(0, width), rng.randint(0, height))
                     goal = (rng.randint(0, width), rng.randint(0, height))
@@ -266,6 +270,7 @@ def main():
     parser = argparse.ArgumentParser(description=__doc__.split("\n")[0])
     parser.add_argument("library")
     parser.add_argument("program")
+    parser.add_argument("--bake")
     parser.add_argument("--maps", type=int, default=20)
     parser.add_argument("--queries", type=int, default=20)
     parser.add_argument("--seed", type=int, default=1)

@@ -100,7 +100,8 @@ compile memory gcc -std=c11 -O2 tests/pathdb_memory.c "$lib/libpathdb.a" "${chec
   { "$folder/memory" maps/tutorial.map >"$folder/found" 2>"$folder/said" ||
     { fail "want of memory:"; head -n 40 "$folder/said" "$folder/found" >&2; }; }
 
-python3 tests/pathdb.py "$lib/libpathdb.so" "$program" || status=1
+for bake in crates/path_bake/out/path_bake release/pathdb/path_bake; do [ ! -x "$bake" ] || break; done
+python3 tests/pathdb.py "$lib/libpathdb.so" "$program" --bake "$bake" || status=1
 
 # Spoilt images: every status and move is looked at, and whoever reads outside is ended by a signal.
 maps=(maps/tutorial.map tests/maps/row.map tests/maps/water.map)
