@@ -6,8 +6,9 @@
 mod lists;
 mod trying;
 
-use crate::lists::{Random, SETS, short_list};
+use crate::lists::{SETS, made_list, set_with, short_list};
 use crate::trying::{Seen, Tally, added, count, taken, try_each, try_out, try_put};
+use case_kit::Random;
 use row_edit::{PlaceSet, RowEdit};
 use std::alloc::{AllocError, Global};
 use std::io;
@@ -76,7 +77,7 @@ fn made_lists(alloc: Global, seen: Seen) -> Result<(Tally, Tally), AllocError> {
     let (mut out, mut put) = (Tally::default(), Tally::default());
     let mut random = Random::of(1);
     for _ in 0..MADE {
-        let sets = random.list(alloc, LONG)?;
+        let sets = made_list(alloc, &mut random, LONG)?;
         let place = random.below(count(&sets).max(1));
         try_out(alloc, &sets, place, seen, &mut out)?;
         let (rest, own) = taken(alloc, &sets, place)?;
@@ -90,7 +91,7 @@ fn edited_lists(alloc: Global, seen: Seen) -> Result<Tally, AllocError> {
     let mut each = Tally::default();
     let mut random = Random::of(2);
     for _ in 0..MADE {
-        let sets = random.list(alloc, LONG)?;
+        let sets = made_list(alloc, &mut random, LONG)?;
         let (edits, changed) = some_edits(alloc, &mut random, &sets)?;
         try_each(alloc, &sets, &edits, &changed, seen, &mut each)?;
     }
@@ -127,7 +128,7 @@ fn some_edit(
         return Ok((RowEdit::Out(own), rest));
     }
     let shared = random.below(8);
-    let set = random.set_with(shared);
+    let set = set_with(random, shared);
     let put = PlaceSet { place, set };
     Ok((RowEdit::In(put), added(alloc, sets, put)?))
 }
