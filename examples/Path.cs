@@ -121,7 +121,7 @@ public static class Program
         }
         var micro = (ulong)((cost.Straight + Math.Sqrt(2) * cost.Diagonal) * 1e6);
         Console.WriteLine($"cost {cost.Straight} {cost.Diagonal}");
-        Console.WriteLine($"length {micro / 1000000}.{micro % 1000000:D6}");
+        Console.WriteLine($"length {micro / 1000000}.{micro % 1000000:000000}");
         Console.WriteLine("moves" + string.Concat(Array.ConvertAll(moves, move => " " + Names[move])));
     }
 }
