@@ -47,7 +47,7 @@ compile() {
 }
 
 checked=('-fsanitize=address,undefined' -fno-sanitize-recover=all)
-watched=(valgrind -q --error-exitcode=9 --leak-check=full)
+watched=(valgrind -q --fair-sched=yes --error-exitcode=9 --leak-check=full)
 c=(gcc -std=c99 -pedantic examples/path.c "$lib/libpathdb.a")
 compile c "${c[@]}" -O2 && run "the sample in C" "$folder/c" "${query[@]}"
 compile c_checked "${c[@]}" "${checked[@]}" && run "the sample in C, with sanitizers" "$folder/c_checked" "${query[@]}"
