@@ -97,6 +97,16 @@ impl Tiles {
         count
     }
 
+    /// Takes these places as sources, wherever they lie. A tile whose sources lie far apart takes more time.
+    pub fn set_sources(&mut self, sources: [u16; LANES])
+        requires inside { (lane : ℕ) → lane < 16 → slice_index sources lane < self.old.count }
+        ensures count { self.new.count ≡ self.old.count }
+        ensures sources { self.new.sources ≡ sources }
+    {
+        self.reach = 0;
+        self.sources = sources;
+    }
+
     /// The source of a lane.
     pub fn source(&self, lane: usize) -> u16
         requires { lane < 16 }
@@ -157,6 +167,13 @@ impl Tiles {
         ensures { result.now ≡ take self.now.count self.now.sets }
     {
         &self.sets[..self.count]
+    }
+
+    /// The keys of all lanes by places, as they stand.
+    pub fn keys(&self) -> &[u32x16]
+        ensures { result.now ≡ take self.now.count self.now.keys }
+    {
+        &self.keys[..self.count]
     }
 
     /// Packs the rows of all lanes, each with all moves at its source. The sets are completed by it.
