@@ -196,13 +196,13 @@ def peer(pause, data):
     return str(listener.getsockname()[1])
 
 
-WAITING = "path_server ask: waiting: no door may be free, or a build goes on\n"
+WAITING = "path_server: waiting: no door may be free, or a build goes on\n"
 judge("ask waits", run("ask", peer(2.5, DONE), "status")[:3], ("done\n", WAITING, 0))
 judge("ask need not wait", run("ask", peer(0, DONE), "status")[:3], ("done\n", "", 0))
 if "--long" in sys.argv:
     at = peer(600, DONE)
     *said, took = run("ask", at, "status", timeout=ANSWER_TIME + 30)
-    gives_up = f"path_server ask: no whole answer came in {ANSWER_TIME} seconds\n"
+    gives_up = f"path_server: no whole answer came in {ANSWER_TIME} seconds\n"
     judge("ask gives up", said,
           ["read fault\n", f"{WAITING}{gives_up}path_server ask: nobody answers at port {at}, or no longer\n", 5])
     judge(f"ask gives up after {took:.0f} seconds", is_due(took, ANSWER_TIME), True)

@@ -16,7 +16,7 @@ impl<'a, R: Clock + Eprint> Watcher<'a, R> {
     /// One that shows progress so, through this runtime.
     pub fn new(rt: &'a R, showing: Showing) -> Watcher<'a, R> {
         Watcher {
-            progress: Progress::new(rt, showing),
+            progress: Progress::new(rt, "path_bake", showing),
         }
     }
 }

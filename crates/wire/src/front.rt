@@ -6,8 +6,8 @@ use std::io;
 use std::io::{Eprint, ErrorKind};
 use std::net::{Ipv4Addr, Net, Shutdown, SocketAddrV4, TcpListener, TcpStream};
 use std::os::fd::OwnedFd;
-use std::sync::OnceLock;
-use std::sync::atomic::{AtomicU64, Ordering};
+use std::sync::atomic::{AtomicBool, AtomicU64, Ordering};
+use std::sync::{Arc, OnceLock};
 use std::time::{Clock, Duration, Instant};
 
 /// How long a knock waits for a connection, in milliseconds.
@@ -16,14 +16,30 @@ pub const KNOCK_TIME: u64 = 50;
 /// How long the sessions that are open may go on once the server was stopped, in seconds.
 pub const CLOSING_TIME: u64 = 10;
 
-/// What the doors of a port share: what listens there, since when it does no more, and how many
+/// When a server was stopped, if it was. All its ports share it.
+#[derive(Drop)]
+pub(crate) struct Stopping {
+    at: OnceLock<Instant>,
+}
+
+impl Stopping {
+    /// Of a server that was not stopped.
+    pub(crate) fn new() -> Stopping {
+        Stopping {
+            at: OnceLock::new(),
+        }
+    }
+}
+
+/// What the doors of a port share: what listens there, when the server was stopped, and how many
 /// connections came.
 #[derive(Drop)]
 pub(crate) struct Front<'a, R> {
     journal: Journal<'a, R>,
     listener: TcpListener,
     closer: TcpStream,
-    stopped: OnceLock<Instant>,
+    stopping: Arc<Stopping>,
+    told: AtomicBool,
     taken: AtomicU64,
     broken: AtomicU64,
 }
@@ -55,14 +71,19 @@ fn is_nobody(kind: ErrorKind) -> bool {
 }
 
 impl<'a, R: Net<Listener = TcpListener, Stream = TcpStream> + Eprint> Front<'a, R> {
-    /// What listens at a port, of which nobody was taken yet.
-    pub(crate) fn at(journal: Journal<'a, R>, port: u16) -> io::Result<Front<'a, R>> {
+    /// What listens at a port, of which nobody was taken yet, until the server is stopped.
+    pub(crate) fn at(
+        journal: Journal<'a, R>,
+        port: u16,
+        stopping: Arc<Stopping>,
+    ) -> io::Result<Front<'a, R>> {
         let (listener, closer) = listen(journal.rt(), port)?;
         Ok(Front {
             journal,
             listener,
             closer,
-            stopped: OnceLock::new(),
+            stopping,
+            told: AtomicBool::new(false),
             taken: AtomicU64::new(0),
             broken: AtomicU64::new(0),
         })
@@ -75,6 +96,11 @@ impl<'a, R: Clock + Eprint> Front<'a, R> {
         &self.journal
     }
 
+    /// When the server was stopped.
+    pub(crate) fn stopping(&self) -> &Arc<Stopping> {
+        &self.stopping
+    }
+
     /// What listens.
     pub(crate) fn listener(&self) -> &TcpListener {
         &self.listener
@@ -83,12 +109,15 @@ impl<'a, R: Clock + Eprint> Front<'a, R> {
     /// The next connection that comes. `None` where nobody comes for [`KNOCK_TIME`], or nobody is let
     /// in any more.
     pub(crate) fn accept(&self) -> Result<Option<TcpStream>, Failed> {
+        if self.is_stopped() {
+            self.refuse();
+        }
         match self.listener.accept() {
             Ok((stream, _)) => {
                 self.taken.fetch_add(1, Ordering::SeqCst);
                 Ok(Some(stream))
             }
-            Err(error) if is_nobody(error.kind()) || self.stopped.get().is_some() => Ok(None),
+            Err(error) if is_nobody(error.kind()) || self.is_stopped() => Ok(None),
             Err(_) => Err(Failed),
         }
     }
@@ -96,14 +125,24 @@ impl<'a, R: Clock + Eprint> Front<'a, R> {
     /// Lets nobody in any more: who calls, or waits for a door, is refused.
     pub(crate) fn stop(&self) {
         if let Ok(now) = Instant::now(self.journal.rt()) {
-            let _ = self.stopped.try_set(now);
+            let _ = self.stopping.at.try_set(now);
         }
+        self.refuse();
+    }
+
+    /// Refuses who calls or waits here.
+    fn refuse(&self) {
         let _ = self.closer.shutdown(Shutdown::Read);
+    }
+
+    /// Whether the server was stopped.
+    fn is_stopped(&self) -> bool {
+        self.stopping.at.get().is_some()
     }
 
     /// Whether the sessions that are open have no time left.
     pub(crate) fn is_over(&self) -> bool {
-        match self.stopped.get() {
+        match self.stopping.at.get() {
             Some(since) => has_passed(self.journal.rt(), *since, CLOSING_TIME),
             None => false,
         }
@@ -112,6 +151,11 @@ impl<'a, R: Clock + Eprint> Front<'a, R> {
     /// Counts a connection that ended by a fault.
     pub(crate) fn count_broken(&self) {
         self.broken.fetch_add(1, Ordering::SeqCst);
+    }
+
+    /// Whether its end is to be told, which is so once.
+    pub(crate) fn is_to_be_told(&self) -> bool {
+        !self.told.swap(true, Ordering::SeqCst)
     }
 
     /// How many connections came.

@@ -1,7 +1,7 @@
 //! A port that opens.
 ghost use Rattle.std.specs.Prelude.{◌≡◌, ◌≤◌, All, vec_len, IfOk};
 
-use crate::front::Front;
+use crate::front::{Front, Stopping};
 use crate::limits::{has_threads, lack_of_descriptors};
 use crate::ticks::millis_since;
 use crate::{HouseError, Journal, TcpDoor};
@@ -64,11 +64,12 @@ pub(crate) fn open_front<'a, R>(
     alloc: Global,
     port: u16,
     count: u32,
+    stopping: Arc<Stopping>,
 ) -> Result<Arc<Front<'a, R>>, PortError>
 where
     R: Net<Listener = TcpListener, Stream = TcpStream> + Clock + Eprint + Threads + Wait,
 {
-    let front = match Front::at(journal.another(), port) {
+    let front = match Front::at(journal.another(), port, stopping) {
         Ok(front) => front,
         Err(error) => return Err(PortError::Refused(error)),
     };

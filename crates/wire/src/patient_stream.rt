@@ -9,7 +9,8 @@ use std::net::{Net, SocketAddr, TcpStream};
 use std::time::{Clock, Duration, Instant};
 use thiserror::Error;
 
-/// How long a caller waits until an answer is whole, in seconds, and as long for a connection.
+/// How long a caller waits until an answer is whole, in seconds, and as long for a connection. The time of
+/// each answer runs from what was sent for it.
 pub const ANSWER_TIME: u64 = 120;
 
 /// A connection of a caller. Standard error says where it waits, and where it gives up.
@@ -18,12 +19,13 @@ pub(crate) struct PatientStream<'a, R> {
     stream: TcpStream,
     journal: Journal<'a, R>,
     since: Option<Instant>,
+    heard: bool,
     waits: bool,
 }
 
 /// That nothing came for so many seconds.
 #[derive(Debug, Clone, Copy, Error)]
-#[error("path_server ask: no whole answer came in {seconds} seconds")]
+#[error("path_server: no whole answer came in {seconds} seconds")]
 struct Silence {
     seconds: u64,
 }
@@ -50,7 +52,7 @@ fn connect<R: Net<Stream = TcpStream> + Eprint>(
 
 /// Says that nothing has come yet.
 fn tell_waiting<R: Eprint>(journal: &Journal<'_, R>) {
-    journal.tell("path_server ask: waiting: no door may be free, or a build goes on");
+    journal.tell("path_server: waiting: no door may be free, or a build goes on");
 }
 
 /// Says that nothing came in time.
@@ -74,6 +76,7 @@ impl<'a, R: Net<Stream = TcpStream> + Eprint> PatientStream<'a, R> {
             stream,
             journal,
             since: None,
+            heard: false,
             waits: false,
         })
     }
@@ -87,6 +90,7 @@ impl<'a, R: Clock + Eprint> PatientStream<'a, R> {
         for _ in 0..=ANSWER_TIME {
             self.may_wait()?;
             if let Some(count) = read_tick(&mut self.stream, room)? {
+                self.heard = true;
                 return Ok(count);
             }
             self.say_waiting();
@@ -99,6 +103,7 @@ impl<'a, R: Clock + Eprint> PatientStream<'a, R> {
         ensures count { IfOk result (λ count. count ≤ length piece.now) }
         ensures some { IfOk result (λ count. 0 < length piece.now → 0 < count) }
     {
+        self.ask_anew();
         for _ in 0..=ANSWER_TIME {
             self.may_wait()?;
             if let Some(count) = write_tick(&mut self.stream, piece)? {
@@ -107,6 +112,14 @@ impl<'a, R: Clock + Eprint> PatientStream<'a, R> {
             self.say_waiting();
         }
         Err(Failed)
+    }
+
+    /// Begins to wait for a further answer, where something of the one before has come in.
+    fn ask_anew(&mut self) {
+        if self.heard {
+            self.since = None;
+            self.heard = false;
+        }
     }
 
     /// Whether more may be waited for. The time runs from the first call on.

@@ -57,6 +57,7 @@ impl Showing {
 #[derive(Drop)]
 pub struct Progress<'a, R> {
     rt: &'a R,
+    name: &'static str,
     showing: Showing,
     made: Option<Instant>,
     rows: AtomicU64,
@@ -68,8 +69,9 @@ pub struct Progress<'a, R> {
 
 /// What a line says, times in seconds.
 #[derive(Debug, Clone, Copy, Error)]
-#[error("path_server: {built} of {rows} rows, {gone} s gone, {left} s left")]
+#[error("{name}: {built} of {rows} rows, {gone} s gone, {left} s left")]
 struct Told {
+    name: &'static str,
     built: u64,
     rows: u64,
     gone: u64,
@@ -89,10 +91,11 @@ struct InPlace {
 struct Cleared;
 
 impl<'a, R: Clock + Eprint> Progress<'a, R> {
-    /// Of no build yet, shown so through this runtime.
-    pub fn new(rt: &'a R, showing: Showing) -> Progress<'a, R> {
+    /// Of no build yet, shown so through this runtime, by the program of that name.
+    pub fn new(rt: &'a R, name: &'static str, showing: Showing) -> Progress<'a, R> {
         Progress {
             rt,
+            name,
             showing,
             made: Instant::now(rt).ok(),
             rows: AtomicU64::new(0),
@@ -146,7 +149,7 @@ impl<'a, R: Clock + Eprint> Progress<'a, R> {
             .compare_exchange(due, next, Ordering::SeqCst, Ordering::SeqCst);
         if first.is_ok() {
             let gone = now.saturating_sub(self.begun.load(Ordering::SeqCst));
-            self.show(told_of(built, self.rows.load(Ordering::SeqCst), gone));
+            self.show(self.told_of(built, self.rows.load(Ordering::SeqCst), gone));
         }
     }
 
@@ -162,23 +165,24 @@ impl<'a, R: Clock + Eprint> Progress<'a, R> {
         };
     }
 
+    /// What is told of so many rows that took so many milliseconds: those that are left are taken to go
+    /// as fast.
+    fn told_of(&self, built: u64, rows: u64, gone: u64) -> Told {
+        let left = gone.saturating_mul(rows.saturating_sub(built)) / built.max(1);
+        Told {
+            name: self.name,
+            built,
+            rows,
+            gone: gone / 1_000,
+            left: left.div_ceil(1_000),
+        }
+    }
+
     /// How long ago it was made; 0 where the clock cannot be read.
     fn now(&self) -> u64 {
         match self.made {
             Some(made) => millis_since(self.rt, made),
             None => 0,
         }
-    }
-}
-
-/// What is told of so many rows that took so many milliseconds: those that are left are taken to go as
-/// fast.
-fn told_of(built: u64, rows: u64, gone: u64) -> Told {
-    let left = gone.saturating_mul(rows.saturating_sub(built)) / built.max(1);
-    Told {
-        built,
-        rows,
-        gone: gone / 1_000,
-        left: left.div_ceil(1_000),
     }
 }

@@ -28,6 +28,11 @@ impl<'a, R: Clock + Eprint> TcpDoor<'a, R> {
         TcpDoor { front, faults: 0 }
     }
 
+    /// What the doors of its port share.
+    pub(crate) fn front(&self) -> &Front<'a, R> {
+        &self.front
+    }
+
     /// How many knocks have failed.
     pub fn fault_count(&self) -> u64
         ensures { result ≡ self.now.faults }

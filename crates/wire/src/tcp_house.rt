@@ -3,7 +3,7 @@ ghost use Rattle.std.specs.Prelude.{◌≡◌, ◌≤◌, [], All, None, vec_len
 ghost use Rattle.wire.specs.Houses.{count_if, rose_once};
 
 use crate::faults::count_fault;
-use crate::front::Front;
+use crate::front::{Front, Stopping};
 use crate::opening::{PortError, doors_of, open_front, tell_opened};
 use crate::{DoorsAsked, Failed, House, HouseError, Journal, TcpCall, TcpDoor};
 use arrayvec::ArrayVec;
@@ -17,8 +17,8 @@ use std::time::{Clock, Instant};
 use thiserror::Error;
 
 /// What opens doors at ports of 127.0.0.1 and calls at them. It tells no doors and no links, as the
-/// system tells none. The doors of a port share what listens there. What the operator is told of
-/// doors and connections goes to its journal.
+/// system tells none. The doors of a port share what listens there, and a stop at one port is one at all.
+/// What the operator is told of doors and connections goes to its journal.
 #[derive(Drop)]
 pub struct TcpHouse<'a, R> {
     journal: Journal<'a, R>,
@@ -81,7 +81,8 @@ where
         ensures reads { self.new.read_faults ≡ self.old.read_faults }
         ensures writes { self.new.write_faults ≡ self.old.write_faults }
     {
-        let front = match open_front(&self.journal, alloc, port, count) {
+        let stopping = stopping_of(alloc, &self.front)?;
+        let front = match open_front(&self.journal, alloc, port, count, stopping) {
             Ok(front) => front,
             Err(PortError::NoMemory) => return Err(HouseError::NoMemory),
             Err(PortError::Refused(error)) => {
@@ -104,12 +105,31 @@ struct EndedAfter {
     broken: u64,
 }
 
-/// Tells the operator how many connections came.
-fn tell_ended<R: Clock + Eprint>(front: &Front<'_, R>) {
-    front.journal().note(EndedAfter {
-        taken: front.taken(),
-        broken: front.broken(),
-    });
+/// Tells the operator how many connections came to the doors, once a port.
+fn tell_ended<R: Clock + Eprint>(doors: &[TcpDoor<'_, R>]) {
+    for door in doors {
+        let front = door.front();
+        if front.is_to_be_told() {
+            front.journal().note(EndedAfter {
+                taken: front.taken(),
+                broken: front.broken(),
+            });
+        }
+    }
+}
+
+/// When the server was stopped that a front is of, or a new one.
+fn stopping_of<R: Clock + Eprint>(
+    alloc: Global,
+    front: &Option<Arc<Front<'_, R>>>,
+) -> Result<Arc<Stopping>, HouseError> {
+    match front {
+        Some(front) => Ok(Arc::try_clone(front.stopping())?),
+        None => match Arc::new(alloc, Stopping::new()) {
+            Ok(stopping) => Ok(stopping),
+            Err(_) => Err(HouseError::NoMemory),
+        },
+    }
 }
 
 // Whether one of these doors has failed.
@@ -173,9 +193,8 @@ where
         if has_failed(&doors) {
             count_fault(&mut self.door_faults);
         }
-        if let Some(front) = self.front.take() {
-            tell_ended(&front);
-        }
+        self.front = None;
+        tell_ended(&doors);
     }
 
     fn hang_up(&mut self, link: TcpCall<'a, R>) {

@@ -53,7 +53,8 @@ pub(crate) enum Cause {
 }
 
 /// A connection of a server. It watches the frames that come in: between two of them its client may
-/// be silent for long, and what was begun is whole, or taken, within a short time.
+/// be silent for long, and what was begun is whole, or taken, within a short time. Where the server is the
+/// first to speak it is a feed, and asks come in.
 #[derive(Drop)]
 pub(crate) struct TimedStream<'a, R> {
     stream: TcpStream,
@@ -104,6 +105,7 @@ impl<'a, R: Clock + Eprint> TimedStream<'a, R> {
         ensures some { IfOk result (λ count. 0 < length piece.now → 0 < count) }
     {
         self.frame_since = None;
+        self.speak();
         if self.watch.is_stopped_by(piece) {
             self.front.stop();
         }
@@ -114,6 +116,13 @@ impl<'a, R: Clock + Eprint> TimedStream<'a, R> {
             }
         }
         self.ends_by(Cause::SlowReply)
+    }
+
+    /// Something is sent: asks are awaited where nothing has come in before.
+    fn speak(&mut self) {
+        if !self.heard {
+            self.watch = FrameWatch::over_asks();
+        }
     }
 
     /// One read, for which the cause of a fault is kept.
