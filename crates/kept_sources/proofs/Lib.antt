@@ -1,2 +1,4 @@
-pub mod Closing
-pub mod Leaving
+pub mod Parting
+pub mod TakenOut
+pub mod Rejoining
+pub mod Rounding
