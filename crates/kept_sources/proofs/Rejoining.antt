@@ -3,7 +3,7 @@
 use Rattle.std.proofs.Common.{◌≡◌, ◌⊎◌, List, [], ◌∷◌, ◌++◌, Some, None, get_or, refl, sym, ap, ◌∙◌, subst, inl, inr}
 use Rattle.root_cost.specs.Costs.{IsAtMost, sum_of}
 use Rattle.root_cost.proofs.Order.{at_most_itself, at_most_same, at_most_trans, at_most_antisymmetric}
-use Rattle.root_cost.proofs.Adding.{at_most_sum, at_most_sum_cancel}
+use Rattle.root_cost.proofs.Adding.{at_most_sum, at_most_sum_cancel, at_most_sum_first_cancel}
 use Rattle.moves.specs.declared.Cell.{Cell}
 use Rattle.moves.specs.declared.Move.{Move}
 use Rattle.moves.specs.Maps.{Map}
@@ -15,6 +15,22 @@ use Rattle.moves.proofs.BestPaths.{best_path_exists}
 use Rattle.moves.proofs.FirstMoves.{best_none}
 use Rattle.kept_sources.specs.Parts.{IsPart, HaveSameFirst, HaveSameCost}
 use Rattle.kept_sources.proofs.Parting.{leads_of_part}
+
+-- both parts of a best path are best, wherever it is cut
+pub best_pieces : (map : Map) (a b c : Cell) (first rest : List Move) → IsBest map a (first ++ rest) c → Leads map a first b
+    → Leads map b rest c → IsBest map a first b × IsBest map b rest c
+best_pieces map a b c first rest best front back = (
+  record {
+    leads = front;
+    least = λ others path. at_most_sum_cancel _ _ (cost_of rest)
+        (rw (← cost_of-append first rest, ← cost_of-append others rest) (best.least (others ++ rest) (joined map a b c others rest path back)));
+  },
+  record {
+    leads = back;
+    least = λ others path. at_most_sum_first_cancel _ _ (cost_of first)
+        (rw (← cost_of-append first rest, ← cost_of-append first others) (best.least (first ++ others) (joined map a b c first others front path)));
+  },
+)
 
 -- ---- each path has one of the part that costs no more
 
@@ -136,14 +152,8 @@ module _ (map part : Map) (is_part : IsPart map part) (source to : Cell) (known 
       let front' : Leads map source (move ∷ first) last = subst (λ m. Leads map source (m ∷ first) last) (sym same) front in
       let tail = next ∷ rest in
       let total : cost_of (move ∷ moves) ≡ sum_of (cost_of (move ∷ first)) (cost_of tail) = ap cost_of whole' ∙ cost_of-append (move ∷ first) tail in
-      let best_first : IsBest map source (move ∷ first) last = record {
-        leads = front';
-        least = λ others way.
-            (let longer = best.least (others ++ tail) (joined map source last to others tail way (leads_of_part map part is_part last tail to back)) in
-            let sum = subst (λ c. IsAtMost (cost_of (move ∷ moves)) c) (cost_of-append others tail) longer in
-            at_most_sum_cancel (cost_of (move ∷ first)) (cost_of others) (cost_of tail)
-            (subst (λ c. IsAtMost c (sum_of (cost_of others) (cost_of tail))) total sum));
-      } in
+      let whole_best = subst (λ ms. IsBest map source ms to) whole' best in
+      let best_first = (best_pieces map source last to (move ∷ first) tail whole_best front' (leads_of_part map part is_part last tail to back)).0 in
       elim ((agrees.first last at move).0 (inr (first, best_first))) [
         | inl here ↦
             let none : move ∷ first ≡ [] = best_none map source (move ∷ first) (subst (λ c. IsBest map source (move ∷ first) c) (sym here.0) best_first) in

@@ -64,7 +64,7 @@ part_of_part a b c first next = record {
       (λ like. inner.0 (outer.0 like), λ like. outer.1 (inner.1 like));
 }
 
-whole_is_part : (map : Map) → IsPart map map
+pub whole_is_part : (map : Map) → IsPart map map
 whole_is_part map = record { passable = λ cell free. free; alike = λ cell other here there. (λ like. like, λ like. like) }
 
 module _ (map : Map) (cell : Cell) (cells : List Cell) (inside : IsInside map cell) (later : IsWithoutThese (without map cell) cells (without_all map (cell ∷ cells))) where

@@ -3,6 +3,7 @@
 #![tactic(auto)]
 
 ghost use Rattle.kept_sources.specs.Balls.{BallsKeepSources, BallsRoundAllKeepSources};
+ghost use Rattle.kept_sources.specs.Gates.{EvenCostsGiveOneFirstSet, GatesGiveTheRest, GatesKeepSides, OneGateGivesTheRest, PocketsKeepSources};
 ghost use Rattle.kept_sources.specs.Parts.{ListsAreTakenOut};
 
 /// Cells that are blocked one after the other are taken out together: what is left is a part of the map, which lacks just
@@ -21,4 +22,25 @@ pub fn balls_round_all_keep_sources()
 /// The law of the ball for one cell that is blocked or freed.
 pub fn balls_keep_sources()
     ensures { BallsKeepSources }
+{}
+
+/// The law of gates: where gates part a side of a map from all that is taken out, a source that has the same first sets
+/// and least costs to the gates has them to the whole side; and from a source of the side the first set to a cell beyond
+/// is the union of those to the gates by which the way costs least.
+pub fn gates_keep_sources()
+    ensures side { GatesKeepSides }
+    ensures beyond { GatesGiveTheRest }
+    ensures even { EvenCostsGiveOneFirstSet }
+{}
+
+/// The law of one gate: where one cell is the only way out of a side, the first sets from a cell of the side to all that
+/// that cell reaches beyond are one, that to the cell itself, and a least cost is the sum of those to the cell and on.
+pub fn one_gate_gives_the_rest()
+    ensures { OneGateGivesTheRest }
+{}
+
+/// The law of pockets: where one cell is the only way out of a side, and nothing of it is taken out, all first sets and
+/// least costs in the pocket stay, and so do its first sets to all that is reached from that cell before and after.
+pub fn pockets_keep_sources()
+    ensures { PocketsKeepSources }
 {}
