@@ -6,3 +6,4 @@ pub mod Gating
 pub mod Onward
 pub mod OneGate
 pub mod Pockets
+pub mod Splitting

@@ -17,7 +17,7 @@ use Rattle.kept_sources.specs.Parts.{without, without_all, IsPart, IsTakenOut, I
 
 module _ (map : Map) (cell : Cell) (inside : IsInside map cell) where
   -- the cell itself is not passable where it is blocked
-  none_passable : IsPassable (without map cell) cell → ⊥
+  pub none_passable : IsPassable (without map cell) cell → ⊥
   none_passable free =
       let place = place_of map.width cell in
       let bits = passable_of map in

@@ -1,3 +1,4 @@
 pub mod Parts
 pub mod Balls
 pub mod Gates
+pub mod Splits

@@ -5,6 +5,7 @@
 ghost use Rattle.kept_sources.specs.Balls.{BallsKeepSources, BallsRoundAllKeepSources};
 ghost use Rattle.kept_sources.specs.Gates.{EvenCostsGiveOneFirstSet, GatesGiveTheRest, GatesKeepSides, OneGateGivesTheRest, PocketsKeepSources};
 ghost use Rattle.kept_sources.specs.Parts.{ListsAreTakenOut};
+ghost use Rattle.kept_sources.specs.Splits.{ComponentsAreLeftByOne, JustSomeAreAPart, PartsStandAlone, SplitsGoByOne};
 
 /// Cells that are blocked one after the other are taken out together: what is left is a part of the map, which lacks just
 /// these of its cells.
@@ -43,4 +44,18 @@ pub fn one_gate_gives_the_rest()
 /// least costs in the pocket stay, and so do its first sets to all that is reached from that cell before and after.
 pub fn pockets_keep_sources()
     ensures { PocketsKeepSources }
+{}
+
+/// The law of the split, for a component that falls into parts where a cell is blocked: a part is left by that cell
+/// alone, so the first sets from a part to all cells of the others are one, that to the cell.
+pub fn splits_go_by_one()
+    ensures side { ComponentsAreLeftByOne }
+    ensures beyond { SplitsGoByOne }
+{}
+
+/// Among the cells of such a part and the cell itself, first sets and least costs are those of a map that has these cells
+/// alone.
+pub fn parts_stand_alone()
+    ensures part { JustSomeAreAPart }
+    ensures alone { PartsStandAlone }
 {}
