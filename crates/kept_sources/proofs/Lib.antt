@@ -7,3 +7,4 @@ pub mod Onward
 pub mod OneGate
 pub mod Pockets
 pub mod Splitting
+pub mod SmallMaps

@@ -2,3 +2,4 @@ pub mod Parts
 pub mod Balls
 pub mod Gates
 pub mod Splits
+pub mod Examples

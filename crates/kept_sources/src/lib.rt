@@ -2,6 +2,8 @@
 //! does more than name what it speaks of.
 #![tactic(auto)]
 
+pub mod examples;
+
 ghost use Rattle.kept_sources.specs.Balls.{BallsKeepSources, BallsRoundAllKeepSources};
 ghost use Rattle.kept_sources.specs.Gates.{EvenCostsGiveOneFirstSet, GatesGiveTheRest, GatesKeepSides, OneGateGivesTheRest, PocketsKeepSources};
 ghost use Rattle.kept_sources.specs.Parts.{ListsAreTakenOut};
