@@ -14,7 +14,7 @@ use Rattle.moves.proofs.CostsOfPaths.{cost_of-append}
 use Rattle.moves.proofs.LawsOfPaths.{joined, same_cost_of_best}
 use Rattle.moves.proofs.BestPaths.{best_path_exists}
 use Rattle.kept_sources.specs.Parts.{IsPart}
-use Rattle.kept_sources.specs.Gates.{IsLeftByGates, IsApart, AgreesAt, CostsBy, IsBestGate, IsGivenByGates, GatesGiveTheRest, CostsDifferEvenly, EvenCostsGiveOneFirstSet}
+use Rattle.kept_sources.specs.Gates.{IsLeftByGates, IsApart, AgreesAt, CostsBy, IsBestGate, IsGivenByGates, GatesGiveTheRest, PathsPassGates, CostsDifferEvenly, EvenCostsGiveOneFirstSet}
 use Rattle.kept_sources.proofs.Parting.{legal_of_part}
 use Rattle.kept_sources.proofs.TakenOut.{whole_is_part}
 use Rattle.kept_sources.proofs.Rejoining.{best_pieces}
@@ -27,6 +27,13 @@ whole_is_apart map gate side closed = record {
   side_stays = λ cell inside taken. taken.gone taken.was;
   gates_stay = λ cell there taken. taken.gone taken.was;
 }
+
+pub paths_pass_gates : PathsPassGates
+paths_pass_gates map gate side closed from [] to inside out path = absurd (false≢true (sym out ∙ subst (λ c. side c ≡ true) path.1 inside))
+paths_pass_gates map gate side closed from (move ∷ moves) to inside out path =
+    let comes = comes_to_gate map map gate side (whole_is_part map) (whole_is_apart map gate side closed) from move moves to inside path
+    (λ within. absurd (false≢true (sym out ∙ within))) in
+    (move ∷ comes.front, comes.rest, comes.at, ap (λ ms. move ∷ ms) comes.whole, comes.is_gate, comes.way, comes.onward)
 
 -- no best path costs more than to go by a cell
 no_dearer : (map : Map) (from by to : Cell) (moves : List Move) (cost : Cost) → IsBest map from moves to → CostsBy map map from by to cost

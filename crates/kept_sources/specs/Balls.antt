@@ -1,5 +1,6 @@
 -- Sources whose first sets stay where cells of a map are blocked or freed. The map with the cells and the map without
--- them are compared, so it is one law for both. (Botea 2011: a database has for each source its first sets to all cells.)
+-- them are compared, so it is one law for both. (Botea 2011: a database has for each source its first sets to all
+-- cells.)
 use Rattle.std.specs.Prelude.{◌≡◌, ◌≢◌, ◌+◌, ◌≤◌, Bool, true, false}
 use Rattle.moves.specs.declared.Cell.{Cell}
 use Rattle.moves.specs.declared.Move.{Move}
@@ -52,7 +53,8 @@ pub record IsBall (ball : Cell → Bool) (cell : Cell) : Type 0 where
   pub round : (other : Cell) → IsBeside cell other → ball other ≡ true
   pub open_inside : ball cell ≡ false
 
--- the first sets of a source to the cells of a ball stay, and its least costs to those from which a move leads out of it
+-- the first sets of a source to the cells of a ball stay, and its least costs to those from which a move leads out of
+-- it
 pub record KeepsBall (map : Map) (cell : Cell) (ball : Cell → Bool) (source : Cell) : Type 0 where
   pub first : (to : Cell) → ball to ≡ true → HaveSameFirst map (without map cell) source to
   pub cost : (to : Cell) → ball to ≡ true → LeadsOut (without map cell) ball to → HaveSameCost map (without map cell) source to

@@ -54,8 +54,8 @@ west cell = nat_lt cell.x 2
 abbrev pub third_column : Cell → Bool
 third_column cell = cell.x == 2
 
--- On a map of two columns and two rows a diagonal move leads from the upper left cell past both its neighbours: these two
--- are no gates of that cell.
+-- On a map of two columns and two rows a diagonal move leads from the upper left cell past both its neighbours: these
+-- two are no gates of that cell.
 abbrev pub both_beside : Cell → Bool
 both_beside cell = (cell.x + cell.y) == 1
 

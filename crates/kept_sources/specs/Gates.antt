@@ -1,20 +1,29 @@
 -- Gates: cells by which alone a side of a map is left. What a source has to its gates tells what it has to all cells.
-use Rattle.std.specs.Prelude.{◌≡◌, ◌≢◌, ◌⊎◌, ◌↔◌, Bool, true, false, Some}
+use Rattle.std.specs.Prelude.{◌≡◌, ◌≢◌, ◌⊎◌, ◌↔◌, Bool, true, false, List, ◌++◌, Some}
 use Rattle.root_cost.specs.declared.Cost.{Cost}
 use Rattle.root_cost.specs.Costs.{IsAtMost, sum_of}
 use Rattle.moves.specs.declared.Cell.{Cell}
 use Rattle.moves.specs.declared.Move.{Move}
 use Rattle.moves.specs.Maps.{Map, is_cell}
 use Rattle.moves.specs.Moves.{IsLegal}
-use Rattle.moves.specs.Paths.{Reaches, IsLeastCost}
+use Rattle.moves.specs.Paths.{Leads, Reaches, IsLeastCost}
 use Rattle.moves.specs.FirstSets.{IsFirstMove}
 use Rattle.kept_sources.specs.Parts.{IsPart, IsTakenOut, HaveSameFirst, HaveSameCost}
 
--- A side is left by its gates alone: a legal move from one of its cells leads to one of its cells or to a gate. Both are
--- tests of cells; a flood that does not go on from gates finds such a side.
+-- A side is left by its gates alone: a legal move from one of its cells leads to one of its cells or to a gate. Both
+-- are tests of cells; a flood that does not go on from gates finds such a side.
 abbrev pub IsLeftByGates : Map → (Cell → Bool) → (Cell → Bool) → Type 0
 IsLeftByGates map gate side =
-    (from : Cell) (move : Move) (to : Cell) → side from ≡ true → IsLegal map from move to → gate to ≡ false → side to ≡ true
+    (from : Cell) (move : Move) (to : Cell) → side from ≡ true → IsLegal map from move to → gate to ≡ false
+    → side to ≡ true
+
+-- so each path from the side to a cell that is not of the side passes a gate
+abbrev pub PathsPassGates : Type 0
+PathsPassGates =
+    (map : Map) (gate side : Cell → Bool) → IsLeftByGates map gate side
+    → (from : Cell) (moves : List Move) (to : Cell) → side from ≡ true → side to ≡ false → Leads map from moves to
+    → (first rest : List Move) × (by : Cell) × (moves ≡ first ++ rest) × (gate by ≡ true)
+    × Leads map from first by × Leads map by rest to
 
 -- the gates part a side from all that is taken out: nothing of the side is, nor is a gate
 pub record IsApart (map part : Map) (gate side : Cell → Bool) : Type 0 where
@@ -22,7 +31,8 @@ pub record IsApart (map part : Map) (gate side : Cell → Bool) : Type 0 where
   pub side_stays : (cell : Cell) → side cell ≡ true → IsTakenOut map part cell → ⊥
   pub gates_stay : (cell : Cell) → gate cell ≡ true → IsTakenOut map part cell → ⊥
 
--- the first sets of a source to the cells of a test are in the part those of the map, and so are its least costs to them
+-- the first sets of a source to the cells of a test are in the part those of the map, and so are its least costs to
+-- them
 pub record AgreesAt (map part : Map) (test : Cell → Bool) (source : Cell) : Type 0 where
   pub first : (to : Cell) → test to ≡ true → HaveSameFirst map part source to
   pub cost : (to : Cell) → test to ≡ true → HaveSameCost map part source to
@@ -52,7 +62,8 @@ pub record IsBestGate (near far : Map) (gate : Cell → Bool) (from to by : Cell
 pub record IsGivenByGates (near far : Map) (gate : Cell → Bool) (from to : Cell) : Type 0 where
   pub first : (move : Move) → IsFirstMove far from to move
       ↔ ((by : Cell) × (cost : Cost) × IsBestGate near far gate from to by cost × IsFirstMove near from by move)
-  pub cost : (cost : Cost) → IsLeastCost far from to (Some cost) ↔ ((by : Cell) × IsBestGate near far gate from to by cost)
+  pub cost : (cost : Cost) → IsLeastCost far from to (Some cost)
+      ↔ ((by : Cell) × IsBestGate near far gate from to by cost)
 
 -- The law of gates, beyond the side: what a source of the side that agrees at the gates has to a cell that is not of
 -- the side is given by the gates, in the part too, and by what the map has to them.
@@ -63,16 +74,17 @@ GatesGiveTheRest =
     → side source ≡ true → gate source ≡ false → side to ≡ false
     → IsGivenByGates map map gate source to × IsGivenByGates map part gate source to
 
--- From each gate the way to the one cell on the one map costs what the way to the other cell costs on the other, but for
--- an amount that is one for all gates; and where the one is not reached, the other is not.
+-- From each gate the way to the one cell on the one map costs what the way to the other cell costs on the other, but
+-- for an amount that is one for all gates; and where the one is not reached, the other is not.
 pub record CostsDifferEvenly (a b : Map) (gate : Cell → Bool) (to other : Cell) : Type 0 where
   pub less : Cost
   pub more : Cost
   pub reached : (by : Cell) → gate by ≡ true → Reaches a by to ↔ Reaches b by other
-  pub even : (by : Cell) (x y : Cost) → gate by ≡ true → IsLeastCost a by to (Some x) → IsLeastCost b by other (Some y)
-      → sum_of x more ≡ sum_of y less
+  pub even : (by : Cell) (x y : Cost) → gate by ≡ true
+      → IsLeastCost a by to (Some x) → IsLeastCost b by other (Some y) → sum_of x more ≡ sum_of y less
 
--- cells whose costs from the gates differ evenly have one first set: so it is told by those costs less the least of them
+-- cells whose costs from the gates differ evenly have one first set: so it is told by those costs less the least of
+-- them
 abbrev pub EvenCostsGiveOneFirstSet : Type 0
 EvenCostsGiveOneFirstSet =
     (near a b : Map) (gate : Cell → Bool) (source to other : Cell)
@@ -101,8 +113,8 @@ IsPocket map part gate side = IsApart map part (is_cell gate) side
 abbrev pub IsInPocket : Cell → (Cell → Bool) → Cell → Type 0
 IsInPocket gate side cell = (side cell ≡ true) ⊎ (cell ≡ gate)
 
--- all cells of the pocket have the same first sets and least costs to each other in the part as on the map, and those of
--- the side the same first sets to all that is reached from the gate in both or in neither
+-- all cells of the pocket have the same first sets and least costs to each other in the part as on the map, and those
+-- of the side the same first sets to all that is reached from the gate in both or in neither
 pub record AgreesInPocket (map part : Map) (gate : Cell) (side : Cell → Bool) : Type 0 where
   pub first : (from to : Cell) → IsInPocket gate side from → IsInPocket gate side to → HaveSameFirst map part from to
   pub cost : (from to : Cell) → IsInPocket gate side from → IsInPocket gate side to → HaveSameCost map part from to

@@ -17,11 +17,12 @@ abbrev pub without_all : Map → List Cell → Map
 without_all map [] = map
 without_all map (cell ∷ cells) = without_all (without map cell) cells
 
--- the other map is a part of the map: each of its cells is one of the map's, and two of its cells are of one class where
--- they are so on the map, whatever its sides are
+-- the other map is a part of the map: each of its cells is one of the map's, and two of its cells are of one class
+-- where they are so on the map, whatever its sides are
 pub record IsPart (map part : Map) : Type 0 where
   pub passable : (cell : Cell) → IsPassable part cell → IsPassable map cell
-  pub alike : (cell other : Cell) → IsPassable part cell → IsPassable part other → IsLike map cell other ↔ IsLike part cell other
+  pub alike : (cell other : Cell) → IsPassable part cell → IsPassable part other
+      → IsLike map cell other ↔ IsLike part cell other
 
 -- the cell is one of the map's that the part lacks
 pub record IsTakenOut (map part : Map) (cell : Cell) : Type 0 where

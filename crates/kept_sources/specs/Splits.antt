@@ -38,4 +38,5 @@ abbrev pub PartsStandAlone : Type 0
 PartsStandAlone =
     (map part : Map) (cell : Cell) (cells all : List Cell) → IsInside map cell → IsComponent (without map cell) cells
     → HasAlso all cells cell → AreOfOneClass map all → HasJust part all
-    → (from to : Cell) → Contains all from → Contains all to → HaveSameFirst map part from to × HaveSameCost map part from to
+    → (from to : Cell) → Contains all from → Contains all to
+    → HaveSameFirst map part from to × HaveSameCost map part from to

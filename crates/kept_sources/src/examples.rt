@@ -1,5 +1,5 @@
-//! Worked examples of the laws, on small maps (`specs/Examples.antt` draws them). None of these functions does anything:
-//! each one's contract is an example.
+//! Worked examples of the laws, on small maps (`specs/Examples.antt` draws them). None of these functions does
+//! anything: each one's contract is an example.
 
 ghost use Rattle.std.specs.Prelude.{◌∷◌, []};
 ghost use Rattle.moves.specs.Components.{IsComponent};
