@@ -1,7 +1,7 @@
 pub mod Parting
-pub mod TakenOut
+pub mod Closing
 pub mod Rejoining
-pub mod Rounding
+pub mod Leaving
 pub mod Gating
 pub mod Onward
 pub mod OneGate

@@ -16,7 +16,7 @@ use Rattle.moves.proofs.BestPaths.{best_path_exists}
 use Rattle.kept_sources.specs.Parts.{IsPart}
 use Rattle.kept_sources.specs.Gates.{IsLeftByGates, IsApart, AgreesAt, CostsBy, IsBestGate, IsGivenByGates, GatesGiveTheRest, PathsPassGates, CostsDifferEvenly, EvenCostsGiveOneFirstSet}
 use Rattle.kept_sources.proofs.Parting.{legal_of_part}
-use Rattle.kept_sources.proofs.TakenOut.{whole_is_part}
+use Rattle.kept_sources.proofs.Closing.{whole_is_part}
 use Rattle.kept_sources.proofs.Rejoining.{best_pieces}
 use Rattle.kept_sources.proofs.Gating.{comes_to_gate}
 

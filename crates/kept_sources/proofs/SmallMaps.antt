@@ -20,7 +20,7 @@ use Rattle.kept_sources.specs.Parts.{without, without_all}
 use Rattle.kept_sources.specs.Balls.{IsBeside, IsRoundAll}
 use Rattle.kept_sources.specs.Gates.{IsLeftByGates, IsApart, IsPocket}
 use Rattle.kept_sources.specs.Examples.{at, all_land, field, two_cells, round_both, round_less_one, ring, west, third_column, both_beside, three, OnlyEast}
-use Rattle.kept_sources.proofs.TakenOut.{lists_are_taken_out, only_this}
+use Rattle.kept_sources.proofs.Closing.{lists_are_taken_out, only_this}
 use Rattle.kept_sources.proofs.Splitting.{splits_go_by_one}
 
 -- ---- the ball

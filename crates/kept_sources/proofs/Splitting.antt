@@ -17,7 +17,7 @@ use Rattle.kept_sources.specs.Parts.{without}
 use Rattle.kept_sources.specs.Gates.{IsLeftByGates, IsGivenByOne, IsPocket, IsInPocket}
 use Rattle.kept_sources.specs.Splits.{ComponentsAreLeftByOne, SplitsGoByOne, AreOfOneClass, JustSomeAreAPart, HasAlso, PartsStandAlone}
 use Rattle.kept_sources.proofs.Parting.{stays, legal_in_part}
-use Rattle.kept_sources.proofs.TakenOut.{without_is_part, only_this, none_passable}
+use Rattle.kept_sources.proofs.Closing.{without_is_part, only_this, none_passable}
 use Rattle.kept_sources.proofs.OneGate.{one_gate_gives_the_rest}
 use Rattle.kept_sources.proofs.Pockets.{in_pocket_first, in_pocket_cost}
 

@@ -19,7 +19,8 @@ pub record IsBeside (cell other : Cell) : Type 0 where
 
 -- ---- several cells at once
 
--- cells, told by a test, that have each cell of the part that is beside one that is taken out
+-- cells, told by a test, that have each cell of the part that is beside one that is taken out; it is nothing to the law
+-- whether the test holds at cells that are taken out or blocked
 abbrev pub IsRoundAll : Map → Map → (Cell → Bool) → Type 0
 IsRoundAll map part ball =
     (cell other : Cell) → IsTakenOut map part cell → IsPassable part other → IsBeside cell other → ball other ≡ true

@@ -1,4 +1,4 @@
-use Rattle.kept_sources.proofs.Rounding.{balls_round_all_keep_sources}
+use Rattle.kept_sources.proofs.Leaving.{balls_round_all_keep_sources}
 use Rattle.kept_sources.proofs.balls_round_all_keep_sources.Goals as goal
 
 pub returns : goal.returns

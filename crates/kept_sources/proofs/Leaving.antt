@@ -11,7 +11,7 @@ use Rattle.moves.proofs.BestPaths.{passable_or_not}
 use Rattle.kept_sources.specs.Parts.{without, IsPart, IsTakenOut}
 use Rattle.kept_sources.specs.Balls.{IsBeside, IsRoundAll, LeadsOut, AgreesOnBall, AgreesEverywhere, BallsRoundAllKeepSources, BallsKeepSources}
 use Rattle.kept_sources.proofs.Parting.{legal_if_back, stays, none_first}
-use Rattle.kept_sources.proofs.TakenOut.{without_is_part, only_this}
+use Rattle.kept_sources.proofs.Closing.{without_is_part, only_this}
 use Rattle.kept_sources.proofs.Rejoining.{Rejoins, rejoins_later, Agrees, rejoined_first, rejoined_cost}
 
 -- a path of the part on which no cell is in the ball

@@ -29,10 +29,10 @@ module _ (map : Map) (cell : Cell) (inside : IsInside map cell) where
       ] in
       false≢true (sym (read ∙ none) ∙ free.passable)
 
-  apart_if_passable : (other : Cell) → IsPassable (without map cell) other → other ≢ cell
+  pub apart_if_passable : (other : Cell) → IsPassable (without map cell) other → other ≢ cell
   apart_if_passable other free same = none_passable (subst (IsPassable (without map cell)) same free)
 
-  passable_with : (other : Cell) → IsPassable (without map cell) other → IsPassable map other
+  pub passable_with : (other : Cell) → IsPassable (without map cell) other → IsPassable map other
   passable_with other free = passable_before map cell other Blocked inside (apart_if_passable other free) free
 
   pub without_is_part : IsPart map (without map cell)
