@@ -8,3 +8,4 @@ pub mod OneGate
 pub mod Pockets
 pub mod Splitting
 pub mod SmallMaps
+pub mod BothWays

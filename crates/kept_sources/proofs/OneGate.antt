@@ -19,7 +19,7 @@ pub is_cell-false : (a b : Cell) → b ≢ a → is_cell a b ≡ false
 is_cell-false a b apart = elim (cases_Bool (is_cell a b)) [ inl same ↦ absurd (apart (is_cell-true a b same)) | inr none ↦ none ]
 
 -- it costs one amount to go by a cell
-one_cost_by : (map : Map) (from by to : Cell) (cost more : Cost) → CostsBy map map from by to cost → CostsBy map map from by to more → cost ≡ more
+pub one_cost_by : (map : Map) (from by to : Cell) (cost more : Cost) → CostsBy map map from by to cost → CostsBy map map from by to more → cost ≡ more
 one_cost_by map from by to cost more (there, onward, way, rest, sum) (there', onward', way', rest', sum') =
     let first : there ≡ there' = one_some there there' (same_least map from by (Some there) (Some there') way way') in
     let next : onward ≡ onward' = one_some onward onward' (same_least map by to (Some onward) (Some onward') rest rest') in

@@ -5,7 +5,7 @@ ghost use Rattle.std.specs.Prelude.{◌∷◌, []};
 ghost use Rattle.moves.specs.Components.{IsComponent};
 ghost use Rattle.moves.specs.Maps.{is_cell};
 ghost use Rattle.kept_sources.specs.Balls.{IsRoundAll};
-ghost use Rattle.kept_sources.specs.Examples.{OnlyEast, all_land, at, both_beside, field, ring, round_both, round_less_one, third_column, three, two_cells, west};
+ghost use Rattle.kept_sources.specs.Examples.{NorthAndSouth, OnlyEast, all_land, at, both_beside, field, ring, round_both, round_less_one, third_column, three, two_cells, west};
 ghost use Rattle.kept_sources.specs.Gates.{IsApart, IsLeftByGates, IsPocket};
 ghost use Rattle.kept_sources.specs.Parts.{without, without_all};
 
@@ -20,6 +20,12 @@ pub fn two_cells_have_this_ball()
 pub fn ring_has_these_gates()
     ensures gates { IsApart ring (without ring (at 4 1)) third_column west }
     ensures diagonal { IsLeftByGates (all_land 2 2) both_beside (is_cell (at 0 0)) → ⊥ }
+{}
+
+/// On a ring of eight cells the way from the west to the east costs as much by the gate in the north as by that in the
+/// south, so the first set is the union of those to both.
+pub fn both_ways_round_a_ring()
+    ensures { NorthAndSouth }
 {}
 
 /// On a row of five cells the first two are a pocket with the third as its gate, where the last is blocked.
