@@ -6,6 +6,7 @@ pub mod Ringing
 pub mod Seating
 pub mod Protocols
 pub mod Talking
+pub mod Writing
 pub mod Replying
 pub mod Cutting
 pub mod Turning

@@ -6,7 +6,6 @@ use Rattle.std.proofs.lemmas.Grind.{flat_map-append}
 use Rattle.std.proofs.lemmas.List.{append-nil, append_assoc, drop-drop, take-append-drop, length-drop}
 use Rattle.std.proofs.lemmas.List.Elements.{All-push}
 use Rattle.std.proofs.lemmas.List.Sums.{fold_push}
-use Rattle.query_proto.specs.declared.protocols.Proto.{Proto}
 use Rattle.query_proto.specs.declared.protocols.Proto.TheVariants.{Start}
 use Rattle.query_proto.specs.Frames.{limit_of, sent_reply, sent_request}
 use Rattle.wire.specs.Talks.{Talk, with_sent, with_taken}
@@ -18,7 +17,7 @@ use Rattle.session.specs.declared.sessions.SessionFault.{SessionFault}
 use Rattle.session.specs.declared.sessions.SessionFault.TheVariants as fault
 use Rattle.session.specs.Conversations.{Conversed, EndsSo, Exchange, GoesOn, IsBegun, IsPart, NoFewer, Passes, Rests, ServesRun, bytes_sent, bytes_taken, protocol_after, protocol_behind}
 use Rattle.session.specs.Standing.{Place, Standing}
-use Rattle.session.specs.Turns.{Exchanges, HoldsMore, Steps, StepsNot, StepsOver, Takes}
+use Rattle.session.specs.Turns.{Exchanges, HoldsMore, Point, Steps, StepsNot, StepsOver, Takes}
 use Rattle.session.proofs.Meanwhile.{meanwhile_none}
 
 -- ---- bytes
@@ -120,87 +119,86 @@ rests_none place standing = record {
 behind_push : (exchanges : List Exchange) (exchange : Exchange) → protocol_behind (exchanges ++ exchange ∷ []) ≡ protocol_after (protocol_behind exchanges) exchange.frame
 behind_push exchanges exchange = fold_push (λ proto (exchange : Exchange). protocol_after proto exchange.frame) Start exchanges exchange
 
--- a session under way: so many frames were answered, none of them ended it, it is at this protocol, and these bytes are held
-pub record InTalk (place : Place) (old : Standing) (before : Option Talk) (count : ℕ) (proto : Proto) (point : Standing) (now : Option Talk) (held : List ℕ) : Type 0 where
+-- a session under way: so many frames were answered, none of them ended it, and it stands at this point
+pub record InTalk (place : Place) (old : Standing) (before : Option Talk) (count : ℕ) (now : Point) : Type 0 where
   pub exchanges : List Exchange
-  pub run : (rest : List Exchange) (end : Standing) → ServesRun place proto point rest end → ServesRun place Start old (exchanges ++ rest) end
-  pub behind : proto ≡ protocol_behind exchanges
+  pub run : (rest : List Exchange) (end : Standing) → ServesRun place now.proto now.standing rest end → ServesRun place Start old (exchanges ++ rest) end
+  pub behind : now.proto ≡ protocol_behind exchanges
   pub goes : All GoesOn exchanges
   pub many : length exchanges ≡ count
-  pub passes : Passes before now (bytes_taken exchanges ++ held) (bytes_sent exchanges)
-  pub begun : length held ≤ 2
-  pub spent : count ≡ MAX_REQUESTS → held ≡ []
+  pub passes : Passes before now.talk (bytes_taken exchanges ++ now.held) (bytes_sent exchanges)
+  pub begun : length now.held ≤ 2
+  pub spent : count ≡ MAX_REQUESTS → now.held ≡ []
 
-pub talk_none : (place : Place) (old : Standing) (before : Option Talk) → InTalk place old before 0 Start old before []
-talk_none place old before = record {
+pub talk_none : (place : Place) (start : Point) → start.proto ≡ Start → start.held ≡ [] → InTalk place start.standing start.talk 0 start
+talk_none place start first none = record {
   exchanges = [];
-  run = λ rest end run. run;
-  behind = refl;
+  run = λ rest end run. subst (λ p. ServesRun place p start.standing rest end) first run;
+  behind = first;
   goes = λ k d lt. absurd (omega arith);
   many = refl;
-  passes = passes_none before;
-  begun = omega arith;
-  spent = λ _. refl;
+  passes = subst (λ l. Passes start.talk start.talk l []) (sym none) (passes_none start.talk);
+  begun = let long = ap (λ (l : List ℕ). length l) none in omega arith;
+  spent = λ _. none;
 }
 
-module _ (place : Place) (old : Standing) (before : Option Talk) (count : ℕ) (proto : Proto) (point : Standing) (now : Option Talk) (held : List ℕ)
-    (t : InTalk place old before count proto point now held) where
+module _ (place : Place) (old : Standing) (before : Option Talk) (count : ℕ) (now : Point) (t : InTalk place old before count now) where
   -- the bytes, where a frame was taken and this was sent for it
-  passes_over : (exchange : Exchange) (new : Standing) (mid after : Option Talk) (next part : List ℕ) → Exchanges place proto exchange point new now mid held next
-      → after ≡ with_sent mid part → Passes before after (bytes_taken (t.exchanges ++ exchange ∷ []) ++ next) (bytes_sent t.exchanges ++ part)
-  passes_over exchange new mid after next part e sent =
-      let taken = passes_taken before now mid (bytes_taken t.exchanges ++ held) (bytes_sent t.exchanges) e.more t.passes e.takes in
-      let whole = passes_sent before mid after ((bytes_taken t.exchanges ++ held) ++ e.more) (bytes_sent t.exchanges) part taken sent in
-      let same = cut_behind (bytes_taken t.exchanges) held e.more (sent_request exchange.frame) next e.cut
-      ∙ ap (λ (l : List ℕ). l ++ next) (sym (taken_push t.exchanges exchange)) in
-      subst (λ l. Passes before after l (bytes_sent t.exchanges ++ part)) same whole
+  passes_over : (exchange : Exchange) (new : Point) (mid : Option Talk) (part : List ℕ) → Exchanges place exchange now mid new → new.talk ≡ with_sent mid part
+      → Passes before new.talk (bytes_taken (t.exchanges ++ exchange ∷ []) ++ new.held) (bytes_sent t.exchanges ++ part)
+  passes_over exchange new mid part e sent =
+      let taken = passes_taken before now.talk mid (bytes_taken t.exchanges ++ now.held) (bytes_sent t.exchanges) e.more t.passes e.takes in
+      let whole = passes_sent before mid new.talk ((bytes_taken t.exchanges ++ now.held) ++ e.more) (bytes_sent t.exchanges) part taken sent in
+      let same = cut_behind (bytes_taken t.exchanges) now.held e.more (sent_request exchange.frame) new.held e.cut
+      ∙ ap (λ (l : List ℕ). l ++ new.held) (sym (taken_push t.exchanges exchange)) in
+      subst (λ l. Passes before new.talk l (bytes_sent t.exchanges ++ part)) same whole
 
   many_over : (exchange : Exchange) → length (t.exchanges ++ exchange ∷ []) ≡ count + 1
   many_over exchange = let many = t.many in let push = length-append t.exchanges (exchange ∷ []) in omega arith
 
   -- a frame that doesn't end the session
-  pub talk_more : (ahead : Bool) (then : Proto) (new : Standing) (after : Option Talk) (next : List ℕ) → (count + 1 ≡ MAX_REQUESTS → IsFalse ahead)
-      → StepsOver place ahead proto point now held None then new after next → InTalk place old before (count + 1) then new after next
-  talk_more ahead then new after next last s = record {
+  pub talk_more : (ahead : Bool) (new : Point) → (count + 1 ≡ MAX_REQUESTS → IsFalse ahead) → StepsOver place ahead now None new
+      → InTalk place old before (count + 1) new
+  talk_more ahead new last s = record {
     exchanges = t.exchanges ++ s.exchange ∷ [];
     run = λ rest end run. subst (λ l. ServesRun place Start old l end) (sym (append_assoc t.exchanges (s.exchange ∷ []) rest))
-        (t.run (s.exchange ∷ rest) end (new, s.exchanges.fits, s.exchanges.serves, subst (λ p. ServesRun place p new rest end) s.then_is run));
-    behind = s.then_is ∙ ap (λ p. protocol_after p s.exchange.frame) t.behind ∙ sym (behind_push t.exchanges s.exchange);
+        (t.run (s.exchange ∷ rest) end (new.standing, s.exchanges.fits, s.exchanges.serves, subst (λ p. ServesRun place p new.standing rest end) s.proto_is run));
+    behind = s.proto_is ∙ ap (λ p. protocol_after p s.exchange.frame) t.behind ∙ sym (behind_push t.exchanges s.exchange);
     goes = All-push GoesOn t.exchanges s.exchange t.goes s.ends;
     many = many_over s.exchange;
-    passes = subst (λ l. Passes before after (bytes_taken (t.exchanges ++ s.exchange ∷ []) ++ next) l) (sym (sent_push t.exchanges s.exchange))
-        (passes_over s.exchange new s.mid after next (sent_reply s.exchange.told s.exchange.moves) s.exchanges s.sent);
+    passes = subst (λ l. Passes before new.talk (bytes_taken (t.exchanges ++ s.exchange ∷ []) ++ new.held) l) (sym (sent_push t.exchanges s.exchange))
+        (passes_over s.exchange new s.then (sent_reply s.exchange.told s.exchange.moves) s.exchanges s.sent);
     begun = s.leaves.0;
     spent = λ e. s.leaves.1 (last e);
   }
 
   -- the session ends where it stands
-  ends_here : (result : Result Ended SessionFault) (new : Standing) (after : Option Talk) (next : List ℕ) → count ≤ MAX_REQUESTS → StepsNot point now held new after next
-      → EndsSo t.exchanges next (bytes_sent t.exchanges) after result → Conversed place old before result new after
-  ends_here result new after next few s ends = record {
+  ends_here : (result : Result Ended SessionFault) (new : Point) → count ≤ MAX_REQUESTS → StepsNot now new
+      → EndsSo t.exchanges new.held (bytes_sent t.exchanges) new.talk result → Conversed place old before result new.standing new.talk
+  ends_here result new few s ends = record {
     exchanges = t.exchanges;
-    last = next;
+    last = new.held;
     sent = bytes_sent t.exchanges;
-    serves = subst (λ l. ServesRun place Start old l new) (append-nil t.exchanges)
-        (t.run [] new (subst (λ end. Rests place point end) (sym s.same) (rests_none place point)));
+    serves = subst (λ l. ServesRun place Start old l new.standing) (append-nil t.exchanges)
+        (t.run [] new.standing (subst (λ end. Rests place now.standing end) (sym s.same) (rests_none place now.standing)));
     few = let many = t.many in omega arith;
-    passes = subst (λ l. Passes before after l (bytes_sent t.exchanges))
-        (append_assoc (bytes_taken t.exchanges) held s.more.more ∙ ap (λ (l : List ℕ). bytes_taken t.exchanges ++ l) (sym s.more.grown))
-        (passes_taken before now after (bytes_taken t.exchanges ++ held) (bytes_sent t.exchanges) s.more.more t.passes s.more.takes);
+    passes = subst (λ l. Passes before new.talk l (bytes_sent t.exchanges))
+        (append_assoc (bytes_taken t.exchanges) now.held s.more.more ∙ ap (λ (l : List ℕ). bytes_taken t.exchanges ++ l) (sym s.more.grown))
+        (passes_taken before now.talk new.talk (bytes_taken t.exchanges ++ now.held) (bytes_sent t.exchanges) s.more.more t.passes s.more.takes);
     ends = ends;
   }
 
   -- it ends behind a frame
-  ends_behind : (result : Result Ended SessionFault) (exchange : Exchange) (new : Standing) (mid after : Option Talk) (next part : List ℕ) → count < MAX_REQUESTS
-      → Exchanges place proto exchange point new now mid held next → after ≡ with_sent mid part
-      → EndsSo (t.exchanges ++ exchange ∷ []) next (bytes_sent t.exchanges ++ part) after result → Conversed place old before result new after
-  ends_behind result exchange new mid after next part few e sent ends = record {
+  ends_behind : (result : Result Ended SessionFault) (exchange : Exchange) (new : Point) (mid : Option Talk) (part : List ℕ) → count < MAX_REQUESTS
+      → Exchanges place exchange now mid new → new.talk ≡ with_sent mid part
+      → EndsSo (t.exchanges ++ exchange ∷ []) new.held (bytes_sent t.exchanges ++ part) new.talk result → Conversed place old before result new.standing new.talk
+  ends_behind result exchange new mid part few e sent ends = record {
     exchanges = t.exchanges ++ exchange ∷ [];
-    last = next;
+    last = new.held;
     sent = bytes_sent t.exchanges ++ part;
-    serves = t.run (exchange ∷ []) new (new, e.fits, e.serves, rests_none place new);
+    serves = t.run (exchange ∷ []) new.standing (new.standing, e.fits, e.serves, rests_none place new.standing);
     few = let many = many_over exchange in omega arith;
-    passes = passes_over exchange new mid after next part e sent;
+    passes = passes_over exchange new mid part e sent;
     ends = ends;
   }
 
@@ -209,60 +207,60 @@ module _ (place : Place) (old : Standing) (before : Option Talk) (count : ℕ) (
   go_on few = let many = t.many in omega arith
 
   -- all frames were answered that may be
-  pub talk_spent : count ≡ MAX_REQUESTS → Conversed place old before (Ok ended.Spent) point now
+  pub talk_spent : count ≡ MAX_REQUESTS → Conversed place old before (Ok ended.Spent) now.standing now.talk
   talk_spent all =
-      ends_here (Ok ended.Spent) point now held (omega (arith, all)) (record { same = refl; more = record { more = []; grown = sym (append-nil held); takes = takes_none now } })
+      ends_here (Ok ended.Spent) now (omega (arith, all)) (record { same = refl; more = holds_none now.talk now.held })
       (t.goes, t.many ∙ all, record { none = t.spent all; all = refl })
 
   -- it ends without a fault
-  pub talk_ends : (ahead : Bool) (end : Ended) (then : Proto) (new : Standing) (after : Option Talk) (next : List ℕ) → count < MAX_REQUESTS
-      → Steps place ahead proto point now held (Ok (Some end)) then new after next → Conversed place old before (Ok end) new after
-  talk_ends ahead ended.Bye then new after next few s =
-      ends_behind (Ok ended.Bye) s.exchange new s.mid after next (sent_reply s.exchange.told s.exchange.moves) few s.exchanges s.sent (record {
+  pub talk_ends : (ahead : Bool) (end : Ended) (new : Point) → count < MAX_REQUESTS → Steps place ahead now (Ok (Some end)) new
+      → Conversed place old before (Ok end) new.standing new.talk
+  talk_ends ahead ended.Bye new few s =
+      ends_behind (Ok ended.Bye) s.exchange new s.then (sent_reply s.exchange.told s.exchange.moves) few s.exchanges s.sent (record {
         front = t.exchanges;
         end = s.exchange;
         ends = record { is = refl; all = t.goes };
         bye = s.ends;
         even = record { none = s.leaves; all = sym (sent_push t.exchanges s.exchange) };
       })
-  talk_ends ahead ended.Stop then new after next few s =
-      ends_behind (Ok ended.Stop) s.exchange new s.mid after next (sent_reply s.exchange.told s.exchange.moves) few s.exchanges s.sent (record {
+  talk_ends ahead ended.Stop new few s =
+      ends_behind (Ok ended.Stop) s.exchange new s.then (sent_reply s.exchange.told s.exchange.moves) few s.exchanges s.sent (record {
         front = t.exchanges;
         end = s.exchange;
         ends = record { is = refl; all = t.goes };
         stop = s.ends;
         even = record { none = s.leaves; all = sym (sent_push t.exchanges s.exchange) };
       })
-  talk_ends ahead ended.Quiet then new after next few s =
-      ends_here (Ok ended.Quiet) new after next (omega arith) s.0
+  talk_ends ahead ended.Quiet new few s =
+      ends_here (Ok ended.Quiet) new (omega arith) s.0
       (record { all = t.goes; fewer = go_on few }, record { none = s.1; all = refl }, s.2)
-  talk_ends ahead ended.Spent then new after next few s = absurd s
+  talk_ends ahead ended.Spent new few s = absurd s.ends
 
   -- it ends by a fault
-  pub talk_fails : (ahead : Bool) (why : SessionFault) (then : Proto) (new : Standing) (after : Option Talk) (next : List ℕ) → count < MAX_REQUESTS
-      → Steps place ahead proto point now held (Err why) then new after next → Conversed place old before (Err why) new after
-  talk_fails ahead (fault.Torn have want) then new after next few s =
-      ends_here (Err (fault.Torn have want)) new after next (omega arith) s.0 (record {
+  pub talk_fails : (ahead : Bool) (why : SessionFault) (new : Point) → count < MAX_REQUESTS → Steps place ahead now (Err why) new
+      → Conversed place old before (Err why) new.standing new.talk
+  talk_fails ahead (fault.Torn have want) new few s =
+      ends_here (Err (fault.Torn have want)) new (omega arith) s.0 (record {
         on = record { all = t.goes; fewer = go_on few };
         have_is = s.1.0;
-        part = subst (λ p. IsPart (limit_of p) next want) t.behind s.1.1;
+        part = subst (λ p. IsPart (limit_of p) new.held want) t.behind s.1.1;
         none = s.1.2;
         all = refl;
       })
-  talk_fails ahead (fault.TooLong size) then new after next few s =
-      ends_here (Err (fault.TooLong size)) new after next (omega arith) s.0 (record {
+  talk_fails ahead (fault.TooLong size) new few s =
+      ends_here (Err (fault.TooLong size)) new (omega arith) s.0 (record {
         on = record { all = t.goes; fewer = go_on few };
         above = subst (λ p. limit_of p < size) t.behind s.1.0;
         last_is = s.1.1;
         all = refl;
       })
-  talk_fails ahead fault.ReadFault then new after next few s =
-      ends_here (Err fault.ReadFault) new after next (omega arith) s.0
-      (record { on = record { all = t.goes; fewer = go_on few }; begun = subst (λ p. IsBegun (limit_of p) next) t.behind s.1; all = refl })
-  talk_fails ahead fault.WriteFault then new after next few s =
+  talk_fails ahead fault.ReadFault new few s =
+      ends_here (Err fault.ReadFault) new (omega arith) s.0
+      (record { on = record { all = t.goes; fewer = go_on few }; begun = subst (λ p. IsBegun (limit_of p) new.held) t.behind s.1; all = refl })
+  talk_fails ahead fault.WriteFault new few s =
       let text = sent_reply s.exchange.told s.exchange.moves in
       let count = s.unsent.0 in
-      ends_behind (Err fault.WriteFault) s.exchange new s.mid after next (take count text) few s.exchanges s.unsent.2 (record {
+      ends_behind (Err fault.WriteFault) s.exchange new s.then (take count text) few s.exchanges s.unsent.2 (record {
         front = t.exchanges;
         end = s.exchange;
         ends = record { is = refl; all = t.goes };
@@ -277,22 +275,19 @@ module _ (place : Place) (old : Standing) (before : Option Talk) (count : ℕ) (
       })
 
   -- the same, as the code has them: the place of the desk is still the same
-  pub talk_more_at : (other : Place) (ahead : Bool) (found : Option Ended) (then : Proto) (new : Standing) (after : Option Talk) (next : List ℕ) → other ≡ place → found ≡ None
-      → Steps other ahead proto point now held (Ok found) then new after next → (count + 1 ≡ MAX_REQUESTS → IsFalse ahead) → InTalk place old before (count + 1) then new after next
-  talk_more_at other ahead found then new after next same is s last =
-      talk_more ahead then new after next last
-      (subst (λ p. Steps p ahead proto point now held (Ok None) then new after next) same (subst (λ o. Steps other ahead proto point now held (Ok o) then new after next) is s))
+  pub talk_more_at : (other : Place) (ahead : Bool) (found : Option Ended) (new : Point) → other ≡ place → found ≡ None → Steps other ahead now (Ok found) new
+      → (count + 1 ≡ MAX_REQUESTS → IsFalse ahead) → InTalk place old before (count + 1) new
+  talk_more_at other ahead found new same is s last =
+      talk_more ahead new last (subst (λ p. Steps p ahead now (Ok None) new) same (subst (λ o. Steps other ahead now (Ok o) new) is s))
 
-  pub talk_ends_at : (other : Place) (ahead : Bool) (found : Option Ended) (end : Ended) (then : Proto) (new : Standing) (after : Option Talk) (next : List ℕ) → other ≡ place
-      → found ≡ Some end → Steps other ahead proto point now held (Ok found) then new after next → count < MAX_REQUESTS → Conversed place old before (Ok end) new after
-  talk_ends_at other ahead found end then new after next same is s few =
-      talk_ends ahead end then new after next few
-      (subst (λ p. Steps p ahead proto point now held (Ok (Some end)) then new after next) same (subst (λ o. Steps other ahead proto point now held (Ok o) then new after next) is s))
+  pub talk_ends_at : (other : Place) (ahead : Bool) (found : Option Ended) (end : Ended) (new : Point) → other ≡ place → found ≡ Some end
+      → Steps other ahead now (Ok found) new → count < MAX_REQUESTS → Conversed place old before (Ok end) new.standing new.talk
+  talk_ends_at other ahead found end new same is s few =
+      talk_ends ahead end new few (subst (λ p. Steps p ahead now (Ok (Some end)) new) same (subst (λ o. Steps other ahead now (Ok o) new) is s))
 
-  pub talk_fails_at : (other : Place) (ahead : Bool) (why : SessionFault) (then : Proto) (new : Standing) (after : Option Talk) (next : List ℕ) → other ≡ place
-      → Steps other ahead proto point now held (Err why) then new after next → count < MAX_REQUESTS → Conversed place old before (Err why) new after
-  talk_fails_at other ahead why then new after next same s few =
-      talk_fails ahead why then new after next few (subst (λ p. Steps p ahead proto point now held (Err why) then new after next) same s)
+  pub talk_fails_at : (other : Place) (ahead : Bool) (why : SessionFault) (new : Point) → other ≡ place → Steps other ahead now (Err why) new
+      → count < MAX_REQUESTS → Conversed place old before (Err why) new.standing new.talk
+  talk_fails_at other ahead why new same s few = talk_fails ahead why new few (subst (λ p. Steps p ahead now (Err why) new) same s)
 
 -- no further frame may be taken
 pub no_more : (count : ℕ) → count ≡ MAX_REQUESTS → IsFalse (nat_lt count MAX_REQUESTS)

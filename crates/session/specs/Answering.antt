@@ -1,9 +1,11 @@
 -- What one request gets.
-use Rattle.std.specs.Prelude.{◌≡◌, ◌<◌, Bool, IsTrue, IsFalse, List, [], MatchOption, None, Option, Some}
+use Rattle.std.specs.Prelude.{◌≡◌, ◌<◌, ℕ, Bool, IsTrue, IsFalse, List, [], MatchOption, None, Option, Some, map}
 use Rattle.moves.specs.declared.Cell.{Cell}
 use Rattle.moves.specs.declared.Move.{Move}
+use Rattle.moves.specs.Moves.{number_of}
 use Rattle.versions.specs.Answers.{Answer, IsAnswer, IsWalk}
 use Rattle.versions.specs.Databases.{Versioned}
+use Rattle.walker.specs.Walks.{IsAhead, Walking}
 use Rattle.path_core.specs.declared.entry.Entry.{Entry}
 use Rattle.path_core.specs.Histories.{published_prefix}
 use Rattle.query_proto.specs.declared.replies.Reply.{Reply}
@@ -46,3 +48,23 @@ pub record AnswersBy (version : Versioned) (start goal : Cell) (answered : Answe
   pub tells : TellsAnswer version.prefix answer answered.reply moves
   pub path : answered.path ≡ ends_of (request.Query start goal) answered.reply
   pub walk : MatchOption answered.path (moves ≡ []) (λ at. IsWalk version.map version.comps at.start at.goal moves)
+
+-- ---- what is written of the moves
+
+-- the request is served by that reply, and the moves behind it have these bytes
+pub record Tells (place : Place) (asked : Request) (old : Standing) (told : Reply) (bytes : List ℕ) (new : Standing) : Type 0 where
+  pub moves : List Move
+  pub bytes_are : bytes ≡ map number_of moves
+  pub serves : ServesRequest place asked old told moves new
+
+-- the reply tells the answer of a version, and the moves behind it have these bytes
+pub record TellsBy (version : Versioned) (start goal : Cell) (told : Reply) (bytes : List ℕ) : Type 0 where
+  pub answer : Answer
+  pub moves : List Move
+  pub is : IsAnswer version start goal answer
+  pub tells : TellsAnswer version.prefix answer told moves
+  pub bytes_are : bytes ≡ map number_of moves
+
+-- these are the bytes of the moves that are ahead of a walk
+abbrev pub AreBytesAhead : Walking → List ℕ → Type 0
+AreBytesAhead walk bytes = (moves : List Move) → IsAhead walk moves → bytes ≡ map number_of moves

@@ -1,23 +1,22 @@
 -- One turn of a session: the next frame is cut from what comes in, and answered.
-use Rattle.std.specs.Prelude.{◌≡◌, ℕ, ◌+◌, ◌<◌, ◌≤◌, Bool, Err, IfSome, IsFalse, List, MatchOption, None, Ok, Option, Result, Some, [], ◌++◌, length, take}
+use Rattle.std.specs.Prelude.{◌≡◌, ℕ, ◌+◌, ◌<◌, ◌≤◌, Bool, Err, IfSome, IsFalse, List, None, Ok, Option, Result, Some, [], ◌++◌, length, map, take}
 use Rattle.std.specs.Io.{StartsWith}
 use Rattle.byteorder.specs.Endian.{big_bytes}
 use Rattle.moves.specs.declared.Move.{Move}
-use Rattle.query_proto.specs.declared.TheConstants.{MAX_MOVES, MAX_REQUEST}
+use Rattle.moves.specs.Moves.{number_of}
+use Rattle.query_proto.specs.declared.TheConstants.{MAX_REQUEST}
 use Rattle.query_proto.specs.declared.protocols.Proto.{Proto}
 use Rattle.query_proto.specs.declared.protocols.Proto.TheVariants.{One, Two}
 use Rattle.query_proto.specs.declared.replies.Reply.{Reply}
 use Rattle.query_proto.specs.declared.replies.Reply.TheVariants as reply
 use Rattle.query_proto.specs.declared.requests.Request.{Request}
 use Rattle.query_proto.specs.declared.requests.Request.TheVariants as request
-use Rattle.query_proto.specs.Frames.{limit_of, moves_behind, sent_reply, sent_request}
-use Rattle.versions.specs.Answers.{IsWalk}
-use Rattle.versions.specs.Databases.{Versioned}
+use Rattle.query_proto.specs.Frames.{limit_of, sent_reply, sent_request}
 use Rattle.wire.specs.declared.faults.Failed.{Failed}
 use Rattle.wire.specs.Talks.{SendsPrefix, Talk, with_sent, with_taken}
-use Rattle.session.specs.declared.answers.Answered.{Answered}
 use Rattle.session.specs.declared.sessions.Ended.{Ended}
 use Rattle.session.specs.declared.sessions.Ended.TheVariants as ended
+use Rattle.session.specs.declared.sessions.Session.{Session}
 use Rattle.session.specs.declared.sessions.SessionFault.{SessionFault}
 use Rattle.session.specs.declared.sessions.SessionFault.TheVariants as fault
 use Rattle.session.specs.Conversations.{Exchange, GoesOn, HasNone, IsBegun, IsBye, IsPart, IsStop, ServesFrame}
@@ -61,30 +60,6 @@ IsNext limit ahead held now (Ok (Some size)) = HoldsFrame limit ahead held size
 IsNext limit ahead held now (Ok None) = (held ≡ []) × HasNone now
 IsNext limit ahead held now (Err why) = StopsSo limit held now why
 
--- ---- what is sent
-
--- a front of this text was sent, and the rest of it is held
-pub record IsHeldOf (before now : Option Talk) (text held : List ℕ) : Type 0 where
-  pub sent : List ℕ
-  pub whole : text ≡ sent ++ held
-  pub now_is : now ≡ with_sent before sent
-
--- whatever text was held so is held so then
-abbrev pub HoldsStill : Option Talk → Option Talk → List ℕ → List ℕ → Type 0
-HoldsStill old new held now =
-    (before : Option Talk) (text : List ℕ) → IsHeldOf before old text held → IsHeldOf before new text now
-
--- whatever text was held so, that text with these bytes behind it is held so then
-abbrev pub HoldsAlso : List ℕ → Option Talk → Option Talk → List ℕ → List ℕ → Type 0
-HoldsAlso bytes old new held now =
-    (before : Option Talk) (text : List ℕ) → IsHeldOf before old text held → IsHeldOf before new (text ++ bytes) now
-
--- the moves that stand behind the head of a reply: as many as it counts, and where it is a path, the walk between its ends
-pub record AreMovesBehind (version : Versioned) (answered : Answered) (moves : List Move) : Type 0 where
-  pub many : moves_behind answered.reply ≡ length moves
-  pub few : length moves ≤ MAX_MOVES
-  pub walk : MatchOption answered.path (moves ≡ []) (λ at. IsWalk version.map version.comps at.start at.goal moves)
-
 -- ---- what a frame gets
 
 -- the protocol behind the first request
@@ -108,13 +83,13 @@ EndsBehind exchange (Some ended.Quiet) = ⊥
 EndsBehind exchange (Some ended.Spent) = ⊥
 EndsBehind exchange None = GoesOn exchange
 
--- The frame is answered so. Where it is a path, the moves behind the reply are the walk of the held version.
-pub record AnswersSo (place : Place) (proto : Proto) (frame : List ℕ) (old : Standing) (version : Versioned)
-    (answered : Answered) (ended : Option Ended) (new : Standing) : Type 0 where
+-- the frame is answered so, and the moves behind the reply have these bytes
+pub record AnswersSo (place : Place) (proto : Proto) (frame : List ℕ) (old : Standing) (told : Reply) (bytes : List ℕ)
+    (ended : Option Ended) (new : Standing) : Type 0 where
   pub moves : List Move
-  pub serves : ServesFrame place proto (record { frame = frame; told = answered.reply; moves = moves }) old new
-  pub walk : MatchOption answered.path (moves ≡ []) (λ at. IsWalk version.map version.comps at.start at.goal moves)
-  pub ends : EndsBehind (record { frame = frame; told = answered.reply; moves = moves }) ended
+  pub bytes_are : bytes ≡ map number_of moves
+  pub serves : ServesFrame place proto (record { frame = frame; told = told; moves = moves }) old new
+  pub ends : EndsBehind (record { frame = frame; told = told; moves = moves }) ended
 
 -- the reply was sent, or a fault met it and less than the whole was sent
 abbrev pub SendsSo : Exchange → Option Talk → Option Talk → Result (Option Ended) Failed → Type 0
@@ -133,60 +108,55 @@ pub record TellsBack (place : Place) (proto : Proto) (frame : List ℕ) (old : S
 
 -- ---- turns
 
--- a frame was cut from what was held and what came in
-pub record Exchanges (place : Place) (proto : Proto) (exchange : Exchange) (old new : Standing)
-    (before mid : Option Talk) (held now : List ℕ) : Type 0 where
-  pub serves : ServesFrame place proto exchange old new
-  pub fits : length exchange.frame ≤ limit_of proto
+-- where a session stands between two turns: at a protocol and at a board, in a talk, with bytes that are not used up
+pub record Point : Type 0 where
+  pub proto : Proto
+  pub standing : Standing
+  pub talk : Option Talk
+  pub held : List ℕ
+
+abbrev pub point : Session → Standing → Option Talk → Point
+point session standing talk = record { proto = session.proto; standing = standing; talk = talk; held = session.held }
+
+-- a frame was cut from what was held and what came in until then, and served
+pub record Exchanges (place : Place) (exchange : Exchange) (old : Point) (then : Option Talk) (new : Point) : Type 0 where
+  pub serves : ServesFrame place old.proto exchange old.standing new.standing
+  pub fits : length exchange.frame ≤ limit_of old.proto
   pub more : List ℕ
-  pub takes : Takes before mid more
-  pub cut : held ++ more ≡ sent_request exchange.frame ++ now
+  pub takes : Takes old.talk then more
+  pub cut : old.held ++ more ≡ sent_request exchange.frame ++ new.held
 
 -- what is held behind a frame: at most the length of the next one, and nothing where none may be taken
 abbrev pub LeavesSo : Bool → List ℕ → Option Ended → Type 0
 LeavesSo ahead now None = (length now ≤ 2) × (IsFalse ahead → now ≡ [])
 LeavesSo ahead now (Some _) = now ≡ []
 
--- a frame was taken and answered, and this is the protocol then
-pub record StepsOver (place : Place) (ahead : Bool) (proto : Proto) (old : Standing) (before : Option Talk)
-    (held : List ℕ) (ended : Option Ended) (then : Proto) (new : Standing) (after : Option Talk)
-    (now : List ℕ) : Type 0 where
+-- a frame was taken and answered
+pub record StepsOver (place : Place) (ahead : Bool) (old : Point) (ended : Option Ended) (new : Point) : Type 0 where
   pub exchange : Exchange
-  pub mid : Option Talk
-  pub exchanges : Exchanges place proto exchange old new before mid held now
-  pub then_is : then ≡ protocol_after proto exchange.frame
-  pub sent : after ≡ with_sent mid (sent_reply exchange.told exchange.moves)
+  pub then : Option Talk
+  pub exchanges : Exchanges place exchange old then new
+  pub proto_is : new.proto ≡ protocol_after old.proto exchange.frame
+  pub sent : new.talk ≡ with_sent then (sent_reply exchange.told exchange.moves)
   pub ends : EndsBehind exchange ended
-  pub leaves : LeavesSo ahead now ended
+  pub leaves : LeavesSo ahead new.held ended
 
 -- a frame was taken, and less than the whole reply was sent
-pub record StepsUnsent (place : Place) (proto : Proto) (old : Standing) (before : Option Talk) (held : List ℕ)
-    (new : Standing) (after : Option Talk) (now : List ℕ) : Type 0 where
+pub record StepsUnsent (place : Place) (old new : Point) : Type 0 where
   pub exchange : Exchange
-  pub mid : Option Talk
-  pub exchanges : Exchanges place proto exchange old new before mid held now
-  pub unsent : SendsPrefix mid after (sent_reply exchange.told exchange.moves)
-  pub begun : length now ≤ 2
+  pub then : Option Talk
+  pub exchanges : Exchanges place exchange old then new
+  pub unsent : SendsPrefix then new.talk (sent_reply exchange.told exchange.moves)
+  pub begun : length new.held ≤ 2
 
 -- no frame came
-pub record StepsNot (old : Standing) (before : Option Talk) (held : List ℕ) (new : Standing) (after : Option Talk)
-    (now : List ℕ) : Type 0 where
-  pub same : new ≡ old
-  pub more : HoldsMore before after held now
+pub record StepsNot (old new : Point) : Type 0 where
+  pub same : new.standing ≡ old.standing
+  pub more : HoldsMore old.talk new.talk old.held new.held
 
--- a turn at a protocol, how the session ends with it, if it does, and the protocol then
-abbrev pub Steps : Place → Bool → Proto → Standing → Option Talk → List ℕ → Result (Option Ended) SessionFault → Proto
-    → Standing → Option Talk → List ℕ → Type 0
-Steps place ahead proto old before held (Ok None) then new after now =
-    StepsOver place ahead proto old before held None then new after now
-Steps place ahead proto old before held (Ok (Some ended.Bye)) then new after now =
-    StepsOver place ahead proto old before held (Some ended.Bye) then new after now
-Steps place ahead proto old before held (Ok (Some ended.Stop)) then new after now =
-    StepsOver place ahead proto old before held (Some ended.Stop) then new after now
-Steps place ahead proto old before held (Ok (Some ended.Quiet)) then new after now =
-    StepsNot old before held new after now × (now ≡ []) × HasNone after
-Steps place ahead proto old before held (Ok (Some ended.Spent)) then new after now = ⊥
-Steps place ahead proto old before held (Err fault.WriteFault) then new after now =
-    StepsUnsent place proto old before held new after now
-Steps place ahead proto old before held (Err why) then new after now =
-    StepsNot old before held new after now × StopsSo (limit_of proto) now after why
+-- a turn, and how the session ends with it, if it does
+abbrev pub Steps : Place → Bool → Point → Result (Option Ended) SessionFault → Point → Type 0
+Steps place ahead old (Ok (Some ended.Quiet)) new = StepsNot old new × (new.held ≡ []) × HasNone new.talk
+Steps place ahead old (Ok ended) new = StepsOver place ahead old ended new
+Steps place ahead old (Err fault.WriteFault) new = StepsUnsent place old new
+Steps place ahead old (Err why) new = StepsNot old new × StopsSo (limit_of old.proto) new.held new.talk why

@@ -89,7 +89,7 @@ pub fn answer<K: Desk, R: Threads + Wait + Sync, G: Gate>(
 }
 
 /// A reply that is no path. What a board of one's own holds is known from here.
-fn told_at<K: Desk>(desk: &K, reply: Reply) -> Answered
+pub(crate) fn told_at<K: Desk>(desk: &K, reply: Reply) -> Answered
     ensures reply { result.reply ≡ reply }
     ensures path { result.path ≡ None }
     ensures own { HoldsItsOwn (K.place desk.now) (stands K.seen K.version K.looks desk.now) }
@@ -112,7 +112,7 @@ fn answer_query<K: Desk, R: Wait>(rt: &R, desk: &mut K, start: Cell, goal: Cell)
 }
 
 /// Whether the published version is held, after a look where that is not known at no cost.
-fn holds_published<K: Desk, R: Wait>(rt: &R, desk: &mut K) -> bool
+pub(crate) fn holds_published<K: Desk, R: Wait>(rt: &R, desk: &mut K) -> bool
     ensures place { K.place desk.new ≡ K.place desk.old }
     ensures looks { Raises (K.looks desk.old) (K.looks desk.new) }
     ensures freshens { Freshens (K.place desk.old) (K.seen desk.old) (K.version desk.old) result
@@ -148,7 +148,7 @@ fn answer_from(version: &Version, start: Cell, goal: Cell) -> Answered
 }
 
 /// Why a query is refused, as a reply tells it.
-fn why_of(why: QueryRefusal) -> QueryWhy
+pub(crate) fn why_of(why: QueryRefusal) -> QueryWhy
     ensures { result ≡ why_of why }
 {
     match why {

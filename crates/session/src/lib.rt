@@ -19,6 +19,7 @@ mod means;
 pub mod seated;
 mod sending;
 pub mod sessions;
+mod telling;
 
 pub use answers::{Answered, PathAt, answer};
 pub use boards::{MAX_DOORS, ServeRefused, Served, serve_board};

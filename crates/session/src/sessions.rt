@@ -8,13 +8,13 @@ ghost use Rattle.query_proto.specs.declared.requests.Request.TheVariants.{Stop};
 ghost use Rattle.wire.specs.Causes.{Rose};
 ghost use Rattle.session.specs.Conversations.{Conversed, HasCause, protocol_after};
 ghost use Rattle.session.specs.Standing.{stands};
-ghost use Rattle.session.specs.Turns.{AnswersSo, EndsBy, Steps, TellsBack, protocol_of};
+ghost use Rattle.session.specs.Turns.{AnswersSo, EndsBy, Steps, TellsBack, point, protocol_of};
 
-use crate::answers::{Answered, answer};
 use crate::desk::Desk;
 use crate::frames::Held;
 use crate::means::Means;
-use crate::sending::send_reply;
+use crate::sending::ReplyRoom;
+use crate::telling::tell;
 use build_pool::Gate;
 use query_proto::{Proto, Reply, Request, decode_request, frame_limit};
 use std::alloc::Global;
@@ -87,18 +87,34 @@ pub fn serve_link<K: Desk, L: Link, R: Threads + Wait + Sync, G: Gate>(
     ensures writes { L.write_faults link.old ≤ L.write_faults link.new }
 {
     let means = Means::new(rt, alloc, workers, gate);
-    let mut held = Held::new();
-    serve_frames(&means, desk, link, &mut held)
+    let mut session = Session {
+        proto: Proto::Start,
+        held: Held::new(),
+        room: ReplyRoom::new(),
+    };
+    serve_frames(&means, desk, link, &mut session)
 }
 
-/// Answers frame after frame, where nothing is held yet.
+/// A session under way.
+#[derive(Drop)]
+struct Session {
+    /// The protocol that it speaks.
+    proto: Proto,
+    /// What came in and is not used up.
+    held: Held,
+    /// Where its replies are put together.
+    room: ReplyRoom,
+}
+
+/// Answers frame after frame, in a session in which nothing came in yet.
 fn serve_frames<K: Desk, L: Link, R: Threads + Wait + Sync, G: Gate>(
     means: &Means<'_, R, G>,
     desk: &mut K,
     link: &mut L,
-    held: &mut Held,
+    session: &mut Session,
 ) -> Result<Ended, SessionFault>
-    requires none { held.old ≡ [] }
+    requires start { session.old.proto ≡ Start }
+    requires none { session.old.held ≡ [] }
     ensures place { K.place desk.new ≡ K.place desk.old }
     ensures talk { Conversed (K.place desk.old) (stands K.seen K.version K.looks desk.old)
         (L.talk link.old) result (stands K.seen K.version K.looks desk.new) (L.talk link.new) }
@@ -107,10 +123,9 @@ fn serve_frames<K: Desk, L: Link, R: Threads + Wait + Sync, G: Gate>(
     ensures reads { L.read_faults link.old ≤ L.read_faults link.new }
     ensures writes { L.write_faults link.old ≤ L.write_faults link.new }
 {
-    let mut proto = Proto::Start;
     for count in 0..MAX_REQUESTS {
         let ahead = count + 1 < MAX_REQUESTS;
-        match serve_next(means, desk, link, held, &mut proto, ahead) {
+        match serve_next(means, desk, link, session, ahead) {
             Ok(None) => {}
             Ok(Some(ended)) => return Ok(ended),
             Err(fault) => return Err(fault),
@@ -125,27 +140,27 @@ fn serve_next<K: Desk, L: Link, R: Threads + Wait + Sync, G: Gate>(
     means: &Means<'_, R, G>,
     desk: &mut K,
     link: &mut L,
-    held: &mut Held,
-    proto: &mut Proto,
+    session: &mut Session,
     ahead: bool,
 ) -> Result<Option<Ended>, SessionFault>
-    requires begun { length held.old ≤ 2 }
+    requires begun { length session.old.held ≤ 2 }
     ensures place { K.place desk.new ≡ K.place desk.old }
-    ensures steps { Steps (K.place desk.old) ahead proto.old
-        (stands K.seen K.version K.looks desk.old) (L.talk link.old) held.old result proto.new
-        (stands K.seen K.version K.looks desk.new) (L.talk link.new) held.new }
+    ensures steps { Steps (K.place desk.old) ahead
+        (point session.old (stands K.seen K.version K.looks desk.old) (L.talk link.old)) result
+        (point session.new (stands K.seen K.version K.looks desk.new) (L.talk link.new)) }
     ensures cause { IfErr result (HasCause (L.read_faults link.old) (L.read_faults link.new)
         (L.write_faults link.old) (L.write_faults link.new)) }
     ensures reads { L.read_faults link.old ≤ L.read_faults link.new }
     ensures writes { L.write_faults link.old ≤ L.write_faults link.new }
 {
-    let Some(size) = held.next_frame(link, frame_limit(*proto), ahead)? else {
+    let limit = frame_limit(session.proto);
+    let Some(size) = session.held.next_frame(link, limit, ahead)? else {
         return Ok(Some(Ended::Quiet));
     };
-    let frame = held.frame(size);
-    let served = serve_frame(means, desk, link, *proto, frame);
-    *proto = protocol_after(*proto, frame);
-    held.pass(size);
+    let frame = session.held.frame(size);
+    let served = serve_frame(means, desk, link, session.proto, frame, &mut session.room);
+    session.proto = protocol_after(session.proto, frame);
+    session.held.pass(size);
     match served {
         Ok(ended) => Ok(ended),
         Err(_) => Err(SessionFault::WriteFault),
@@ -184,7 +199,7 @@ fn protocol_of(first: &Request) -> Proto
     }
 }
 
-/// Answers a frame and sends the reply. `Some` where the session ends behind it.
+/// Answers a frame and sends the reply, put together in the room. `Some` where the session ends behind it.
 ///
 /// # Errors
 ///
@@ -195,6 +210,7 @@ fn serve_frame<K: Desk, L: Link, R: Threads + Wait + Sync, G: Gate>(
     link: &mut L,
     proto: Proto,
     frame: &[u8],
+    room: &mut ReplyRoom,
 ) -> Result<Option<Ended>, Failed>
     requires fits { length frame.now ≤ MAX_REQUEST }
     ensures place { K.place desk.new ≡ K.place desk.old }
@@ -205,44 +221,41 @@ fn serve_frame<K: Desk, L: Link, R: Threads + Wait + Sync, G: Gate>(
     ensures writes { L.write_faults link.old ≤ L.write_faults link.new }
     ensures reads { L.read_faults link.new ≡ L.read_faults link.old }
 {
-    let (answered, ended) = answer_frame(means, desk, proto, frame);
-    match send_reply(link, &answered, desk.held()) {
+    room.clear();
+    let (reply, ended) = answer_frame(means, desk, proto, frame, room);
+    match room.send(link, &reply) {
         Ok(()) => Ok(ended),
         Err(failed) => Err(failed),
     }
 }
 
-/// Answers a frame, read at the protocol, and says whether the session ends behind the reply.
+/// Answers a frame, read at the protocol, writes the moves behind the reply into a room that holds none, and says
+/// whether the session ends behind it.
 fn answer_frame<K: Desk, R: Threads + Wait + Sync, G: Gate>(
     means: &Means<'_, R, G>,
     desk: &mut K,
     proto: Proto,
     frame: &[u8],
-) -> (Answered, Option<Ended>)
+    room: &mut ReplyRoom,
+) -> (Reply, Option<Ended>)
     requires fits { length frame.now ≤ MAX_REQUEST }
+    requires none { room.old ≡ [] }
     ensures place { K.place desk.new ≡ K.place desk.old }
     ensures answers { AnswersSo (K.place desk.old) proto frame.now
-        (stands K.seen K.version K.looks desk.old) (K.version desk.new) result.0 result.1
+        (stands K.seen K.version K.looks desk.old) result.0 room.new result.1
         (stands K.seen K.version K.looks desk.new) }
 {
     match decode_request(frame, proto) {
         Ok(request) => {
-            let answered = answer(
-                means.rt,
-                means.alloc,
-                desk,
-                request,
-                means.workers,
-                means.gate,
-            );
-            (answered, end_of(&request, answered.reply))
+            let reply = tell(means, desk, request, room);
+            (reply, end_of(&request, reply))
         }
         Err(what) => {
             let told = Reply::Malformed {
                 kind: what.kind,
                 length: what.length as u16,
             };
-            (Answered::of(told), None)
+            (told, None)
         }
     }
 }

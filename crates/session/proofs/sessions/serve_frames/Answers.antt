@@ -1,17 +1,15 @@
-use Rattle.std.proofs.Common.{◌+◌, nat_lt, refl, subst, sym, ◌∙◌, arith}
-use Rattle.query_proto.specs.declared.protocols.Proto.TheVariants.{Start}
+use Rattle.std.proofs.Common.{◌+◌, nat_lt, refl, ◌∙◌, arith}
 use Rattle.session.specs.declared.sessions.TheConstants.{MAX_REQUESTS}
-use Rattle.session.specs.Standing.{standing}
-use Rattle.session.proofs.Talking.{InTalk, no_more, talk_ends_at, talk_fails_at, talk_more_at, talk_none, talk_spent}
+use Rattle.session.specs.Standing.{stands}
+use Rattle.session.specs.Turns.{point}
+use Rattle.session.proofs.Talking.{no_more, talk_ends_at, talk_fails_at, talk_more_at, talk_none, talk_spent}
 use Rattle.session.proofs.sessions.serve_frames.Goals as goal
 
 pub loop-count-init : goal.loop-count-init
 loop-count-init g c =
-    let place = g.K.Desk.place c.args.desk.now in
-    let old = standing (g.K.Desk.seen c.args.desk.now) (g.K.Desk.version c.args.desk.now) (g.K.Desk.looks c.args.desk.now) in
-    let before = g.L.Link.talk c.args.link.now in
+    let start = point c.args.session.now (stands g.K.Desk.seen g.K.Desk.version g.K.Desk.looks c.args.desk.now) (g.L.Link.talk c.args.link.now) in
     record {
-      talk = subst (InTalk place old before 0 Start old before) (sym c.requires.none) (talk_none place old before);
+      talk = talk_none (g.K.Desk.place c.args.desk.now) start c.requires.start c.requires.none;
       place = refl;
       reads = omega arith;
       writes = omega arith;
@@ -20,20 +18,21 @@ loop-count-init g c =
 pub returns-in-Ok-Some-clause-talk : goal.returns-in-Ok-Some-clause-talk
 returns-in-Ok-Some-clause-talk g c =
     let inv = c.loop-count.invariant in
-    talk_ends_at _ _ _ _ _ _ _ _ inv.talk _ _ _ _ _ _ _ c.serve_next.new.held inv.place c.in-Ok-Some.field-0-is
-    c.in-Ok-Some.ensures.steps c.loop-count-test.true
+    let new = point c.serve_next.new.session (stands g.K.Desk.seen g.K.Desk.version g.K.Desk.looks c.serve_next.new.desk) (g.L.Link.talk c.serve_next.new.link) in
+    talk_ends_at _ _ _ _ _ inv.talk _ _ _ _ new inv.place c.in-Ok-Some.field-0-is c.in-Ok-Some.ensures.steps c.loop-count-test.true
 
 pub returns-in-Err-clause-talk : goal.returns-in-Err-clause-talk
 returns-in-Err-clause-talk g c =
     let inv = c.loop-count.invariant in
-    talk_fails_at _ _ _ _ _ _ _ _ inv.talk _ (nat_lt (c.loop-count.count + 1) MAX_REQUESTS) c.in-Err.fault _ _ _ c.serve_next.new.held
-    inv.place c.in-Err.ensures.steps c.loop-count-test.true
+    let new = point c.serve_next.new.session (stands g.K.Desk.seen g.K.Desk.version g.K.Desk.looks c.serve_next.new.desk) (g.L.Link.talk c.serve_next.new.link) in
+    talk_fails_at _ _ _ _ _ inv.talk _ (nat_lt (c.loop-count.count + 1) MAX_REQUESTS) c.in-Err.fault new inv.place c.in-Err.ensures.steps c.loop-count-test.true
 
 pub loop-count-preserved : goal.loop-count-preserved
 loop-count-preserved g c =
     let inv = c.loop-count.invariant in
+    let new = point c.serve_next.new.session (stands g.K.Desk.seen g.K.Desk.version g.K.Desk.looks c.serve_next.new.desk) (g.L.Link.talk c.serve_next.new.link) in
     record {
-      talk = talk_more_at _ _ _ _ _ _ _ _ inv.talk _ _ _ _ _ _ c.serve_next.new.held inv.place c.in-Ok-None.field-0-is
+      talk = talk_more_at _ _ _ _ _ inv.talk _ _ _ new inv.place c.in-Ok-None.field-0-is
           c.in-Ok-None.ensures.steps (λ e. no_more (c.loop-count.count + 1) e);
       place = c.in-Ok-None.ensures.place ∙ inv.place;
       reads = omega (arith, inv.reads, c.in-Ok-None.ensures.reads);
@@ -42,5 +41,5 @@ loop-count-preserved g c =
 
 pub returns-clause-talk : goal.returns-clause-talk
 returns-clause-talk g c =
-    talk_spent _ _ _ _ _ _ _ _ c.loop-count.invariant.talk
+    talk_spent _ _ _ _ _ c.loop-count.invariant.talk
     (omega (arith, c.loop-count-test.false, c.loop-count.auto.count-end))

@@ -1,12 +1,13 @@
 use Rattle.std.proofs.Common.{◌≡◌, ◌≤◌}
-use Rattle.session.specs.Standing.{standing}
+use Rattle.session.specs.Standing.{stands}
+use Rattle.session.specs.Turns.{point}
 use Rattle.session.proofs.Talking.{InTalk}
 use Rattle.session.proofs.sessions.serve_frames.Given as goal
 
 abbrev pub invariant-loop-count : goal.invariant-loop-count
 invariant-loop-count g l = record {
-  talk : InTalk (g.K.Desk.place l.fn.desk) (standing (g.K.Desk.seen l.fn.desk) (g.K.Desk.version l.fn.desk) (g.K.Desk.looks l.fn.desk)) (g.L.Link.talk l.fn.link)
-      l.count l.proto (standing (g.K.Desk.seen l.desk) (g.K.Desk.version l.desk) (g.K.Desk.looks l.desk)) (g.L.Link.talk l.link) l.held;
+  talk : InTalk (g.K.Desk.place l.fn.desk) (stands g.K.Desk.seen g.K.Desk.version g.K.Desk.looks l.fn.desk) (g.L.Link.talk l.fn.link)
+      l.count (point l.session (stands g.K.Desk.seen g.K.Desk.version g.K.Desk.looks l.desk) (g.L.Link.talk l.link));
   place : g.K.Desk.place l.desk ≡ g.K.Desk.place l.fn.desk;
   reads : g.L.Link.read_faults l.fn.link ≤ g.L.Link.read_faults l.link;
   writes : g.L.Link.write_faults l.fn.link ≤ g.L.Link.write_faults l.link;
