@@ -1,0 +1,10 @@
+pub mod Gaps
+pub mod Finding
+pub mod ByKeys
+pub mod Reading
+pub mod Leading
+pub mod Balls
+pub mod Keeping
+pub mod Deciding
+pub mod NewRows
+pub mod Beginning

@@ -1,0 +1,240 @@
+-- The row of a source whose first sets stay, over the list of cells with one less or one more.
+use Rattle.std.proofs.Common.{◌≡◌, ℕ, ◌+◌, ◌<◌, ◌≤◌, ◌↔◌, Bool, List, [], ◌∷◌, ◌++◌, length, map, take, set, get_or, slice_index, All, inl, inr, sym, ap, subst, ◌∙◌, arith, insert, remove}
+use Rattle.std.proofs.lemmas.Bool.{cases_lt, cases_eq}
+use Rattle.std.proofs.lemmas.List.{length-map, map-append, take_more}
+use Rattle.std.proofs.lemmas.List.Elements.{All-cons, All-from_get_or}
+use Rattle.std.proofs.lemmas.List.Edits.{length-insert, get_or-insert_below, get_or-insert_at, get_or-insert_above, length-remove, get_or-remove_below, get_or-remove_above}
+use Rattle.run_pack.specs.declared.Run.{Run}
+use Rattle.run_pack.specs.declared.TheConstants.{MAX_PLACES}
+use Rattle.run_pack.specs.Runs.{IsPacked, no_run, run_of_word}
+use Rattle.run_pack.proofs.Fewest.{IsPacked-from_tight}
+use Rattle.run_pack.proofs.RowLemmas.{length-row}
+use Rattle.row_edit.specs.declared.PlaceSet.{PlaceSet}
+use Rattle.row_edit.specs.Edits.{IsSetOf, IsKnownRow, TakesOut, PutsIn}
+use Rattle.moves.specs.declared.Cell.{Cell}
+use Rattle.moves.specs.declared.Move.{Move}
+use Rattle.moves.specs.Maps.{Map}
+use Rattle.moves.specs.MoveSets.{Has}
+use Rattle.moves.specs.FirstSets.{IsFirstMove}
+use Rattle.moves.specs.ComponentLaws.{HasJust}
+use Rattle.moves.specs.FirstSetLists.{cell_of, AreFirstSets}
+use Rattle.moves.proofs.MovesInSets.{sets_by_moves}
+use Rattle.row_store.specs.Rows.{row_at, AreRows}
+use Rattle.kept_sources.specs.Balls.{without, HaveSameFirst}
+use Rattle.row_store.specs.Comps.{Comp, IsComp}
+use Rattle.build_pool.specs.Pieces.{IsRowOver, AreWordsOver, AreSome}
+use Rattle.build_pool.proofs.Filling.{first_over, row_over, put_size, part_put}
+use Rattle.kept_rows.specs.Gaps.{past, IsPart}
+use Rattle.kept_rows.specs.Kept.{Searched, AreFound, AreKept, IsOfLane}
+use Rattle.kept_rows.proofs.Gaps.{past_before, past_behind, gap_inside, past_inside, place_back}
+use Rattle.kept_rows.proofs.Keeping.{just_part, here_inside, there_inside, source_is, first_over_whole, first_over_part, keeps_first}
+
+-- the row whose runs these words keep
+abbrev pub map_words : List ℕ → List Run
+map_words words = map run_of_word words
+
+-- ---- lists of sets without one place, and with one more
+
+read_removed : (sets : List ℕ) (gap place : ℕ) → gap < length sets → get_or (remove sets gap) place 0 ≡ get_or sets (past gap place) 0
+read_removed sets gap place inside = elim (cases_lt place gap) [
+  | inl before ↦ get_or-remove_below sets gap 0 place before inside ∙ ap (λ k. get_or sets k 0) (sym (past_before gap place before))
+  | inr behind ↦ get_or-remove_above sets gap 0 place behind inside ∙ ap (λ k. get_or sets k 0) (sym (past_behind gap place behind))
+]
+
+read_inserted : (sets : List ℕ) (gap set place : ℕ) → gap ≤ length sets → get_or (insert sets gap set) (past gap place) 0 ≡ get_or sets place 0
+read_inserted sets gap set place inside = elim (cases_lt place gap) [
+  | inl before ↦ ap (λ k. get_or (insert sets gap set) k 0) (past_before gap place before) ∙ get_or-insert_below sets gap set 0 place before inside
+  | inr behind ↦ ap (λ k. get_or (insert sets gap set) k 0) (past_behind gap place behind) ∙ get_or-insert_above sets gap set 0 place behind inside
+]
+
+module _ (whole part : List Cell) (gap : ℕ) (is : IsPart whole part gap) (map other : Map) (from : Cell)
+    (same : (to : ℕ) → to < length part → HaveSameFirst map other from (cell_of part to)) (sets : List ℕ) where
+  -- first sets to the cells of the longer list, without one
+  pub sets_without : AreFirstSets map from whole sets → AreFirstSets other from part (remove sets gap)
+  sets_without first =
+      let inside : gap < length sets = omega (arith, first.whole, gap_inside whole part gap is) in
+      let size : length (remove sets gap) ≡ length part = omega (arith, length-remove sets gap inside, first.whole, is.size) in
+      record {
+        whole = size;
+        bytes = All-from_get_or (λ set. set < 256) (remove sets gap) 0 (λ k l.
+            subst (λ set. set < 256) (sym (read_removed sets gap k inside)) (first.bytes (past gap k) 0 (omega (arith, first.whole, size, past_inside whole part gap is k (omega arith)))));
+        each = λ place l move.
+            let read = read_removed sets gap place inside in
+            let old = first.each (past gap place) (past_inside whole part gap is place l) move in
+            let there : cell_of whole (past gap place) ≡ cell_of part place = sym (is.same place l) in (
+              λ has. (same place l move).0 (subst (λ c. IsFirstMove map from c move) there (old.0 (subst (λ set. Has set move) read has))),
+              λ leads. subst (λ set. Has set move) (sym read) (old.1 (subst (λ c. IsFirstMove map from c move) (sym there) ((same place l move).1 leads))),
+            );
+      }
+
+  -- first sets to the cells of the shorter list, with one more
+  pub sets_with : (set : ℕ) → set < 256 → ((move : Move) → Has set move ↔ IsFirstMove map from (cell_of whole gap) move) → AreFirstSets other from part sets → AreFirstSets map from whole (insert sets gap set)
+  sets_with set byte own first =
+      let inside : gap ≤ length sets = omega (arith, first.whole, is.inside) in
+      let size : length (insert sets gap set) ≡ length whole = omega (arith, length-insert sets gap set inside, first.whole, is.size) in
+      record {
+        whole = size;
+        bytes = All-from_get_or (λ s. s < 256) (insert sets gap set) 0 (λ k l. elim (cases_eq k gap) [
+          | inl here ↦ subst (λ s. s < 256) (sym (ap (λ j. get_or (insert sets gap set) j 0) here ∙ get_or-insert_at sets gap set 0 inside)) byte
+          | inr apart ↦
+              let back = place_back whole part gap is k (omega (arith, size)) apart in
+              subst (λ s. s < 256) (sym (ap (λ j. get_or (insert sets gap set) j 0) (sym back.2) ∙ read_inserted sets gap set back.0 inside)) (first.bytes back.0 0 (let b = back.1 in omega (arith, first.whole)))
+        ]);
+        each = λ place l move. elim (cases_eq place gap) [
+          | inl here ↦
+              let read : get_or (insert sets gap set) place 0 ≡ set = ap (λ j. get_or (insert sets gap set) j 0) here ∙ get_or-insert_at sets gap set 0 inside in
+              subst (λ s. Has s move ↔ IsFirstMove map from (cell_of whole place) move) (sym read) (subst (λ p. Has set move ↔ IsFirstMove map from (cell_of whole p) move) (sym here) (own move))
+          | inr apart ↦
+              let back = place_back whole part gap is place l apart in
+              let read : get_or (insert sets gap set) place 0 ≡ get_or sets back.0 0 = ap (λ j. get_or (insert sets gap set) j 0) (sym back.2) ∙ read_inserted sets gap set back.0 inside in
+              let there : cell_of part back.0 ≡ cell_of whole place = is.same back.0 back.1 ∙ ap (cell_of whole) back.2 in
+              let old = first.each back.0 back.1 move in (
+                λ has. subst (λ c. IsFirstMove map from c move) there ((same back.0 back.1 move).1 (old.0 (subst (λ s. Has s move) read has))),
+                λ leads. subst (λ s. Has s move) (sym read) (old.1 ((same back.0 back.1 move).0 (subst (λ c. IsFirstMove map from c move) (sym there) leads))),
+              )
+        ];
+      }
+
+-- a set with the first moves to a place is the set there
+set_there : (map : Map) (from : Cell) (cells : List Cell) (sets : List ℕ) (place set : ℕ) → AreFirstSets map from cells sets → place < length cells → set < 256
+    → ((move : Move) → Has set move ↔ IsFirstMove map from (cell_of cells place) move) → slice_index sets place ≡ set
+set_there map from cells sets place set first l byte own =
+    sets_by_moves (slice_index sets place) set (first.bytes place 0 (omega (arith, first.whole))) byte (λ move. (
+      λ has. (own move).1 ((first.each place l move).0 has),
+      λ has. (first.each place l move).1 ((own move).0 has),
+    ))
+
+-- the rows of a component, over each map that has just its cells
+pub rows_over : (cells : List Cell) (rows : List (List Run)) → AreRows cells rows → (place : ℕ) → place < length cells → IsRowOver cells place (row_at rows place)
+rows_over cells rows are place l =
+    let row = are.each place l in
+    row_over cells place row.sets (row_at rows place) (first_over are.map cells place row.sets are.just row.first) row.tight
+
+-- words of a row over cells of which there is a map are few
+pub words_over : (map : Map) (cells : List Cell) (place : ℕ) (words : List ℕ) → HasJust map cells → length cells ≤ MAX_PLACES → IsRowOver cells place (map_words words) → AreWordsOver cells place words
+words_over map cells place words just few over = record {
+  few =
+      (let row = over.over map just in
+      omega (arith, length-map words run_of_word, length-row _ _ row.tight.row, row.first.whole));
+  row = over;
+}
+
+module _ (whole part : Searched) (gap : ℕ) (marks : List Bool) (found : AreFound whole part gap marks) (map : Map) (just : HasJust map whole.cells)
+    (place : ℕ) (sets : List ℕ) (inside : place < length part.cells) (kept : AreKept whole part gap marks place sets) where
+  abbrev hole_of : Cell
+  hole_of = cell_of whole.cells gap
+
+  abbrev from : Cell
+  from = cell_of part.cells place
+
+  same : (to : ℕ) → to < length part.cells → HaveSameFirst map (without map hole_of) from (cell_of part.cells to)
+  same to l = keeps_first whole part gap marks found map just place sets inside kept to l
+
+  own : (move : Move) → Has (slice_index sets 15) move ↔ IsFirstMove map from hole_of move
+  own move = subst (λ p. Has (slice_index sets 15) move ↔ IsFirstMove map from (cell_of whole.cells p) move) found.moved.last (first_over_whole whole part gap marks found map just place sets inside kept 15 (omega arith) move)
+
+  -- a known set over the longer list
+  known_whole : (first : List ℕ) → AreFirstSets map from whole.cells first → (one : PlaceSet) → IsOfLane whole.tile.sources sets one → IsSetOf first one
+  known_whole first are one of =
+      let at : one.place < length whole.cells = subst (λ p. p < length whole.cells) (sym of.place) (there_inside whole part gap marks found map just of.lane (let e = of.early in omega arith)) in
+      record {
+        inside = omega (arith, are.whole);
+        is = ap (slice_index first) of.place
+            ∙ set_there map from whole.cells first (slice_index whole.tile.sources of.lane) (slice_index sets of.lane) are (there_inside whole part gap marks found map just of.lane (let e = of.early in omega arith)) (kept.bytes of.lane)
+            (λ move. first_over_whole whole part gap marks found map just place sets inside kept of.lane (let e = of.early in omega arith) move) ∙ sym of.set;
+      }
+
+  -- a known set over the shorter list
+  known_part : (first : List ℕ) → AreFirstSets (without map hole_of) from part.cells first → (one : PlaceSet) → IsOfLane part.tile.sources sets one → IsSetOf first one
+  known_part first are one of =
+      let at : one.place < length part.cells = subst (λ p. p < length part.cells) (sym of.place) (here_inside whole part gap marks found map just of.lane of.early) in
+      record {
+        inside = omega (arith, are.whole);
+        is = ap (slice_index first) of.place
+            ∙ set_there (without map hole_of) from part.cells first (slice_index part.tile.sources of.lane) (slice_index sets of.lane) are (here_inside whole part gap marks found map just of.lane of.early) (kept.bytes of.lane)
+            (λ move. first_over_part whole part gap marks found map just place sets inside kept of.lane of.early move) ∙ sym of.set;
+      }
+
+  module _ (words new : List ℕ) (known : List PlaceSet) where
+    -- the row without the cell
+    pub row_without : IsRowOver whole.cells (past gap place) (map_words words) → All (IsOfLane whole.tile.sources sets) known
+        → TakesOut words (length whole.cells) (record { place = gap; set = slice_index sets 15 }) known [] new → IsRowOver part.cells place (map_words new)
+    row_without former lanes takes =
+        let old = former.over map just in
+        let first : AreFirstSets map from whole.cells old.sets = subst (λ c. AreFirstSets map c whole.cells old.sets) (sym (source_is whole part gap marks found map just place sets inside kept)) old.first in
+        let out : PlaceSet = record { place = gap; set = slice_index sets 15 } in
+        let hole_set : IsSetOf old.sets out = record {
+          inside = omega (arith, first.whole, gap_inside whole.cells part.cells gap found.cells);
+          is = set_there map from whole.cells old.sets gap (slice_index sets 15) first (gap_inside whole.cells part.cells gap found.cells) (kept.bytes 15) own;
+        } in
+        let given : IsKnownRow words (length whole.cells) (out ∷ known) old.sets = record {
+          packed = IsPacked-from_tight (map_words words) old.sets old.tight;
+          count = first.whole;
+          agree = All-cons (λ one. IsSetOf old.sets one) out known hole_set (λ k d l. known_whole old.sets first (get_or known k d) (lanes k d l));
+        } in
+        let taken = takes old.sets given in
+        row_over part.cells place (remove old.sets gap) (map_words new)
+        (first_over (without map hole_of) part.cells place (remove old.sets gap) (just_part whole part gap marks found map just)
+        (sets_without whole.cells part.cells gap found.cells map (without map hole_of) from same old.sets first))
+        (subst (λ ws. IsPacked (map_words ws) (remove old.sets gap)) (sym taken.behind) taken.packed).tight
+
+    -- the row with the cell
+    pub row_with : IsRowOver part.cells place (map_words words) → All (IsOfLane part.tile.sources sets) known
+        → PutsIn words (length part.cells) (record { place = gap; set = slice_index sets 15 }) known [] new → IsRowOver whole.cells (past gap place) (map_words new)
+    row_with former lanes puts =
+        let old = former.over (without map hole_of) (just_part whole part gap marks found map just) in
+        let given : IsKnownRow words (length part.cells) known old.sets = record {
+          packed = IsPacked-from_tight (map_words words) old.sets old.tight;
+          count = old.first.whole;
+          agree = λ k d l. known_part old.sets old.first (get_or known k d) (lanes k d l);
+        } in
+        let put = puts old.sets given in
+        let first : AreFirstSets map from whole.cells (insert old.sets gap (slice_index sets 15)) =
+        sets_with whole.cells part.cells gap found.cells map (without map hole_of) from same old.sets (slice_index sets 15) (kept.bytes 15) own old.first in
+        row_over whole.cells (past gap place) (insert old.sets gap (slice_index sets 15)) (map_words new)
+        (first_over map whole.cells (past gap place) (insert old.sets gap (slice_index sets 15)) just
+        (subst (λ c. AreFirstSets map c whole.cells (insert old.sets gap (slice_index sets 15))) (source_is whole part gap marks found map just place sets inside kept) first))
+        (subst (λ ws. IsPacked (map_words ws) (insert old.sets gap (slice_index sets 15))) (sym put.behind) put.packed).tight
+
+-- ---- what the code has
+
+module _ (former : Comp) (comp : IsComp former) (whole part : Searched) (gap : ℕ) (marks : List Bool) (found : AreFound whole part gap marks) (place : ℕ) (sets : List ℕ)
+    (inside : place < length part.cells) (kept : AreKept whole part gap marks place sets) (words known_at : List ℕ) (known : List PlaceSet) (new : List ℕ) where
+  -- the new row over the shorter list
+  pub kept_without : former.cells ≡ whole.cells → (there count : ℕ) → there ≡ past gap place → map_words words ≡ row_at former.rows there → whole.tile.sources ≡ known_at → All (IsOfLane known_at sets) known
+      → count ≡ length whole.cells → TakesOut words count (record { place = gap; set = slice_index sets 15 }) known [] new → AreWordsOver part.cells place new
+  kept_without cells there count past_is read sources lanes size takes =
+      let just : HasJust comp.rows.map whole.cells = subst (HasJust comp.rows.map) cells comp.rows.just in
+      let short : past gap place < length whole.cells = past_inside whole.cells part.cells gap found.cells place inside in
+      let few : length part.cells ≤ MAX_PLACES = omega (arith, comp.few, ap length cells, found.cells.size) in
+      let old : IsRowOver whole.cells (past gap place) (map_words words) =
+      subst (λ row. IsRowOver whole.cells (past gap place) row) (sym (read ∙ ap (row_at former.rows) past_is))
+      (subst (λ list. IsRowOver list (past gap place) (row_at former.rows (past gap place))) cells (rows_over former.cells former.rows comp.rows (past gap place) (omega (arith, ap length cells)))) in
+      words_over (without comp.rows.map (cell_of whole.cells gap)) part.cells place new (just_part whole part gap marks found comp.rows.map just) few
+      (row_without whole part gap marks found comp.rows.map just place sets inside kept words new known old (subst (λ at. All (IsOfLane at sets) known) (sym sources) lanes)
+      (subst (λ n. TakesOut words n (record { place = gap; set = slice_index sets 15 }) known [] new) size takes))
+
+  -- the new row over the longer list
+  pub kept_with : former.cells ≡ part.cells → (board : Map) × HasJust board whole.cells → length whole.cells ≤ MAX_PLACES → (there count : ℕ) → there ≡ past gap place → map_words words ≡ row_at former.rows place
+      → part.tile.sources ≡ known_at → All (IsOfLane known_at sets) known → count ≡ length part.cells → PutsIn words count (record { place = gap; set = slice_index sets 15 }) known [] new → AreWordsOver whole.cells there new
+  kept_with cells board few there count past_is read sources lanes size puts =
+      let old : IsRowOver part.cells place (map_words words) =
+      subst (λ row. IsRowOver part.cells place row) (sym read)
+      (subst (λ list. IsRowOver list place (row_at former.rows place)) cells (rows_over former.cells former.rows comp.rows place (omega (arith, ap length cells)))) in
+      subst (λ at. AreWordsOver whole.cells at new) (sym past_is)
+      (words_over board.0 whole.cells (past gap place) new board.1 few
+      (row_with whole part gap marks found board.0 board.1 place sets inside kept words new known old (subst (λ at. All (IsOfLane at sets) known) (sym sources) lanes)
+      (subst (λ n. PutsIn words n (record { place = gap; set = slice_index sets 15 }) known [] new) size puts)))
+
+-- one run more of a row that is read
+pub read_more : (words : List ℕ) (row : List Run) (number word : ℕ) → map_words words ≡ take number row → number < length row → run_of_word word ≡ get_or row number no_run
+    → map_words (words ++ word ∷ []) ≡ take (number + 1) row
+read_more words row number word read l is = map-append run_of_word words (word ∷ []) ∙ ap (λ runs. runs ++ run_of_word word ∷ []) read ∙ ap (λ run. take number row ++ run ∷ []) is ∙ sym (take_more row number no_run l)
+
+-- rows that are some, and one more
+pub some_put : (cells : List Cell) (rows new : List (List Run)) (place : ℕ) (words : List ℕ) → AreSome cells rows → place < length rows → AreWordsOver cells place words → new ≡ set rows place (map_words words)
+    → AreSome cells new
+some_put cells rows new place words some within over there = record {
+  size = put_size cells rows new place (map_words words) within over.row there ∙ some.size;
+  part = part_put cells rows new place (map_words words) within over.row there some.part;
+}

@@ -1,0 +1,5 @@
+use Rattle.std.proofs.Common.{◌<◌}
+use Rattle.kept_rows.proofs.targets.add_near.Given as goal
+
+abbrev pub invariant-loop-place : goal.invariant-loop-place
+invariant-loop-place l = l.targets.ball < 16

@@ -1,0 +1,4 @@
+pub mod Gaps
+pub mod Changes
+pub mod Targets
+pub mod Kept
