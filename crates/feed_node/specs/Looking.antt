@@ -1,8 +1,11 @@
 -- What a feed has of the board's edits.
-use Rattle.std.specs.Prelude.{◌≡◌, ℕ, ◌+◌, ◌≤◌, List, ◌++◌, length, take, drop}
+use Rattle.std.specs.Prelude.{◌≡◌, ◌⊎◌, ℕ, ◌+◌, ◌≤◌, List, ◌++◌, length, take, drop}
 use Rattle.edit_log.specs.declared.edit.Edit.{Edit}
 use Rattle.path_core.specs.declared.entry.Entry.{Entry}
-use Rattle.path_core.specs.Histories.{accepted_count, edits_of}
+use Rattle.path_core.specs.Histories.{accepted_count, edits_of, published_prefix}
+use Rattle.path_core.specs.Passes.{BeginsWith}
+use Rattle.path_board.specs.declared.pass.Pass.{Pass}
+use Rattle.path_board.specs.Passes.{held_of, seen_of}
 use Rattle.follow_proto.specs.declared.TheConstants.{MAX_SENT}
 use Rattle.follow_proto.specs.Feeds.{Message}
 use Rattle.follow_proto.specs.Feeds.Message.{Edits, Ahead, NoMemory}
@@ -36,3 +39,15 @@ IsInside edits found.NoMemory = Unit {0}
 -- what is told a follower that knows so many edits
 abbrev pub told_of : ℕ → List Edit → Finding → Told
 told_of known edits finding = record { known = known; message = message_of known edits finding }
+
+-- the version with that prefix was the published one of a history between the two
+pub record WasPublished (before after : List Entry) (prefix : ℕ) : Type 0 where
+  pub at : List Entry
+  pub later : BeginsWith at before
+  pub earlier : BeginsWith after at
+  pub is : prefix ≡ published_prefix at
+
+-- the version that the pass holds is the one from before, or was published since
+abbrev pub HoldsSince : Pass → Pass → Type 0
+HoldsSince before after = ((held_of after).prefix ≡ (held_of before).prefix)
+    ⊎ WasPublished (seen_of before) (seen_of after) (held_of after).prefix

@@ -5,7 +5,7 @@ ghost use Rattle.path_board.specs.Passes.{looks_of, seen_of, IsPassOf, SamePass}
 ghost use Rattle.path_board.specs.SharedBoards.{board_id};
 ghost use Rattle.path_core.specs.Passes.{OthersAdd};
 ghost use Rattle.feed_node.specs.Feeds.{Answers};
-ghost use Rattle.feed_node.specs.Looking.{HasFull, IsBacklog, IsInside, told_of};
+ghost use Rattle.feed_node.specs.Looking.{HasFull, HoldsSince, IsBacklog, IsInside, told_of};
 
 use edit_log::EditList;
 use follow_proto::MAX_SENT;
@@ -87,6 +87,7 @@ pub(crate) fn find<R: Wait>(
     requires backlog { IsBacklog (seen_of pass.old) backlog.old.known backlog.old.edits.edits }
     ensures same { SamePass pass.old pass.new }
     ensures none { OthersAdd pass.old.number (seen_of pass.old) (seen_of pass.new) }
+    ensures held { HoldsSince pass.old pass.new }
     ensures looks { looks_of pass.old < looks_of pass.new }
     ensures backlog { IsBacklog (seen_of pass.new) backlog.new.known backlog.new.edits.edits }
     ensures inside { IsInside backlog.new.edits.edits result }
@@ -114,6 +115,7 @@ fn look_up<R: Wait>(
     requires backlog { IsBacklog (seen_of pass.old) backlog.old.known backlog.old.edits.edits }
     ensures same { SamePass pass.old pass.new }
     ensures none { OthersAdd pass.old.number (seen_of pass.old) (seen_of pass.new) }
+    ensures held { HoldsSince pass.old pass.new }
     ensures looks { looks_of pass.old < looks_of pass.new }
     ensures backlog { IsBacklog (seen_of pass.new) backlog.new.known backlog.new.edits.edits }
     ensures inside { IsInside backlog.new.edits.edits result }

@@ -6,7 +6,7 @@ ghost use Rattle.path_board.specs.SharedBoards.{board_id};
 ghost use Rattle.path_core.specs.Passes.{OthersAdd};
 ghost use Rattle.wire.specs.Causes.{Rose};
 ghost use Rattle.feed_node.specs.Feeding.{sight_of, Feeds, FeedsBehind, HasCause};
-ghost use Rattle.feed_node.specs.Looking.{IsBacklog};
+ghost use Rattle.feed_node.specs.Looking.{HoldsSince, IsBacklog};
 ghost use Rattle.feed_node.specs.Turns.{Steps, Tells};
 
 use crate::asking::next_ask;
@@ -74,6 +74,7 @@ pub fn feed_link<L: Link, R: Wait>(
     requires start { start.now.map ≡ (base_by pass.old).start }
     ensures same { SamePass pass.old pass.new }
     ensures none { OthersAdd pass.old.number (seen_of pass.old) (seen_of pass.new) }
+    ensures held { HoldsSince pass.old pass.new }
     ensures feeds { Feeds (base_by pass.old).start (sight_of pass.old) (L.talk link.old) result
         (sight_of pass.new) (L.talk link.new) }
     ensures cause { IfErr result (HasCause (L.read_faults link.old) (L.read_faults link.new)
@@ -104,6 +105,7 @@ fn answer_asks<L: Link, R: Wait>(
     requires none { parcel.old ≡ [] }
     ensures same { SamePass pass.old pass.new }
     ensures none { OthersAdd pass.old.number (seen_of pass.old) (seen_of pass.new) }
+    ensures held { HoldsSince pass.old pass.new }
     ensures feeds { FeedsBehind [] (sight_of pass.old) (L.talk link.old) result (sight_of pass.new)
         (L.talk link.new) }
     ensures cause { IfErr result (HasCause (L.read_faults link.old) (L.read_faults link.new)
@@ -139,6 +141,7 @@ fn answer_next<L: Link, R: Wait>(
     requires none { parcel.old ≡ [] }
     ensures same { SamePass pass.old pass.new }
     ensures none { OthersAdd pass.old.number (seen_of pass.old) (seen_of pass.new) }
+    ensures held { HoldsSince pass.old pass.new }
     ensures backlog { IsBacklog (seen_of pass.new) backlog.new.known backlog.new.edits.edits }
     ensures parcel { OnOk result (parcel.new ≡ []) }
     ensures steps { Steps (sight_of pass.old) (L.talk link.old) result (sight_of pass.new)
@@ -175,6 +178,7 @@ fn answer<L: Link, R: Wait>(
     requires none { parcel.old ≡ [] }
     ensures same { SamePass pass.old pass.new }
     ensures none { OthersAdd pass.old.number (seen_of pass.old) (seen_of pass.new) }
+    ensures held { HoldsSince pass.old pass.new }
     ensures backlog { IsBacklog (seen_of pass.new) backlog.new.known backlog.new.edits.edits }
     ensures parcel { OnOk result (parcel.new ≡ []) }
     ensures tells { Tells (sight_of pass.old) known (L.talk link.old) result (sight_of pass.new)

@@ -1,5 +1,6 @@
 -- What a crew did, door by door.
-use Rattle.std.proofs.Common.{◌≡◌, ℕ, ◌-◌, ◌<◌, Bool, true, false, List, [], ◌∷◌, All, length, get_or, None, Option, Some, inl, inr, sym, subst, ap, ◌∙◌, arith}
+use Rattle.std.proofs.Common.{◌≡◌, ℕ, ◌+◌, ◌-◌, ◌<◌, Bool, true, false, List, [], ◌∷◌, ◌++◌, All, length, length-append, get_or, None, Option, Some, inl, inr, sym, subst, ap, ◌∙◌, arith}
+use Rattle.std.proofs.lemmas.List.{get_or_append_left}
 use Rattle.std.proofs.lemmas.List.Folds.{Any-from_list_any, list_any_at}
 use Rattle.turn_book.specs.Turns.{book_of, made_of}
 use Rattle.path_board.specs.declared.pass.Pass.{Pass}
@@ -9,10 +10,10 @@ use Rattle.wire.specs.Talks.{EndedTalk}
 use Rattle.session.specs.declared.crews.Worker.{Worker}
 use Rattle.session.specs.declared.doors.DoorEnded.{DoorEnded}
 use Rattle.session.specs.declared.doors.DoorEnded.TheVariants.{Halting, Closed, Failed}
-use Rattle.session.specs.Crews.{EndsWell, HasEnded, HasRun, HaveAllRun, HaveRun, SomeRose, any_of, backwards, has_failed}
+use Rattle.session.specs.Crews.{EndsWell, HasEnded, HasRun, HaveAllRun, HaveRun, MayBegin, SomeRose, any_of, backwards, has_failed}
 use Rattle.session.specs.Doors.{DoorEndsSo}
 use Rattle.session.specs.Seats.{place_of}
-use Rattle.session.specs.Standing.{Place, Shared}
+use Rattle.session.specs.Standing.{Place, Shared, Standing}
 use Rattle.session.proofs.Hiring.{back_at, back_long}
 
 -- ---- passes by their places
@@ -40,10 +41,11 @@ pub default_of : {X : Type 0} (P : Type 0) (xs : List X) → 0 < length xs → (
 default_of P [] some f = absurd (omega (arith, some))
 default_of P (x ∷ xs) some f = f x
 
-module _ {D : Type 0} (talks : D → Option (List EndedTalk)) (closed : D → Bool) (faults : D → ℕ) (port : D → Option ℕ) where
+module _ {D : Type 0} (talks : D → Option (List EndedTalk)) (closed : D → Bool) (faults : D → ℕ) (port : D → Option ℕ)
+    (held : Place → Standing → EndedTalk → Standing → Type 0) (silent : Place → Type 0) where
   -- how a loop ended that did not fail
   ends_well : (before after : D) (pass_before pass_after : Pass) (ended : Option DoorEnded) → (has_failed ended ≡ true → ⊥)
-      → HasRun talks closed faults port pass_before before pass_after after ended → EndsWell closed faults before after pass_after
+      → HasRun talks closed faults port held silent pass_before before pass_after after ended → EndsWell closed faults before after pass_after
   ends_well before after pass_before pass_after ended well run = by_how run.how run.ended_is run.ends
     where
       by_how : (how : DoorEnded) → ended ≡ Some how → DoorEndsSo how (seen_of pass_after) (closed after) (faults before) (faults after)
@@ -54,7 +56,7 @@ module _ {D : Type 0} (talks : D → Option (List EndedTalk)) (closed : D → Bo
 
   -- the count of a door rose whose loop failed
   rose_there : (before after : D) (pass_before pass_after : Pass) (ended : Option DoorEnded) → has_failed ended ≡ true
-      → HasRun talks closed faults port pass_before before pass_after after ended → Rose (faults before) (faults after)
+      → HasRun talks closed faults port held silent pass_before before pass_after after ended → Rose (faults before) (faults after)
   rose_there before after pass_before pass_after ended failed run = by_how run.how (sym (ap has_failed run.ended_is) ∙ failed) run.ends
     where
       by_how : (how : DoorEnded) → has_failed (Some how) ≡ true → DoorEndsSo how (seen_of pass_after) (closed after) (faults before) (faults after)
@@ -63,19 +65,35 @@ module _ {D : Type 0} (talks : D → Option (List EndedTalk)) (closed : D → Bo
       by_how Closed is ends = let clash : false ≡ true = is in absurd (cc)
       by_how Failed is ends = ends.1
 
-module _ {D B C : Type 0} (talks : D → Option (List EndedTalk)) (closed : D → Bool) (faults : D → ℕ) (port : D → Option ℕ) where
-  -- what holds of each door before holds of each worker's
-  pub crew_each : (P : D → Type 0) (crew : List (Worker D B C)) (doors : List D) → backwards crew (λ w. w.door) ≡ doors → All P doors
-      → (i : ℕ) (worker : Worker D B C) → i < length crew → P (get_or crew i worker).door
-  crew_each P crew doors is all i worker early =
-      let long : length crew ≡ length doors = sym (back_long crew (λ w. w.door)) ∙ ap length is in
-      let k = length crew - 1 - i in
-      let back : length crew - 1 - k ≡ i = omega (arith, early) in
-      subst P (ap (λ l. get_or l k worker.door) (sym is) ∙ back_at crew (λ w. w.door) k worker.door worker (omega (arith, early))
-      ∙ ap (λ n. (get_or crew n worker).door) back) (all k worker.door (omega (arith, early, long)))
+-- what holds of all that was read of workers holds of what is read of each
+pub read_each : {W X : Type 0} (P : X → Type 0) (read : W → X) (crew : List W) (xs : List X) → backwards crew read ≡ xs → All P xs
+    → (i : ℕ) (worker : W) → i < length crew → P (read (get_or crew i worker))
+read_each P read crew xs is all i worker early =
+    let long : length crew ≡ length xs = sym (back_long crew read) ∙ ap length is in
+    let k = length crew - 1 - i in
+    let back : length crew - 1 - k ≡ i = omega (arith, early) in
+    subst P (ap (λ l. get_or l k (read worker)) (sym is) ∙ back_at crew read k (read worker) worker (omega (arith, early))
+    ∙ ap (λ n. read (get_or crew n worker)) back) (all k (read worker) (omega (arith, early, long)))
 
+-- what holds of a whole list holds of its front
+pub all_front : {X : Type 0} (P : X → Type 0) (front rest all : List X) → all ≡ front ++ rest → All P all → All P front
+all_front P front rest all is each = λ i d early.
+    let long : length all ≡ length front + length rest = ap length is ∙ length-append front rest in
+    subst P (ap (λ l. get_or l i d) is ∙ get_or_append_left front rest d i early) (each i d (omega (arith, early, long)))
+
+-- all workers may begin
+pub may_begin : {D B C : Type 0} (closed : D → Bool) (fits : Place → Type 0) (crew : List (Worker D B C)) (doors : List D) (passes : List Pass)
+    → backwards crew (λ w. w.door) ≡ doors → backwards crew (λ w. w.seat.pass) ≡ passes → All (λ door. closed door ≡ false) doors
+    → All (λ pass. fits (place_of pass)) passes → (i : ℕ) (worker : Worker D B C) → i < length crew → MayBegin closed fits (get_or crew i worker)
+may_begin closed fits crew doors passes doors_are passes_are shut fit i worker early = record {
+  door_is = read_each (λ door. closed door ≡ false) (λ w. w.door) crew doors doors_are shut i worker early;
+  place_fits = read_each (λ pass. fits (place_of pass)) (λ w. w.seat.pass) crew passes passes_are fit i worker early;
+}
+
+module _ {D B C : Type 0} (talks : D → Option (List EndedTalk)) (closed : D → Bool) (faults : D → ℕ) (port : D → Option ℕ)
+    (held : Place → Standing → EndedTalk → Standing → Type 0) (silent : Place → Type 0) where
   module _ (crew then : List (Worker D B C)) (doors : List D) (passes : List Pass) (doors_then : List D) (passes_then : List Pass)
-      (ran : HaveAllRun talks closed faults port crew then) (doors_are : backwards crew (λ w. w.door) ≡ doors) (passes_are : backwards crew (λ w. w.seat.pass) ≡ passes)
+      (ran : HaveAllRun talks closed faults port held silent crew then) (doors_are : backwards crew (λ w. w.door) ≡ doors) (passes_are : backwards crew (λ w. w.seat.pass) ≡ passes)
       (doors_come : doors_then ≡ backwards then (λ w. w.door)) (passes_come : passes_then ≡ backwards then (λ w. w.seat.pass)) where
     crew_long : length crew ≡ length doors
     crew_long = sym (back_long crew (λ w. w.door)) ∙ ap length doors_are
@@ -109,10 +127,10 @@ module _ {D B C : Type 0} (talks : D → Option (List EndedTalk)) (closed : D �
     some_worker P i early f = let total = crew_long in default_of P crew (omega (arith, early, total)) f
 
     each_ran : (i : ℕ) (door : D) (pass : Pass) → i < length doors
-        → HasEnded talks closed faults port (get_or passes i pass) (get_or doors i door) (get_or passes_then i pass) (get_or doors_then i door)
+        → HasEnded talks closed faults port held silent (get_or passes i pass) (get_or doors i door) (get_or passes_then i pass) (get_or doors_then i door)
     each_ran i door pass early = some_worker _ i early (λ worker.
         let total = crew_long in
-        at_place (HasEnded talks closed faults port) i door pass worker early (record {
+        at_place (HasEnded talks closed faults port held silent) i door pass worker early (record {
           ended = (get_or then (length crew - 1 - i) worker).ended;
           run = ran.each (length crew - 1 - i) worker (omega (arith, early, total));
         }))
@@ -126,7 +144,7 @@ module _ {D B C : Type 0} (talks : D → Option (List EndedTalk)) (closed : D �
         let long = ran.long in
         let within = found.2 in
         let back : length crew - 1 - (length crew - 1 - k) ≡ k = omega (arith, within, long) in
-        let rose = rose_there talks closed faults port (get_or crew k w).door (get_or then k w).door (get_or crew k w).seat.pass (get_or then k w).seat.pass (get_or then k w).ended
+        let rose = rose_there talks closed faults port held silent (get_or crew k w).door (get_or then k w).door (get_or crew k w).seat.pass (get_or then k w).seat.pass (get_or then k w).ended
         (ap (λ (x : Worker D B C). has_failed x.ended) found.3 ∙ found.4) (ran.each k w (omega (arith, within, long))) in
         record {
           place = length crew - 1 - k;
@@ -144,12 +162,12 @@ module _ {D B C : Type 0} (talks : D → Option (List EndedTalk)) (closed : D �
         let k = length crew - 1 - i in
         let within : k < length then = omega (arith, early, total, long) in
         at_place (λ _ x p y. EndsWell closed faults x y p) i door pass worker early
-        (ends_well talks closed faults port (get_or crew k worker).door (get_or then k worker).door (get_or crew k worker).seat.pass (get_or then k worker).seat.pass
+        (ends_well talks closed faults port held silent (get_or crew k worker).door (get_or then k worker).door (get_or crew k worker).seat.pass (get_or then k worker).seat.pass
         (get_or then k worker).ended
         (λ on. let clash : false ≡ true = sym well ∙ list_any_at (λ (w : Worker D B C). has_failed w.ended) then k worker within on in absurd (cc))
         (ran.each k worker (omega (arith, early, total)))))
 
-    pub have_run : (failed : Bool) → failed ≡ any_of then (λ w. has_failed w.ended) → HaveRun talks closed faults port doors passes doors_then passes_then failed
+    pub have_run : (failed : Bool) → failed ≡ any_of then (λ w. has_failed w.ended) → HaveRun talks closed faults port held silent doors passes doors_then passes_then failed
     have_run failed told =
         let total = crew_long in
         let long = ran.long in

@@ -7,8 +7,8 @@ use Rattle.std.proofs.lemmas.List.Folds.{list_any-append}
 use Rattle.path_core.specs.declared.entry.Entry.{Entry}
 use Rattle.path_core.specs.declared.entry.Entry.TheVariants.{Accept, Halt}
 use Rattle.path_core.specs.Histories.{IsHalting, is_halt}
-use Rattle.path_core.specs.Passes.{BeginsWith}
-use Rattle.path_core.proofs.Passing.{begins_then}
+use Rattle.path_core.specs.Passes.{BeginsWith, OthersAdd}
+use Rattle.path_core.proofs.Passing.{begins_then, others_then}
 use Rattle.query_proto.specs.declared.protocols.Proto.{Proto}
 use Rattle.query_proto.specs.declared.protocols.Proto.TheVariants.{Start}
 use Rattle.query_proto.specs.declared.replies.Reply.TheVariants as reply
@@ -22,10 +22,10 @@ use Rattle.wire.specs.Talks.{EndedTalk, IsFresh, Talk, with_ended, with_sent, wi
 use Rattle.session.specs.declared.sessions.Ended.{Ended}
 use Rattle.session.specs.declared.sessions.SessionFault.{SessionFault}
 use Rattle.session.specs.Conversations.{Conversed, Exchange, HasCause, Rests, ServesFrame, ServesRun, bytes_taken, protocol_after}
-use Rattle.session.specs.Doors.{HasGoneOn, HasServed, HasServedOne, Lead, LeadsOn, LooksBetween, MayGoOn, SameWhereTold, ServesOne, as_begun}
+use Rattle.session.specs.Doors.{HasGoneOn, HasServed, HasServedOne, HoldsTalk, IsServedTalk, Lead, LeadsOn, LooksBetween, MayGoOn, MovesOn, SameWhereTold, ServesOne, as_begun}
 use Rattle.session.specs.Served.{Serves, ServesChange, ServesStatus, ServesStop}
 use Rattle.session.specs.Standing.{AddsOnlyOwn, HoldsSince, Place, Standing}
-use Rattle.session.proofs.Meanwhile.{Grows, enters_grows, grows_itself, grows_then, meanwhile_grows}
+use Rattle.session.proofs.Meanwhile.{Grows, enters_grows, grows_itself, grows_then, meanwhile_begin, meanwhile_grows}
 use Rattle.session.proofs.Ringing.{build_grows, held_then, rests_none, rests_then}
 
 -- ---- what is seen after a request goes on from what was seen before it
@@ -129,90 +129,155 @@ pub halts_still : (seen history : List Entry) → BeginsWith history seen → Is
 halts_still seen history begins halts =
     subst IsHalting (sym begins.is) (list_any-append is_halt seen begins.rest ∙ ap (λ b. b || list_any is_halt begins.rest) halts)
 
-lead_front : (place : Place) (old mid : Standing) (talks : List EndedTalk) (new : Standing) → Rests place old mid → Lead place mid talks new → Lead place old talks new
-lead_front place old mid [] new first lead = rests_then place old mid new first lead
-lead_front place old mid (talk ∷ rest) new first (from, to, look, rests, served, looks, may, lead) =
-    (from, to, look, rests_then place old mid from first rests, served, looks, may, lead)
+-- nothing was entered meanwhile, so a pass moves on
+pub rests_move : (silent : Place → Type 0) (place : Place) (old new : Standing) → Rests place old new → MovesOn silent place old new
+rests_move silent place old new p = record { extends = meanwhile_begin place old.seen new.seen p.others; holds = p.holds; quiet = λ _. p.others.others }
+
+pub moves_then : (silent : Place → Type 0) (place : Place) (old mid new : Standing) → MovesOn silent place old mid → MovesOn silent place mid new
+    → MovesOn silent place old new
+moves_then silent place old mid new p q = record {
+  extends = begins_then old.seen mid.seen new.seen p.extends q.extends;
+  holds = held_then old.seen mid.seen new.seen old.held mid.held new.held p.extends q.extends p.holds q.holds;
+  quiet = λ still. others_then place.pass old.seen mid.seen new.seen (p.quiet still) (q.quiet still);
+}
 
 -- who goes on without a halt did so from each look before
 may_go_on : (place : Place) (look mid : Standing) (more : List EndedTalk) → Rests place look mid → (IsHalting mid.seen → ⊥) → MayGoOn look more
 may_go_on place look mid [] rests on = tt
 may_go_on place look mid (talk ∷ rest) rests on = λ halts. on (halts_still look.seen mid.seen (rests_onward place look mid rests).extends.begins halts)
 
-lead_then : (place : Place) (old : Standing) (talks : List EndedTalk) (mid : Standing) (more : List EndedTalk) (new : Standing) → (IsHalting mid.seen → ⊥)
-    → Lead place old talks mid → Lead place mid more new → Lead place old (talks ++ more) new
-lead_then place old [] mid more new on lead then = lead_front place old mid more new lead then
-lead_then place old (talk ∷ []) mid more new on (from, to, look, rests, served, looks, may, lead) then =
-    (from, to, look, rests, served, looks, may_go_on place look mid more lead on, lead_front place look mid more new lead then)
-lead_then place old (talk ∷ next ∷ rest) mid more new on (from, to, look, rests, served, looks, may, lead) then =
-    (from, to, look, rests, served, looks, may, lead_then place look (next ∷ rest) mid more new on lead then)
+module _ (held : Place → Standing → EndedTalk → Standing → Type 0) where
+  lead_front : (place : Place) (old mid : Standing) (talks : List EndedTalk) (new : Standing) → Rests place old mid → Lead held place mid talks new
+      → Lead held place old talks new
+  lead_front place old mid [] new first lead = rests_then place old mid new first lead
+  lead_front place old mid (talk ∷ rest) new first (from, to, look, rests, served, looks, may, lead) =
+      (from, to, look, rests_then place old mid from first rests, served, looks, may, lead)
 
--- nothing came, and others may have added entries
-pub served_none : (place : Place) (old new : Standing) (told : Option (List EndedTalk)) → Rests place old new → HasServed place old told new told
-served_none place old new None rests = let onward = rests_onward place old new rests in record { extends = onward.extends.begins; holds = onward.holds; told = tt }
-served_none place old new (Some talks) rests = let onward = rests_onward place old new rests in record {
-  extends = onward.extends.begins;
-  holds = onward.holds;
-  told = record { more = []; after_is = ap Some (sym (append-nil talks)); lead = rests };
-}
+  lead_then : (place : Place) (old : Standing) (talks : List EndedTalk) (mid : Standing) (more : List EndedTalk) (new : Standing) → (IsHalting mid.seen → ⊥)
+      → Lead held place old talks mid → Lead held place mid more new → Lead held place old (talks ++ more) new
+  lead_then place old [] mid more new on lead then = lead_front place old mid more new lead then
+  lead_then place old (talk ∷ []) mid more new on (from, to, look, rests, served, looks, may, lead) then =
+      (from, to, look, rests, served, looks, may_go_on place look mid more lead on, lead_front place look mid more new lead then)
+  lead_then place old (talk ∷ next ∷ rest) mid more new on (from, to, look, rests, served, looks, may, lead) then =
+      (from, to, look, rests, served, looks, may, lead_then place look (next ∷ rest) mid more new on lead then)
 
-leads_then : (place : Place) (old mid new : Standing) (before between after : Option (List EndedTalk)) → (IsHalting mid.seen → ⊥)
-    → IfSome before (λ talks. LeadsOn place old talks mid between) → IfSome between (λ talks. LeadsOn place mid talks new after)
-    → IfSome before (λ talks. LeadsOn place old talks new after)
-leads_then place old mid new None between after on p q = tt
-leads_then place old mid new (Some talks) between after on p q =
-    let then : LeadsOn place mid (talks ++ p.more) new after = subst (λ told. IfSome told (λ all. LeadsOn place mid all new after)) p.after_is q in
-    record {
-      more = p.more ++ then.more;
-      after_is = then.after_is ∙ ap Some (append_assoc talks p.more then.more);
-      lead = lead_then place old p.more mid then.more new on p.lead then.lead;
+  leads_then : (place : Place) (old mid new : Standing) (before between after : Option (List EndedTalk)) → (IsHalting mid.seen → ⊥)
+      → IfSome before (λ talks. LeadsOn held place old talks mid between) → IfSome between (λ talks. LeadsOn held place mid talks new after)
+      → IfSome before (λ talks. LeadsOn held place old talks new after)
+  leads_then place old mid new None between after on p q = tt
+  leads_then place old mid new (Some talks) between after on p q =
+      let then : LeadsOn held place mid (talks ++ p.more) new after = subst (λ told. IfSome told (λ all. LeadsOn held place mid all new after)) p.after_is q in
+      record {
+        more = p.more ++ then.more;
+        after_is = then.after_is ∙ ap Some (append_assoc talks p.more then.more);
+        lead = lead_then place old p.more mid then.more new on p.lead then.lead;
+      }
+
+  one_looked_at : (place : Place) (old mid new : Standing) (before after : Option (List EndedTalk))
+      → IfSome before (λ talks. ServesOne held place old talks mid after) → LooksBetween place mid new
+      → IfSome before (λ talks. LeadsOn held place old talks new after)
+  one_looked_at place old mid new None after one looks = tt
+  one_looked_at place old mid new (Some talks) after one looks = record {
+    more = one.talk ∷ [];
+    after_is = one.after_is;
+    lead = (old, mid, new, rests_none place old, one.served, looks, tt, rests_none place new);
+  }
+
+  one_told : (place : Place) (from to : Standing) (talks : List EndedTalk) (told : Option Talk) (reads writes : ℕ)
+      → HoldsTalk held place from told reads writes to → ServesOne held place from talks to (with_ended (Some talks) told reads writes)
+  one_told place from to talks told reads writes p = record {
+    talk = record { talk = p.talk; read_faults = reads; write_faults = writes };
+    after_is = ap (λ t. with_ended (Some talks) t reads writes) p.told_is;
+    served = p.so;
+  }
+
+  module _ (silent : Place → Type 0) where
+    -- nothing came, and others may have added entries
+    pub served_none : (place : Place) (old new : Standing) (told : Option (List EndedTalk)) → Rests place old new → HasServed held silent place old told new told
+    served_none place old new None rests = record { on = rests_move silent place old new rests; told = tt }
+    served_none place old new (Some talks) rests = record {
+      on = rests_move silent place old new rests;
+      told = record { more = []; after_is = ap Some (sym (append-nil talks)); lead = rests };
     }
 
--- the loop went on from a look at which the board did not halt
-pub served_then : (place : Place) (old mid new : Standing) (before between after : Option (List EndedTalk)) → (IsHalting mid.seen → ⊥)
-    → HasServed place old before mid between → HasServed place mid between new after → HasServed place old before new after
-served_then place old mid new before between after on p q =
-    record {
-      extends = begins_then old.seen mid.seen new.seen p.extends q.extends;
-      holds = held_then old.seen mid.seen new.seen old.held mid.held new.held p.extends q.extends p.holds q.holds;
+    -- the loop went on from a look at which the board did not halt
+    pub served_then : (place : Place) (old mid new : Standing) (before between after : Option (List EndedTalk)) → (IsHalting mid.seen → ⊥)
+        → HasServed held silent place old before mid between → HasServed held silent place mid between new after
+        → HasServed held silent place old before new after
+    served_then place old mid new before between after on p q = record {
+      on = moves_then silent place old mid new p.on q.on;
       told = leads_then place old mid new before between after on p.told q.told;
     }
 
-one_looked_at : (place : Place) (old mid new : Standing) (before after : Option (List EndedTalk)) → IfSome before (λ talks. ServesOne place old talks mid after)
-    → LooksBetween place mid new → IfSome before (λ talks. LeadsOn place old talks new after)
-one_looked_at place old mid new None after one looks = tt
-one_looked_at place old mid new (Some talks) after one looks = record {
-  more = one.talk ∷ [];
-  after_is = one.after_is;
-  lead = (old, mid, new, rests_none place old, one.served, looks, tt, rests_none place new);
-}
-
--- a session, and the look behind it
-pub served_one : (place : Place) (old mid new : Standing) (before after : Option (List EndedTalk)) → HasServedOne place old before mid after
-    → LooksBetween place mid new → HasServed place old before new after
-served_one place old mid new before after p looks =
-    let onward = rests_onward place mid new looks.rests in
-    record {
-      extends = begins_then old.seen mid.seen new.seen p.extends onward.extends.begins;
-      holds = held_then old.seen mid.seen new.seen old.held mid.held new.held p.extends onward.extends.begins p.holds onward.holds;
+    -- a talk, and the look behind it
+    pub served_one : (place : Place) (old mid new : Standing) (before after : Option (List EndedTalk)) → HasServedOne held silent place old before mid after
+        → LooksBetween place mid new → HasServed held silent place old before new after
+    served_one place old mid new before after p looks = record {
+      on = moves_then silent place old mid new p.on (rests_move silent place mid new looks.rests);
       told = one_looked_at place old mid new before after p.told looks;
     }
 
--- the same of a loop that may have begun only now
-pub goes_on : (place : Place) (old mid new : Standing) (before between after : Option (List EndedTalk)) → HasGoneOn old before mid between
-    → HasServed place old before mid between → HasServed place mid between new after → HasServed place old before new after
-goes_on place old mid new before between after gone p q = elim gone [
-  | inl begun ↦ subst (λ told. HasServed place old told new after) begun.1 (subst (λ from. HasServed place from between new after) begun.0 q)
-  | inr on ↦ served_then place old mid new before between after on p q
-]
+    -- the same of a loop that may have begun only now
+    pub goes_on : (place : Place) (old mid new : Standing) (before between after : Option (List EndedTalk)) → HasGoneOn old before mid between
+        → HasServed held silent place old before mid between → HasServed held silent place mid between new after
+        → HasServed held silent place old before new after
+    goes_on place old mid new before between after gone p q = elim gone [
+      | inl begun ↦ subst (λ told. HasServed held silent place old told new after) begun.1
+          (subst (λ from. HasServed held silent place from between new after) begun.0 q)
+      | inr on ↦ served_then place old mid new before between after on p q
+    ]
 
--- ---- a talk from its first byte on
+    -- a talk was held over a connection, which was handed back
+    pub served_talk : (place : Place) (from to : Standing) (before : Option (List EndedTalk)) (fresh told : Option Talk) (reads writes : ℕ)
+        (after : Option (List EndedTalk)) → TellsToo before fresh → MovesOn silent place from to
+        → IfSome fresh (λ _. HoldsTalk held place from told reads writes to) → after ≡ with_ended before told reads writes
+        → HasServedOne held silent place from before to after
+    served_talk place from to None fresh told reads writes after tells on so is = record { on = on; told = tt }
+    served_talk place from to (Some talks) None told reads writes after tells on so is = let clash : false ≡ true = tells in absurd (cc)
+    served_talk place from to (Some talks) (Some talk) told reads writes after tells on so is =
+        record { on = on; told = subst (ServesOne held place from talks to) (sym is) (one_told place from to talks told reads writes so) }
+
+    -- a count that is the same where talks are told stays so
+    pub same_then : (place : Place) (old mid : Standing) (before between : Option (List EndedTalk)) (first second third : ℕ)
+        → HasServed held silent place old before mid between → SameWhereTold before first second → SameWhereTold between second third
+        → SameWhereTold before first third
+    same_then place old mid None between first second third p one two = tt
+    same_then place old mid (Some talks) between first second third p one two =
+        let then : third ≡ second = subst (λ told. SameWhereTold told second third) p.told.after_is two in
+        then ∙ one
+
+-- where what one trade holds at a place another does too
+module _ (held other : Place → Standing → EndedTalk → Standing → Type 0) (place : Place)
+    (turns : (from : Standing) (talk : EndedTalk) (to : Standing) → held place from talk to → other place from talk to) where
+  lead_as : (old : Standing) (talks : List EndedTalk) (new : Standing) → Lead held place old talks new → Lead other place old talks new
+  lead_as old [] new lead = lead
+  lead_as old (talk ∷ rest) new (from, to, look, rests, served, looks, may, lead) =
+      (from, to, look, rests, turns from talk to served, looks, may, lead_as look rest new lead)
+
+  leads_as : (old : Standing) (before : Option (List EndedTalk)) (new : Standing) (after : Option (List EndedTalk))
+      → IfSome before (λ talks. LeadsOn held place old talks new after) → IfSome before (λ talks. LeadsOn other place old talks new after)
+  leads_as old None new after told = tt
+  leads_as old (Some talks) new after told = record { more = told.more; after_is = told.after_is; lead = lead_as old told.more new told.lead }
+
+  pub served_as : (silent still : Place → Type 0) (old : Standing) (before : Option (List EndedTalk)) (new : Standing) (after : Option (List EndedTalk))
+      → (still place → silent place) → HasServed held silent place old before new after → HasServed other still place old before new after
+  served_as silent still old before new after so p = record {
+    on = record { extends = p.on.extends; holds = p.on.holds; quiet = λ s. p.on.quiet (so s) };
+    told = leads_as old before new after p.told;
+  }
+
+pub same_told : (told : Option (List EndedTalk)) (count : ℕ) → SameWhereTold told count count
+same_told None count = tt
+same_told (Some talks) count = refl
+
+-- ---- a session from its first byte on
 
 sent_begun : (sent : Option (List ℕ)) (bytes : List ℕ) → IfSome sent (λ held. held ≡ []) → sent ≡ option_map (λ (_ : List ℕ). []) (append_known sent bytes)
 sent_begun None bytes none = refl
 sent_begun (Some held) bytes none = ap Some none
 
-begun : (talk : Talk) (told : Option Talk) (count : ℕ) (bytes : List ℕ) → IsFresh (Some talk) → told ≡ with_sent (with_taken (Some talk) count) bytes
+-- a link that has just come in is as its talk was when it began
+pub begun : (talk : Talk) (told : Option Talk) (count : ℕ) (bytes : List ℕ) → IsFresh (Some talk) → told ≡ with_sent (with_taken (Some talk) count) bytes
     → Some talk ≡ option_map as_begun told
 begun talk told count bytes (whole, none) is =
     let sent = sent_begun talk.sent bytes none in
@@ -220,49 +285,34 @@ begun talk told count bytes (whole, none) is =
     λ i. Some (record { input = talk.input; left = whole i; sent = sent i }) in
     same ∙ ap (option_map as_begun) (sym is)
 
-talk_ended : (place : Place) (from : Standing) (talks : List EndedTalk) (talk : Talk) (told : Option Talk) (result : Result Ended SessionFault) (to : Standing)
+session_ended : (place : Place) (from : Standing) (talk : Talk) (told : Option Talk) (result : Result Ended SessionFault) (to : Standing)
     (reads writes : ℕ) → IsFresh (Some talk) → Conversed place from (Some talk) result to told → IfErr result (HasCause 0 reads 0 writes)
-    → ServesOne place from talks to (with_ended (Some talks) told reads writes)
-talk_ended place from talks talk None result to reads writes fresh c cause =
+    → HoldsTalk IsServedTalk place from told reads writes to
+session_ended place from talk None result to reads writes fresh c cause =
     let clash : None ≡ with_sent (with_taken (Some talk) (length (bytes_taken c.exchanges ++ c.last))) c.sent = c.passes.after_is in
     absurd (cc)
-talk_ended place from talks talk (Some now) result to reads writes fresh c cause = record {
-  talk = record { talk = now; read_faults = reads; write_faults = writes };
-  after_is = refl;
-  served = record {
+session_ended place from talk (Some now) result to reads writes fresh c cause = record {
+  talk = now;
+  told_is = refl;
+  so = record {
     result = result;
     conversed = subst (λ first. Conversed place from first result to (Some now)) (begun talk (Some now) _ _ fresh c.passes.after_is) c;
     cause = cause;
   };
 }
 
--- a connection was served from its first byte on, and handed back
-pub served_talk : (place : Place) (from to : Standing) (before : Option (List EndedTalk)) (fresh told : Option Talk) (result : Result Ended SessionFault)
-    (reads_before reads writes_before writes : ℕ) (after : Option (List EndedTalk)) → IsFresh fresh → TellsToo before fresh
-    → Conversed place from fresh result to told → IfErr result (HasCause reads_before reads writes_before writes) → reads_before ≡ 0 → writes_before ≡ 0
-    → after ≡ with_ended before told reads writes → HasServedOne place from before to after
-served_talk place from to None fresh told result reads_before reads writes_before writes after new tells c cause r w is =
-    let onward = run_onward place Start from c.exchanges to c.serves in record { extends = onward.extends.begins; holds = onward.holds; told = tt }
-served_talk place from to (Some talks) None told result reads_before reads writes_before writes after new tells c cause r w is =
-    let clash : false ≡ true = tells in absurd (cc)
-served_talk place from to (Some talks) (Some talk) told result reads_before reads writes_before writes after new tells c cause r w is =
+-- a session over a link that had just come in
+pub session_held : (place : Place) (from to : Standing) (fresh told : Option Talk) (result : Result Ended SessionFault)
+    (reads_before reads writes_before writes : ℕ) → IsFresh fresh → Conversed place from fresh result to told
+    → IfErr result (HasCause reads_before reads writes_before writes) → reads_before ≡ 0 → writes_before ≡ 0
+    → IfSome fresh (λ _. HoldsTalk IsServedTalk place from told reads writes to)
+session_held place from to None told result reads_before reads writes_before writes new c cause r w = tt
+session_held place from to (Some talk) told result reads_before reads writes_before writes new c cause r w =
+    session_ended place from talk told result to reads writes new c
+    (subst (λ n. IfErr result (HasCause 0 reads n writes)) w (subst (λ n. IfErr result (HasCause n reads writes_before writes)) r cause))
+
+pub session_moves : (place : Place) (from to : Standing) (fresh told : Option Talk) (result : Result Ended SessionFault) → Conversed place from fresh result to told
+    → MovesOn (λ _. ⊥) place from to
+session_moves place from to fresh told result c =
     let onward = run_onward place Start from c.exchanges to c.serves in
-    record {
-      extends = onward.extends.begins;
-      holds = onward.holds;
-      told = subst (ServesOne place from talks to) (sym is)
-          (talk_ended place from talks talk told result to reads writes new c
-          (subst (λ n. IfErr result (HasCause 0 reads n writes)) w (subst (λ n. IfErr result (HasCause n reads writes_before writes)) r cause)));
-    }
-
--- a count that is the same where talks are told stays so
-pub same_then : (place : Place) (old mid : Standing) (before between : Option (List EndedTalk)) (first second third : ℕ) → HasServed place old before mid between
-    → SameWhereTold before first second → SameWhereTold between second third → SameWhereTold before first third
-same_then place old mid None between first second third p one two = tt
-same_then place old mid (Some talks) between first second third p one two =
-    let then : third ≡ second = subst (λ told. SameWhereTold told second third) p.told.after_is two in
-    then ∙ one
-
-pub same_told : (told : Option (List EndedTalk)) (count : ℕ) → SameWhereTold told count count
-same_told None count = tt
-same_told (Some talks) count = refl
+    record { extends = onward.extends.begins; holds = onward.holds; quiet = λ none. absurd none }

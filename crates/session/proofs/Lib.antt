@@ -11,6 +11,7 @@ pub mod Replying
 pub mod Cutting
 pub mod Turning
 pub mod Leading
+pub mod FedTalks
 pub mod Hiring
 pub mod Crewing
 pub mod Parting

@@ -1,5 +1,5 @@
 -- What a shared board is when it is closed after it was served.
-use Rattle.std.proofs.Common.{◌≡◌, ◌⊎◌, ℕ, ◌+◌, ◌-◌, ◌<◌, Bool, true, false, IsFalse, List, [], ◌∷◌, length, get_or, Option, Some, inl, inr, refl, sym, subst, ap, ◌∙◌, arith, length-append}
+use Rattle.std.proofs.Common.{◌≡◌, ◌⊎◌, ℕ, ◌+◌, ◌-◌, ◌<◌, Bool, true, false, IsFalse, List, [], ◌∷◌, All, length, get_or, Option, Some, inl, inr, refl, sym, subst, ap, ◌∙◌, arith, length-append}
 use Rattle.std.specs.List.{list_any}
 use Rattle.std.proofs.Math.Seq.{get_or-append_seam}
 use Rattle.std.proofs.lemmas.Bool.{cases_lt}
@@ -19,11 +19,14 @@ use Rattle.path_board.proofs.Same.{same_all}
 use Rattle.wire.specs.Talks.{EndedTalk}
 use Rattle.session.specs.declared.builder.BuildTotals.{BuildTotals}
 use Rattle.session.specs.Builders.{HasBuilt}
-use Rattle.session.specs.Doors.{HasServed}
+use Rattle.session.specs.declared.trades.Trade.{Trade}
+use Rattle.session.specs.Doors.{HasServed, IsServedTalk}
+use Rattle.session.specs.Trades.{IsHeldBy, IsNoFeed, feeds_at}
 use Rattle.session.specs.Seats.{place_of, standing_of}
-use Rattle.session.specs.ServedBoards.{AreServed, FailedSo, IsBuiltBy, IsParted, IsPlaceAt, first_standing}
+use Rattle.session.specs.ServedBoards.{AreServed, AreServedBy, FailedSo, FitsBoard, IsBuiltBy, IsParted, IsPlaceAt, IsServed, IsServedBy, first_standing}
+use Rattle.session.specs.Standing.{Place, Standing}
 use Rattle.session.proofs.Crewing.{default_of, same_by_place}
-use Rattle.session.proofs.Leading.{halts_still}
+use Rattle.session.proofs.Leading.{halts_still, served_as}
 
 -- a board that halted halts later
 halts_later : (pass : ℕ) (seen history : List Entry) → OthersAdd pass seen history → IsHalting seen → IsHalting history
@@ -46,10 +49,17 @@ place_at id board count place pass new = record {
   room = ap (λ (f : Foundation). f.room) new.base;
 }
 
-module _ {D : Type 0} (talks : D → Option (List EndedTalk)) (closed : D → Bool) (faults : D → ℕ) (port : D → Option ℕ) (id : TableId) (board : Boarded) (count : ℕ)
+-- all new passes are at places that fit
+pub all_fit : (fits : Place → Type 0) (id : TableId) (board : Boarded) (count : ℕ) (passes : List Pass) → FitsBoard fits board
+    → AreNewPasses id board count passes → All (λ pass. fits (place_of pass)) passes
+all_fit fits id board count passes fit news = λ i d early.
+    fit i (place_of (get_or passes i d)) (place_at id board count i (get_or passes i d) (news.each i d early))
+
+module _ {D : Type 0} (talks : D → Option (List EndedTalk)) (closed : D → Bool) (faults : D → ℕ) (port : D → Option ℕ)
+    (held : Place → Standing → EndedTalk → Standing → Type 0) (silent : Place → Type 0) (id : TableId) (board : Boarded) (count : ℕ)
     (doors : List D) (passes : List Pass) (doors_after : List D) (passes_after : List Pass) (builds : BuildTotals) (failed : Bool) (rung_before rung_after : ℕ)
     (news : AreNewPasses id board count passes) (some : 0 < length doors)
-    (p : IsParted talks closed faults port doors passes doors_after passes_after builds failed rung_before rung_after) where
+    (p : IsParted talks closed faults port held silent doors passes doors_after passes_after builds failed rung_before rung_after) where
   long_before : length passes ≡ length doors + 1
   long_before = let long = p.long in
       let all : length passes ≡ length p.first + 1 = ap length p.passes_are ∙ length-append p.first (p.builder ∷ []) in omega (arith, long, all)
@@ -106,7 +116,7 @@ module _ {D : Type 0} (talks : D → Option (List EndedTalk)) (closed : D → Bo
     seen_on i early = let b = long_after in
         subst (λ (x : Pass). OthersAdd i (seen_of x) history) (first_after_at i p.builder early) (goes i p.builder (omega (arith, b, early)))
 
-    pub are_served : AreServed talks closed faults port board doors doors_after history
+    pub are_served : AreServedBy talks closed faults port held silent board doors doors_after history
     are_served = record {
       long = p.ran.doors_long;
       each = λ i door early.
@@ -117,7 +127,7 @@ module _ {D : Type 0} (talks : D → Option (List EndedTalk)) (closed : D → Bo
             place_is = place_at id board count i (get_or p.first i p.builder) new;
             last = standing_of (get_or p.first_after i p.builder);
             served = subst
-                (λ s. HasServed (place_of (get_or p.first i p.builder)) s (talks (get_or doors i door)) (standing_of (get_or p.first_after i p.builder))
+                (λ s. HasServed held silent (place_of (get_or p.first i p.builder)) s (talks (get_or doors i door)) (standing_of (get_or p.first_after i p.builder))
                 (talks (get_or doors_after i door)))
                 (stands_first id board count i (get_or p.first i p.builder) new zero) run.served;
             ended = run.how;
@@ -162,3 +172,30 @@ module _ {D : Type 0} (talks : D → Option (List EndedTalk)) (closed : D → Bo
       let at : length passes_after - 1 ≡ length doors = omega (arith, b) in
       sym (last p.builder) ∙ ap (λ n. base_by (get_or passes_after n p.builder)) at ∙ ap base_by (builder_after_at p.builder)
       ∙ (same_by_place p.builder p.builder_after p.same).base ∙ new_builder.base
+
+-- a door at whose pass talks are sessions was served by sessions
+module _ {D : Type 0} (talks : D → Option (List EndedTalk)) (closed : D → Bool) (faults : D → ℕ) (port : D → Option ℕ) (done : Trade)
+    (board : Boarded) (history : List Entry) where
+  pub by_sessions : (number : ℕ) (before after : D) → IsNoFeed done number
+      → IsServedBy talks closed faults port (IsHeldBy done) (feeds_at done) board number before after history
+      → IsServed talks closed faults port board number before after history
+  by_sessions number before after none s = record {
+    place = s.place;
+    place_is = s.place_is;
+    last = s.last;
+    served = served_as (IsHeldBy done) (λ place from talk to. IsServedTalk place from talk to) s.place
+        (λ from talk to held. held.session (subst (IsNoFeed done) (sym s.place_is.pass) none)) (feeds_at done) (λ _. ⊥) first_standing (talks before) s.last
+        (talks after) (λ nobody. absurd nobody) s.served;
+    ended = s.ended;
+    ends = s.ends;
+    port_is = s.port_is;
+    to_end = s.to_end;
+  }
+
+  pub all_by_sessions : (doors doors_after : List D) → ((number : ℕ) → IsNoFeed done number)
+      → AreServedBy talks closed faults port (IsHeldBy done) (feeds_at done) board doors doors_after history
+      → AreServed talks closed faults port board doors doors_after history
+  all_by_sessions doors doors_after none p = record {
+    long = p.long;
+    each = λ i d early. by_sessions i (get_or doors i d) (get_or doors_after i d) (none i) (p.each i d early);
+  }

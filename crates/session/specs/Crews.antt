@@ -11,6 +11,7 @@ use Rattle.session.specs.declared.doors.DoorEnded.{DoorEnded}
 use Rattle.session.specs.declared.doors.DoorEnded.TheVariants.{Halting, Closed, Failed}
 use Rattle.session.specs.Doors.{DoorEndsSo, HasServed}
 use Rattle.session.specs.Seats.{place_of, standing_of}
+use Rattle.session.specs.Standing.{Place, Standing}
 
 -- what is read of each, that of the last first
 abbrev pub backwards : {W X : Type 0} → List W → (W → X) → List X
@@ -27,13 +28,19 @@ has_failed (Some Halting) = false
 has_failed (Some Closed) = false
 has_failed (Some Failed) = true
 
+-- a worker that may begin: its door is not closed, and the trade fits its place
+pub record MayBegin {D B C : Type 0} (closed : D → Bool) (fits : Place → Type 0) (worker : Worker D B C) : Type 0 where
+  pub door_is : closed worker.door ≡ false
+  pub place_fits : fits (place_of worker.seat.pass)
+
 module _ {D : Type 0} (talks : D → Option (List EndedTalk)) (closed : D → Bool) (faults : D → ℕ)
-    (port : D → Option ℕ) where
+    (port : D → Option ℕ) (held : Place → Standing → EndedTalk → Standing → Type 0) (silent : Place → Type 0) where
   -- a worker with that pass served that door, and its loop has ended so
   pub record HasRun (pass_before : Pass) (before : D) (pass_after : Pass) (after : D)
       (ended : Option DoorEnded) : Type 0 where
     pub same : place_of pass_after ≡ place_of pass_before
-    pub served : HasServed (place_of pass_before) (standing_of pass_before) (talks before) (standing_of pass_after) (talks after)
+    pub served : HasServed held silent (place_of pass_before) (standing_of pass_before) (talks before) (standing_of pass_after)
+        (talks after)
     pub how : DoorEnded
     pub ended_is : ended ≡ Some how
     pub ends : DoorEndsSo how (seen_of pass_after) (closed after) (faults before) (faults after)
@@ -64,14 +71,14 @@ module _ {D : Type 0} (closed : D → Bool) (faults : D → ℕ) where
     pub why : (closed after ≡ true) ⊎ IsHalting (seen_of pass_after)
 
 module _ {D : Type 0} (talks : D → Option (List EndedTalk)) (closed : D → Bool) (faults : D → ℕ)
-    (port : D → Option ℕ) where
+    (port : D → Option ℕ) (held : Place → Standing → EndedTalk → Standing → Type 0) (silent : Place → Type 0) where
   -- each door was served by the worker with the pass at its place; and whether a knock failed somewhere
   pub record HaveRun (doors : List D) (passes : List Pass) (doors_after : List D) (passes_after : List Pass)
       (failed : Bool) : Type 0 where
     pub doors_long : length doors_after ≡ length doors
     pub passes_long : length passes_after ≡ length doors
     pub each : (i : ℕ) (door : D) (pass : Pass) → i < length doors
-        → HasEnded talks closed faults port (slice_index_or passes i pass) (slice_index_or doors i door)
+        → HasEnded talks closed faults port held silent (slice_index_or passes i pass) (slice_index_or doors i door)
         (slice_index_or passes_after i pass) (slice_index_or doors_after i door)
     pub some : IsTrue failed → SomeRose closed faults doors doors_after
     pub none : IsFalse failed → (i : ℕ) (door : D) (pass : Pass) → i < length doors

@@ -2,7 +2,7 @@
 use Rattle.std.specs.Prelude.{◌≡◌, ◌⊎◌, ℕ, Bool, true, false, IfErr, IfSome, List, None, Option, Result, Some, [], ◌∷◌, ◌++◌, option_map}
 use Rattle.path_core.specs.declared.entry.Entry.{Entry}
 use Rattle.path_core.specs.Histories.{IsHalting}
-use Rattle.path_core.specs.Passes.{BeginsWith}
+use Rattle.path_core.specs.Passes.{BeginsWith, OthersAdd}
 use Rattle.wire.specs.Causes.{Rose}
 use Rattle.wire.specs.Talks.{EndedTalk, Talk}
 use Rattle.session.specs.declared.doors.DoorEnded.{DoorEnded}
@@ -32,41 +32,55 @@ abbrev pub MayGoOn : Standing → List EndedTalk → Type 0
 MayGoOn look [] = Unit {0}
 MayGoOn look (talk ∷ rest) = IsHalting look.seen → ⊥
 
--- THE TALKS LEAD from one standing to another, through points of one history, one after the other, with a look behind each;
--- others may add entries between them and behind the last
-abbrev pub Lead : Place → Standing → List EndedTalk → Standing → Type 0
-Lead place old [] new = Rests place old new
-Lead place old (talk ∷ rest) new =
-    (from : Standing) × (to : Standing) × (look : Standing) × Rests place old from × IsServedTalk place from talk to
-    × LooksBetween place to look × MayGoOn look rest × Lead place look rest new
-
--- these talks were told before; those that were added since lead from the one standing to the other
-pub record LeadsOn (place : Place) (old : Standing) (talks : List EndedTalk) (new : Standing)
-    (after : Option (List EndedTalk)) : Type 0 where
-  pub more : List EndedTalk
-  pub after_is : after ≡ Some (talks ++ more)
-  pub lead : Lead place old more new
-
--- WHAT A LOOP AT A DOOR DID: the history went on, and where the door tells its talks, those that were added were served
-pub record HasServed (place : Place) (old : Standing) (before : Option (List EndedTalk)) (new : Standing)
-    (after : Option (List EndedTalk)) : Type 0 where
+-- A PASS MOVES ON: the history goes on, the version that is held is the one from before or was published since, and at a place
+-- that is silent the pass entered nothing
+pub record MovesOn (silent : Place → Type 0) (place : Place) (old new : Standing) : Type 0 where
   pub extends : BeginsWith new.seen old.seen
   pub holds : HoldsSince old new
-  pub told : IfSome before (λ talks. LeadsOn place old talks new after)
+  pub quiet : silent place → OthersAdd place.pass old.seen new.seen
 
--- one talk more is told, which was served
-pub record ServesOne (place : Place) (old : Standing) (talks : List EndedTalk) (new : Standing)
-    (after : Option (List EndedTalk)) : Type 0 where
-  pub talk : EndedTalk
-  pub after_is : after ≡ Some (talks ++ talk ∷ [])
-  pub served : IsServedTalk place old talk new
+-- What is so of a talk that was held at a place, by how the pass stood before and behind it, differs from trade to trade.
+module _ (held : Place → Standing → EndedTalk → Standing → Type 0) where
+  -- a talk is told, and was held so, with so many faults
+  pub record HoldsTalk (place : Place) (from : Standing) (told : Option Talk) (reads writes : ℕ) (to : Standing) : Type 0 where
+    pub talk : Talk
+    pub told_is : told ≡ Some talk
+    pub so : held place from (record { talk = talk; read_faults = reads; write_faults = writes }) to
 
--- WHAT A SESSION AT A DOOR DID: the history went on, and where the door tells its talks, the one that was added was served
-pub record HasServedOne (place : Place) (old : Standing) (before : Option (List EndedTalk)) (new : Standing)
-    (after : Option (List EndedTalk)) : Type 0 where
-  pub extends : BeginsWith new.seen old.seen
-  pub holds : HoldsSince old new
-  pub told : IfSome before (λ talks. ServesOne place old talks new after)
+  -- THE TALKS LEAD from one standing to another, through points of one history, one after the other, with a look behind each;
+  -- others may add entries between them and behind the last
+  abbrev pub Lead : Place → Standing → List EndedTalk → Standing → Type 0
+  Lead place old [] new = Rests place old new
+  Lead place old (talk ∷ rest) new =
+      (from : Standing) × (to : Standing) × (look : Standing) × Rests place old from × held place from talk to
+      × LooksBetween place to look × MayGoOn look rest × Lead place look rest new
+
+  -- these talks were told before; those that were added since lead from the one standing to the other
+  pub record LeadsOn (place : Place) (old : Standing) (talks : List EndedTalk) (new : Standing)
+      (after : Option (List EndedTalk)) : Type 0 where
+    pub more : List EndedTalk
+    pub after_is : after ≡ Some (talks ++ more)
+    pub lead : Lead place old more new
+
+  -- one talk more is told, which was held
+  pub record ServesOne (place : Place) (old : Standing) (talks : List EndedTalk) (new : Standing)
+      (after : Option (List EndedTalk)) : Type 0 where
+    pub talk : EndedTalk
+    pub after_is : after ≡ Some (talks ++ talk ∷ [])
+    pub served : held place old talk new
+
+  module _ (silent : Place → Type 0) where
+    -- WHAT A LOOP AT A DOOR DID: the pass moved on, and where the door tells its talks, those that were added were held
+    pub record HasServed (place : Place) (old : Standing) (before : Option (List EndedTalk)) (new : Standing)
+        (after : Option (List EndedTalk)) : Type 0 where
+      pub on : MovesOn silent place old new
+      pub told : IfSome before (λ talks. LeadsOn place old talks new after)
+
+    -- WHAT WAS DONE OVER ONE CONNECTION: the pass moved on, and where the door tells its talks, the one that was added was held
+    pub record HasServedOne (place : Place) (old : Standing) (before : Option (List EndedTalk)) (new : Standing)
+        (after : Option (List EndedTalk)) : Type 0 where
+      pub on : MovesOn silent place old new
+      pub told : IfSome before (λ talks. ServesOne place old talks new after)
 
 -- HOW A LOOP AT A DOOR ENDED: the board halts, the door has answered that nobody will come any more, or a knock has failed
 abbrev pub DoorEndsSo : DoorEnded → List Entry → Bool → ℕ → ℕ → Type 0

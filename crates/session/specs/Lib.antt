@@ -8,5 +8,6 @@ pub mod Seats
 pub mod Conversations
 pub mod Turns
 pub mod Doors
+pub mod Trades
 pub mod Crews
 pub mod ServedBoards

@@ -10,7 +10,7 @@ use Rattle.session.specs.declared.builder.BuildTotals.{BuildTotals}
 use Rattle.session.specs.declared.doors.DoorEnded.{DoorEnded}
 use Rattle.session.specs.Builders.{HasBuilt}
 use Rattle.session.specs.Crews.{HaveRun, SomeRose}
-use Rattle.session.specs.Doors.{DoorEndsSo, HasServed}
+use Rattle.session.specs.Doors.{DoorEndsSo, HasServed, IsServedTalk}
 use Rattle.session.specs.Seats.{place_of, standing_of}
 use Rattle.session.specs.Standing.{Place, Standing}
 
@@ -25,25 +25,38 @@ pub record IsPlaceAt (board : Boarded) (number : ℕ) (place : Place) : Type 0 w
   pub order : place.order ≡ board.order
   pub room : place.room ≡ board.room
 
+-- each place at the board fits
+abbrev pub FitsBoard : (Place → Type 0) → Boarded → Type 0
+FitsBoard fits board = (number : ℕ) (place : Place) → IsPlaceAt board number place → fits place
+
 module _ {D : Type 0} (talks : D → Option (List EndedTalk)) (closed : D → Bool) (faults : D → ℕ)
     (port : D → Option ℕ) where
-  -- The pass with that number served the door from its first look on, up to what it saw last; the history goes on from there
-  -- with no entry of its own.
-  pub record IsServed (board : Boarded) (number : ℕ) (before after : D) (history : List Entry) : Type 0 where
-    pub place : Place
-    pub place_is : IsPlaceAt board number place
-    pub last : Standing
-    pub served : HasServed place first_standing (talks before) last (talks after)
-    pub ended : DoorEnded
-    pub ends : DoorEndsSo ended last.seen (closed after) (faults before) (faults after)
-    pub port_is : port after ≡ port before
-    pub to_end : OthersAdd number last.seen history
+  module _ (held : Place → Standing → EndedTalk → Standing → Type 0) (silent : Place → Type 0) where
+    -- The pass with that number served the door from its first look on, up to what it saw last; the history goes on from there
+    -- with no entry of its own.
+    pub record IsServedBy (board : Boarded) (number : ℕ) (before after : D) (history : List Entry) : Type 0 where
+      pub place : Place
+      pub place_is : IsPlaceAt board number place
+      pub last : Standing
+      pub served : HasServed held silent place first_standing (talks before) last (talks after)
+      pub ended : DoorEnded
+      pub ends : DoorEndsSo ended last.seen (closed after) (faults before) (faults after)
+      pub port_is : port after ≡ port before
+      pub to_end : OthersAdd number last.seen history
 
-  -- EACH DOOR WAS SERVED by the pass with the number of its place
-  pub record AreServed (board : Boarded) (before after : List D) (history : List Entry) : Type 0 where
-    pub long : length after ≡ length before
-    pub each : (i : ℕ) (default : D) → i < length before
-        → IsServed board i (slice_index_or before i default) (slice_index_or after i default) history
+    -- EACH DOOR WAS SERVED by the pass with the number of its place, by talks of which that is so, and silently at those places
+    pub record AreServedBy (board : Boarded) (before after : List D) (history : List Entry) : Type 0 where
+      pub long : length after ≡ length before
+      pub each : (i : ℕ) (default : D) → i < length before
+          → IsServedBy board i (slice_index_or before i default) (slice_index_or after i default) history
+
+  -- a door was served by sessions
+  abbrev pub IsServed : Boarded → ℕ → D → D → List Entry → Type 0
+  IsServed = IsServedBy (λ place from talk to. IsServedTalk place from talk to) (λ _. ⊥)
+
+  -- EACH DOOR WAS SERVED by sessions
+  abbrev pub AreServed : Boarded → List D → List D → List Entry → Type 0
+  AreServed = AreServedBy (λ place from talk to. IsServedTalk place from talk to) (λ _. ⊥)
 
 module _ {D : Type 0} (closed : D → Bool) (faults : D → ℕ) where
   -- no count of a door rose
@@ -73,7 +86,7 @@ pub record IsBuiltBy (board : Boarded) (number : ℕ) (totals : BuildTotals) (ru
 -- ---- before the board is closed
 
 module _ {D : Type 0} (talks : D → Option (List EndedTalk)) (closed : D → Bool) (faults : D → ℕ)
-    (port : D → Option ℕ) where
+    (port : D → Option ℕ) (held : Place → Standing → EndedTalk → Standing → Type 0) (silent : Place → Type 0) where
   -- all passes but the last served the doors, and the last built
   pub record IsParted (doors : List D) (passes : List Pass) (doors_after : List D) (passes_after : List Pass)
       (builds : BuildTotals) (failed : Bool)
@@ -85,6 +98,6 @@ module _ {D : Type 0} (talks : D → Option (List EndedTalk)) (closed : D → Bo
     pub first_after : List Pass
     pub builder_after : Pass
     pub passes_after_are : passes_after ≡ first_after ++ builder_after ∷ []
-    pub ran : HaveRun talks closed faults port doors first doors_after first_after failed
+    pub ran : HaveRun talks closed faults port held silent doors first doors_after first_after failed
     pub same : place_of builder_after ≡ place_of builder
     pub built : HasBuilt (place_of builder) (standing_of builder) builds rung_before (standing_of builder_after) rung_after

@@ -8,11 +8,14 @@ ghost use Rattle.path_board.specs.Foundations.{foundation_of};
 ghost use Rattle.path_board.specs.Passes.{IsPassOf};
 ghost use Rattle.path_board.specs.SharedBoards.{board_id};
 ghost use Rattle.session.specs.declared.boards.TheConstants.{MAX_DOORS};
-ghost use Rattle.session.specs.ServedBoards.{AreServed, FailedSo, IsBuiltBy, IsParted};
+ghost use Rattle.session.specs.Seats.{place_of};
+ghost use Rattle.session.specs.ServedBoards.{AreServed, AreServedBy, FailedSo, FitsBoard, IsBuiltBy, IsParted};
+ghost use Rattle.session.specs.Trades.{FitsAt, IsHeldBy, feeds_at};
 
 use crate::builder::BuildTotals;
 use crate::crews::{Site, Worker, any_failed, dismiss, hire, seated, serve_beside};
 use crate::means::Means;
+use crate::trades::Trade;
 use build_pool::Gate;
 use path_board::{Pass, ShareRefused, SharedBoard};
 use path_core::Board;
@@ -94,21 +97,59 @@ pub fn serve_board<D: Door, B: Bell, E: Ear, R: Threads + Wait + Sync, G: Gate>(
     ensures refused { IfErr result (λ refused. refused.doors.items ≡ doors.items) }
     ensures unheard { OnErr result (ear.new ≡ ear.old) }
 {
+    let means = Means::new(rt, alloc, workers, gate);
+    serve_trades(&means, &Trade::Sessions, board, doors, bell, ear)
+}
+
+/// The same where the talks at the door of one pass may be feeds, by `trade`, and at one door more.
+///
+/// # Errors
+///
+/// Those of `serve_board`.
+pub fn serve_trades<D: Door, B: Bell, E: Ear, R: Threads + Wait + Sync, G: Gate>(
+    means: &Means<'_, R, G>,
+    trade: &Trade<'_>,
+    board: Board,
+    doors: Vec<D>,
+    bell: &B,
+    ear: &mut E,
+) -> Result<Served<D>, ServeRefused<D>>
+    requires fits { FitsBoard (FitsAt trade.now) board }
+    requires some { 0 < length doors.items }
+    requires few { length doors.items ≤ MAX_DOORS + 1 }
+    requires open { All (λ door. D.closed door ≡ false) doors.items }
+    requires none { board.history ≡ [] }
+    requires waiting { E.over ear.old ≡ false }
+    ensures base { IfOk result (λ served. foundation_of served.board ≡ foundation_of board) }
+    ensures legal { IfOk result (λ served. IsLegal served.board.start served.board.history) }
+    ensures named { IfOk result (λ served. All (λ entry. pass_of entry < length doors.items + 1)
+        served.board.history) }
+    ensures served { IfOk result (λ served. AreServedBy D.talks D.closed D.faults D.port
+        (IsHeldBy trade.now) (feeds_at trade.now) board
+        doors.items served.doors.items served.board.history) }
+    ensures built { IfOk result (λ served. IsBuiltBy board (length doors.items) served.builds
+        (E.rung ear.old) (E.rung ear.new) served.board.history) }
+    ensures failed { IfOk result (λ served. FailedSo D.closed D.faults served.failed
+        doors.items served.doors.items served.board.history) }
+    ensures over { OnOk result (E.over ear.new ≡ true) }
+    ensures refused { IfErr result (λ refused. refused.doors.items ≡ doors.items) }
+    ensures unheard { OnErr result (ear.new ≡ ear.old) }
+{
     // That the first version comes after no edits is known from here.
     board.version();
-    let Ok(room) = Vec::with_capacity(alloc, doors.len()) else {
+    let Ok(room) = Vec::with_capacity(means.alloc, doors.len()) else {
         return Err(ServeRefused { doors });
     };
     let count = doors.len() as u32;
-    let Ok((shared, passes)) = SharedBoard::share(alloc, board, count + 1) else {
+    let Ok((shared, passes)) = SharedBoard::share(means.alloc, board, count + 1) else {
         return Err(ServeRefused { doors });
     };
-    let means = Means::new(rt, alloc, workers, gate);
     let site = Site {
         board: &shared,
         bell,
+        trade,
     };
-    let parted = serve_shared(&means, &site, ear, doors, passes, room);
+    let parted = serve_shared(means, &site, ear, doors, passes, room);
     let board = shared.close(parted.passes);
     Ok(Served {
         board,
@@ -121,20 +162,22 @@ pub fn serve_board<D: Door, B: Bell, E: Ear, R: Threads + Wait + Sync, G: Gate>(
 /// Serves a shared board by all of its passes, of which the last is the builder's.
 fn serve_shared<'a, D: Door, B: Bell, E: Ear, R: Threads + Wait + Sync, G: Gate>(
     means: &Means<'_, R, G>,
-    site: &Site<'a, B>,
+    site: &Site<'a, '_, '_, B>,
     ear: &mut E,
     doors: Vec<D>,
     passes: Vec<Pass>,
     room: Vec<Worker<'a, D, B>>,
 ) -> Parted<D>
+    requires fits { All (λ pass. FitsAt site.now.trade.now (place_of pass)) passes.items }
     requires open { All (λ door. D.closed door ≡ false) doors.items }
     requires long { length passes.items ≡ length doors.items + 1 }
     requires of_board { All (IsPassOf (board_id site.now.board.now)) passes.items }
     requires none { room.items ≡ [] }
     requires room { length doors.items ≤ vec_capacity room }
     requires waiting { E.over ear.old ≡ false }
-    ensures parted { IsParted D.talks D.closed D.faults D.port doors.items passes.items
-        result.doors.items result.passes.items
+    ensures parted { IsParted D.talks D.closed D.faults D.port
+        (IsHeldBy site.now.trade.now)
+        (feeds_at site.now.trade.now) doors.items passes.items result.doors.items result.passes.items
         result.builds result.failed (E.rung ear.old) (E.rung ear.new) }
     ensures over { E.over ear.new ≡ true }
 {
@@ -142,7 +185,7 @@ fn serve_shared<'a, D: Door, B: Bell, E: Ear, R: Threads + Wait + Sync, G: Gate>
     let mut passes = passes;
     let builder = seated(site, passes.pop().unwrap());
     let crew = hire(site, &mut doors, &mut passes, room);
-    let (builder, crew, builds) = serve_beside(means, site.bell, builder, ear, crew);
+    let (builder, crew, builds) = serve_beside(means, site.trade, site.bell, builder, ear, crew);
     let failed = any_failed(&crew);
     dismiss(crew, &mut doors, &mut passes);
     passes.push_reserved(builder.pass);

@@ -4,13 +4,15 @@ ghost use Rattle.std.specs.Prelude.{◌≡◌, ◌<◌, ◌≤◌, ◌+◌, ℕ,
 ghost use Rattle.path_board.specs.Passes.{IsPassOf};
 ghost use Rattle.path_board.specs.SharedBoards.{board_id};
 ghost use Rattle.session.specs.Builders.{HasBuilt};
-ghost use Rattle.session.specs.Crews.{HasRun, HaveAllRun, any_of, backwards, has_failed};
+ghost use Rattle.session.specs.Crews.{HasRun, HaveAllRun, MayBegin, any_of, backwards, has_failed};
 ghost use Rattle.session.specs.Seats.{place_of, standing_of};
+ghost use Rattle.session.specs.Trades.{FitsAt, IsHeldBy, feeds_at};
 
 use crate::builder::{BuildTotals, build_loop};
 use crate::doors::{DoorEnded, door_loop};
 use crate::means::Means;
 use crate::seated::Seated;
+use crate::trades::Trade;
 use build_pool::Gate;
 use path_board::{Pass, SharedBoard};
 use std::sync::Wait;
@@ -25,15 +27,16 @@ pub(crate) struct Worker<'a, D: Door, B: Bell> {
     pub(crate) ended: Option<DoorEnded>,
 }
 
-/// A board whose passes are used side by side, and the bell of whoever builds there.
+/// A board whose passes are used side by side, the bell of whoever builds there, and what is done over each link.
 #[derive(Drop)]
-pub(crate) struct Site<'a, B> {
+pub(crate) struct Site<'a, 't, 's, B> {
     pub(crate) board: &'a SharedBoard,
     pub(crate) bell: &'a B,
+    pub(crate) trade: &'t Trade<'s>,
 }
 
 /// The seat of that pass.
-pub(crate) fn seated<'a, B: Bell>(site: &Site<'a, B>, pass: Pass) -> Seated<'a, B>
+pub(crate) fn seated<'a, B: Bell>(site: &Site<'a, '_, '_, B>, pass: Pass) -> Seated<'a, B>
     requires { IsPassOf (board_id site.now.board.now) pass }
     ensures { result.pass ≡ pass }
 {
@@ -45,7 +48,11 @@ pub(crate) fn seated<'a, B: Bell>(site: &Site<'a, B>, pass: Pass) -> Seated<'a, 
 }
 
 /// The worker with that pass at that door.
-fn worker_at<'a, D: Door, B: Bell>(site: &Site<'a, B>, pass: Pass, door: D) -> Worker<'a, D, B>
+fn worker_at<'a, D: Door, B: Bell>(
+    site: &Site<'a, '_, '_, B>,
+    pass: Pass,
+    door: D,
+) -> Worker<'a, D, B>
     requires { IsPassOf (board_id site.now.board.now) pass }
     ensures pass { result.seat.pass ≡ pass }
     ensures door { result.door ≡ door }
@@ -60,7 +67,7 @@ fn worker_at<'a, D: Door, B: Bell>(site: &Site<'a, B>, pass: Pass, door: D) -> W
 /// Makes a worker for each door, that of the last door first. The doors and passes leave their lists, whose memory
 /// stays.
 pub(crate) fn hire<'a, D: Door, B: Bell>(
-    site: &Site<'a, B>,
+    site: &Site<'a, '_, '_, B>,
     doors: &mut Vec<D>,
     passes: &mut Vec<Pass>,
     room: Vec<Worker<'a, D, B>>,
@@ -122,33 +129,29 @@ fn has_failed(ended: Option<DoorEnded>) -> bool
 /// Serves the worker's door until its loop ends.
 fn work<D: Door, B: Bell, R: Threads + Wait + Sync, G: Gate>(
     means: &Means<'_, R, G>,
+    trade: &Trade<'_>,
     worker: &mut Worker<'_, D, B>,
 )
-    requires open { D.closed worker.old.door ≡ false }
-    ensures { HasRun D.talks D.closed D.faults D.port worker.old.seat.pass worker.old.door
+    requires ready { MayBegin D.closed (FitsAt trade.now) worker.old }
+    ensures { HasRun D.talks D.closed D.faults D.port (IsHeldBy trade.now) (feeds_at trade.now) worker.old.seat.pass worker.old.door
         worker.new.seat.pass worker.new.door worker.new.ended }
 {
-    let ended = door_loop(
-        means.rt,
-        means.alloc,
-        &mut worker.seat,
-        &mut worker.door,
-        means.workers,
-        means.gate,
-    );
+    let ended = door_loop(means, trade, &mut worker.seat, &mut worker.door);
     worker.ended = Some(ended);
 }
 
 /// Lets all workers serve their doors side by side, and shuts the bell when all of their loops have ended.
 fn serve_crew<D: Door, B: Bell, R: Threads + Wait + Sync, G: Gate>(
     means: &Means<'_, R, G>,
+    trade: &Trade<'_>,
     bell: &B,
     crew: &mut [Worker<'_, D, B>],
 )
-    requires open { (i : ℕ) (d : _) → i < length crew.old →
-        D.closed (slice_index_or crew.old i d).door ≡ false }
+    requires ready { (i : ℕ) (d : _) → i < length crew.old →
+        MayBegin D.closed (FitsAt trade.now) (slice_index_or crew.old i d) }
     ensures long { length crew.new ≡ length crew.old }
     ensures each { (i : ℕ) (d : _) → i < length crew.old → HasRun D.talks D.closed D.faults D.port
+        (IsHeldBy trade.now) (feeds_at trade.now)
         (slice_index_or crew.old i d).seat.pass (slice_index_or crew.old i d).door
         (slice_index_or crew.new i d).seat.pass (slice_index_or crew.new i d).door
         (slice_index_or crew.new i d).ended }
@@ -159,8 +162,8 @@ fn serve_crew<D: Door, B: Bell, R: Threads + Wait + Sync, G: Gate>(
         crew,
         threads,
         &|_: usize, worker: &mut Worker<'_, D, B>|
-            requires { D.closed worker.now.door ≡ false }
-        { work(means, worker) },
+            requires { MayBegin D.closed (FitsAt trade.now) worker.now }
+        { work(means, trade, worker) },
     );
     bell.shut(means.rt);
 }
@@ -168,15 +171,16 @@ fn serve_crew<D: Door, B: Bell, R: Threads + Wait + Sync, G: Gate>(
 /// The same of a list of workers, which comes back.
 fn serve_list<'a, D: Door, B: Bell, R: Threads + Wait + Sync, G: Gate>(
     means: &Means<'_, R, G>,
+    trade: &Trade<'_>,
     bell: &B,
     crew: Vec<Worker<'a, D, B>>,
 ) -> Vec<Worker<'a, D, B>>
-    requires open { (i : ℕ) (d : _) → i < length crew.items →
-        D.closed (slice_index_or crew.items i d).door ≡ false }
-    ensures ran { HaveAllRun D.talks D.closed D.faults D.port crew.entry.items result.items }
+    requires ready { (i : ℕ) (d : _) → i < length crew.items →
+        MayBegin D.closed (FitsAt trade.now) (slice_index_or crew.items i d) }
+    ensures ran { HaveAllRun D.talks D.closed D.faults D.port (IsHeldBy trade.now) (feeds_at trade.now) crew.entry.items result.items }
 {
     let mut crew = crew;
-    serve_crew(means, bell, crew.as_mut_slice());
+    serve_crew(means, trade, bell, crew.as_mut_slice());
     crew
 }
 
@@ -213,19 +217,20 @@ fn take_back<T>(_lent: &mut T)
 /// Lets the workers serve their doors and the builder build beside them, until all have ended.
 pub(crate) fn serve_beside<'a, D: Door, B: Bell, E: Ear, R: Threads + Wait + Sync, G: Gate>(
     means: &Means<'_, R, G>,
+    trade: &Trade<'_>,
     bell: &B,
     builder: Seated<'a, B>,
     ear: &mut E,
     crew: Vec<Worker<'a, D, B>>,
 ) -> (Seated<'a, B>, Vec<Worker<'a, D, B>>, BuildTotals)
     requires waiting { E.over ear.old ≡ false }
-    requires open { (i : ℕ) (d : _) → i < length crew.items →
-        D.closed (slice_index_or crew.items i d).door ≡ false }
+    requires ready { (i : ℕ) (d : _) → i < length crew.items →
+        MayBegin D.closed (FitsAt trade.now) (slice_index_or crew.items i d) }
     ensures over { E.over ear.new ≡ true }
     ensures same { place_of result.0.pass ≡ place_of builder.entry.pass }
     ensures built { HasBuilt (place_of builder.entry.pass) (standing_of builder.entry.pass) result.2
         (E.rung ear.old) (standing_of result.0.pass) (E.rung ear.new) }
-    ensures ran { HaveAllRun D.talks D.closed D.faults D.port crew.entry.items result.1.items }
+    ensures ran { HaveAllRun D.talks D.closed D.faults D.port (IsHeldBy trade.now) (feeds_at trade.now) crew.entry.items result.1.items }
 {
     // The builder is the first: where no thread can be made it comes last, when the bell is shut.
     let ((builder, ear, totals), crew) = join(
@@ -235,8 +240,8 @@ pub(crate) fn serve_beside<'a, D: Door, B: Bell, E: Ear, R: Threads + Wait + Syn
         { build(means, builder, ear) },
         ||
             requires { (i : ℕ) (d : _) → i < length crew.items →
-                D.closed (slice_index_or crew.items i d).door ≡ false }
-        { serve_list(means, bell, crew) },
+                MayBegin D.closed (FitsAt trade.now) (slice_index_or crew.items i d) }
+        { serve_list(means, trade, bell, crew) },
     );
     take_back(ear);
     (builder, crew, totals)

@@ -1,22 +1,28 @@
-//! A loop at a door: each connection that comes in is a session.
+//! A loop at a door: over each connection that comes in a talk is held.
 
-ghost use Rattle.std.specs.Prelude.{◌≡◌, ◌<◌, ◌≤◌, ◌-◌, false, IfNone, IfSome};
-ghost use Rattle.build_pool.specs.declared.TheConstants.{MAX_WORKERS};
+ghost use Rattle.std.specs.Prelude.{◌≡◌, ◌<◌, ◌-◌, false, IfNone, IfSome};
 ghost use Rattle.path_core.specs.Histories.{IsHalting};
+ghost use Rattle.path_core.specs.Passes.{OthersAdd};
+ghost use Rattle.path_board.specs.Passes.{seen_of};
 ghost use Rattle.wire.specs.Knocks.{HasLent, TellsToo};
 ghost use Rattle.wire.specs.Talks.{IsFresh};
 ghost use Rattle.session.specs.declared.doors.DoorEnded.TheVariants.{Halting};
-ghost use Rattle.session.specs.Doors.{DoorEndsSo, GoesOnOrEnds, HasServed, HasServedOne, LooksBetween, SameWhereTold};
-ghost use Rattle.session.specs.Standing.{stands};
+ghost use Rattle.session.specs.Doors.{DoorEndsSo, GoesOnOrEnds, HasServed, HasServedOne, HoldsTalk, LooksBetween, MovesOn, SameWhereTold};
+ghost use Rattle.session.specs.Seats.{place_of, standing_of};
+ghost use Rattle.session.specs.Standing.{HoldsSince, stands};
+ghost use Rattle.session.specs.Trades.{FitsAt, IsFedTalk, IsHeldBy, feeds_at};
 
 use crate::desk::Desk;
 use crate::means::Means;
+use crate::seated::Seated;
 use crate::sessions::serve_link;
+use crate::trades::Trade;
 use build_pool::Gate;
-use std::alloc::Global;
+use feed_node::feed_link;
 use std::sync::Wait;
 use std::thread::Threads;
-use wire::{Door, Knock};
+use versions::Version;
+use wire::{Bell, Door, Knock, Link};
 
 /// How a loop at a door ended.
 #[derive(Clone, Copy, Debug, PartialEq, Eq)]
@@ -29,31 +35,28 @@ pub enum DoorEnded {
     Failed,
 }
 
-/// Serves the connections that come to a door, one after the other, until the board halts, nobody will come any more,
-/// or a knock fails. Each connection is handed back to the door, however its session ended. Behind each it looks at the
-/// board, and goes on to the next only where the board does not halt.
-pub fn door_loop<K: Desk, D: Door, R: Threads + Wait + Sync, G: Gate>(
-    rt: &R,
-    alloc: Global,
-    desk: &mut K,
+/// Holds a talk over each connection that comes to a door, one after the other, until the board halts, nobody will come
+/// any more, or a knock fails. Each connection is handed back to the door, however its talk ended. Behind each it looks
+/// at the board, and goes on to the next only where the board does not halt.
+pub fn door_loop<B: Bell, D: Door, R: Threads + Wait + Sync, G: Gate>(
+    means: &Means<'_, R, G>,
+    trade: &Trade<'_>,
+    seat: &mut Seated<'_, B>,
     door: &mut D,
-    workers: u32,
-    gate: &G,
 ) -> DoorEnded
-    requires worker { 0 < workers }
-    requires workers { workers ≤ MAX_WORKERS }
+    requires fits { FitsAt trade.now (place_of seat.old.pass) }
     requires open { D.closed door.old ≡ false }
-    ensures place { K.place desk.new ≡ K.place desk.old }
-    ensures served { HasServed (K.place desk.old) (stands K.seen K.version K.looks desk.old)
-        (D.talks door.old) (stands K.seen K.version K.looks desk.new) (D.talks door.new) }
-    ensures ended { DoorEndsSo result (K.seen desk.new) (D.closed door.new) (D.faults door.old)
-        (D.faults door.new) }
+    ensures place { place_of seat.new.pass ≡ place_of seat.old.pass }
+    ensures served { HasServed (IsHeldBy trade.now)
+        (feeds_at trade.now) (place_of seat.old.pass) (standing_of seat.old.pass)
+        (D.talks door.old) (standing_of seat.new.pass) (D.talks door.new) }
+    ensures ended { DoorEndsSo result (seen_of seat.new.pass) (D.closed door.new)
+        (D.faults door.old) (D.faults door.new) }
     ensures lent { SameWhereTold (D.talks door.old) (D.lent door.old) (D.lent door.new) }
     ensures port { D.port door.new ≡ D.port door.old }
 {
-    let means = Means::new(rt, alloc, workers, gate);
-    for _ in rt.forever() {
-        match serve_knock(&means, desk, door) {
+    for _ in means.rt.forever() {
+        match serve_knock(means, trade, seat, door) {
             Some(ended) => return ended,
             None => {}
         }
@@ -62,61 +65,117 @@ pub fn door_loop<K: Desk, D: Door, R: Threads + Wait + Sync, G: Gate>(
 }
 
 /// Knocks once, and serves the connection that comes, if one comes. `None` where the loop goes on.
-fn serve_knock<K: Desk, D: Door, R: Threads + Wait + Sync, G: Gate>(
+fn serve_knock<B: Bell, D: Door, R: Threads + Wait + Sync, G: Gate>(
     means: &Means<'_, R, G>,
-    desk: &mut K,
+    trade: &Trade<'_>,
+    seat: &mut Seated<'_, B>,
     door: &mut D,
 ) -> Option<DoorEnded>
+    requires fits { FitsAt trade.now (place_of seat.old.pass) }
     requires open { D.closed door.old ≡ false }
-    ensures place { K.place desk.new ≡ K.place desk.old }
-    ensures served { HasServed (K.place desk.old) (stands K.seen K.version K.looks desk.old)
-        (D.talks door.old) (stands K.seen K.version K.looks desk.new) (D.talks door.new) }
-    ensures ended { GoesOnOrEnds result (K.seen desk.new) (D.closed door.new) (D.faults door.old)
-        (D.faults door.new) }
+    ensures place { place_of seat.new.pass ≡ place_of seat.old.pass }
+    ensures served { HasServed (IsHeldBy trade.now)
+        (feeds_at trade.now) (place_of seat.old.pass) (standing_of seat.old.pass)
+        (D.talks door.old) (standing_of seat.new.pass) (D.talks door.new) }
+    ensures ended { GoesOnOrEnds result (seen_of seat.new.pass) (D.closed door.new)
+        (D.faults door.old) (D.faults door.new) }
     ensures lent { SameWhereTold (D.talks door.old) (D.lent door.old) (D.lent door.new) }
     ensures port { D.port door.new ≡ D.port door.old }
 {
     match door.knock() {
         Ok(Knock::Conn(conn)) => {
-            serve_conn(means, desk, door, conn);
-            pause(means.rt, desk)
+            serve_conn(means, trade, seat, door, conn);
+            pause(means.rt, seat)
         }
-        Ok(Knock::Quiet) => pause(means.rt, desk),
+        Ok(Knock::Quiet) => pause(means.rt, seat),
         Ok(Knock::Closed) => Some(DoorEnded::Closed),
         Err(_) => Some(DoorEnded::Failed),
     }
 }
 
-/// Serves a connection, and hands it back. A fault of its session is told by the counts of the connection alone.
-fn serve_conn<K: Desk, D: Door, R: Threads + Wait + Sync, G: Gate>(
+/// Holds a talk over a connection, and hands it back.
+fn serve_conn<B: Bell, D: Door, R: Threads + Wait + Sync, G: Gate>(
     means: &Means<'_, R, G>,
-    desk: &mut K,
+    trade: &Trade<'_>,
+    seat: &mut Seated<'_, B>,
     door: &mut D,
     conn: D::Conn,
 )
+    requires fits { FitsAt trade.now (place_of seat.old.pass) }
     requires fresh { IsFresh (D.Conn.talk conn) }
     requires told { TellsToo (D.talks door.old) (D.Conn.talk conn) }
     requires no_read_fault { D.Conn.read_faults conn ≡ 0 }
     requires no_write_fault { D.Conn.write_faults conn ≡ 0 }
     requires lent { HasLent (D.talks door.old) (D.lent door.old) }
-    ensures place { K.place desk.new ≡ K.place desk.old }
-    ensures served { HasServedOne (K.place desk.old) (stands K.seen K.version K.looks desk.old)
-        (D.talks door.old) (stands K.seen K.version K.looks desk.new) (D.talks door.new) }
+    ensures place { place_of seat.new.pass ≡ place_of seat.old.pass }
+    ensures served { HasServedOne (IsHeldBy trade.now)
+        (feeds_at trade.now) (place_of seat.old.pass) (standing_of seat.old.pass)
+        (D.talks door.old) (standing_of seat.new.pass) (D.talks door.new) }
     ensures back { IfSome (D.talks door.old) (λ _. D.lent door.new ≡ D.lent door.old - 1) }
     ensures closed { D.closed door.new ≡ D.closed door.old }
     ensures faults { D.faults door.new ≡ D.faults door.old }
     ensures port { D.port door.new ≡ D.port door.old }
 {
     let mut conn = conn;
-    let _ended = serve_link(
+    hold_talk(means, trade, seat, &mut conn);
+    door.done(conn);
+}
+
+/// Holds a talk over a link that has just come in: a feed or a session, by the pass. A fault is
+/// told by the counts of the link alone.
+fn hold_talk<B: Bell, L: Link, R: Threads + Wait + Sync, G: Gate>(
+    means: &Means<'_, R, G>,
+    trade: &Trade<'_>,
+    seat: &mut Seated<'_, B>,
+    link: &mut L,
+)
+    requires fits { FitsAt trade.now (place_of seat.old.pass) }
+    requires fresh { IsFresh (L.talk link.old) }
+    requires no_read_fault { L.read_faults link.old ≡ 0 }
+    requires no_write_fault { L.write_faults link.old ≡ 0 }
+    ensures place { place_of seat.new.pass ≡ place_of seat.old.pass }
+    ensures on { MovesOn (feeds_at trade.now) (place_of seat.old.pass)
+        (standing_of seat.old.pass) (standing_of seat.new.pass) }
+    ensures held { IfSome (L.talk link.old) (λ _. HoldsTalk
+        (IsHeldBy trade.now) (place_of seat.old.pass)
+        (standing_of seat.old.pass) (L.talk link.new) (L.read_faults link.new)
+        (L.write_faults link.new) (standing_of seat.new.pass)) }
+{
+    match trade.start_by(seat.pass.number()) {
+        Some(start) => feed(means, start, seat, link),
+        None => {
+            let _ended = serve_link(means.rt, means.alloc, seat, link, means.workers, means.gate);
+        }
+    }
+}
+
+/// Feeds over a link that has just come in. It enters nothing.
+fn feed<B: Bell, L: Link, R: Wait, G>(
+    means: &Means<'_, R, G>,
+    start: &Version,
+    seat: &mut Seated<'_, B>,
+    link: &mut L,
+)
+    requires start { start.now.map ≡ (place_of seat.old.pass).start }
+    requires fresh { IsFresh (L.talk link.old) }
+    requires no_read_fault { L.read_faults link.old ≡ 0 }
+    requires no_write_fault { L.write_faults link.old ≡ 0 }
+    ensures place { place_of seat.new.pass ≡ place_of seat.old.pass }
+    ensures others { OthersAdd seat.old.pass.number (seen_of seat.old.pass)
+        (seen_of seat.new.pass) }
+    ensures holds { HoldsSince (standing_of seat.old.pass) (standing_of seat.new.pass) }
+    ensures held { IfSome (L.talk link.old) (λ _. HoldsTalk (IsFedTalk start.now.map)
+        (place_of seat.old.pass) (standing_of seat.old.pass) (L.talk link.new)
+        (L.read_faults link.new) (L.write_faults link.new) (standing_of seat.new.pass)) }
+{
+    let _ended = feed_link(
         means.rt,
         means.alloc,
-        desk,
-        &mut conn,
-        means.workers,
-        means.gate,
+        seat.board,
+        &mut seat.pass,
+        start,
+        link,
     );
-    door.done(conn);
 }
 
 /// Looks at the board, and ends the loop where it halts.

@@ -7,7 +7,7 @@ use std::alloc::Global;
 
 /// What a session needs beside its desk and its link. It is handed on unchanged until a version is built.
 #[derive(Drop)]
-pub(crate) struct Means<'a, R, G> {
+pub struct Means<'a, R, G> {
     /// The runtime.
     pub(crate) rt: &'a R,
     /// The memory.
@@ -22,7 +22,7 @@ pub(crate) struct Means<'a, R, G> {
 
 impl<'a, R, G> Means<'a, R, G> {
     /// These means, with 1 to 64 threads.
-    pub(crate) fn new(rt: &'a R, alloc: Global, workers: u32, gate: &'a G) -> Means<'a, R, G>
+    pub fn new(rt: &'a R, alloc: Global, workers: u32, gate: &'a G) -> Means<'a, R, G>
         requires worker { 0 < workers }
         requires workers { workers ≤ MAX_WORKERS }
         ensures { result.workers ≡ workers }

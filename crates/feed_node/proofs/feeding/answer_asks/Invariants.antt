@@ -2,7 +2,7 @@ use Rattle.std.proofs.Common.{◌≡◌, ◌≤◌, []}
 use Rattle.path_core.specs.Passes.{OthersAdd}
 use Rattle.path_board.specs.Passes.{seen_of, SamePass}
 use Rattle.feed_node.specs.Feeding.{sight_of}
-use Rattle.feed_node.specs.Looking.{IsBacklog}
+use Rattle.feed_node.specs.Looking.{HoldsSince, IsBacklog}
 use Rattle.feed_node.proofs.Fed.{IsFedTo}
 use Rattle.feed_node.proofs.feeding.answer_asks.Given as goal
 
@@ -11,6 +11,7 @@ invariant-loop g l = record {
   fed : IsFedTo (sight_of l.fn.pass) (g.L.Link.talk l.fn.link) (sight_of l.pass) (g.L.Link.talk l.link) l.counter;
   same : SamePass l.fn.pass l.pass;
   none : OthersAdd l.fn.pass.number (seen_of l.fn.pass) (seen_of l.pass);
+  held : HoldsSince l.fn.pass l.pass;
   backlog : IsBacklog (seen_of l.pass) l.backlog.known l.backlog.edits.edits;
   parcel : l.parcel ≡ [];
   reads : g.L.Link.read_faults l.fn.link ≤ g.L.Link.read_faults l.link;

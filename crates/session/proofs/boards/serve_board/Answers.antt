@@ -1,41 +1,19 @@
-use Rattle.std.proofs.Common.{◌<◌, ap, slice_index_or, subst, ◌∙◌}
-use Rattle.path_core.specs.Histories.{published_prefix}
-use Rattle.path_core.specs.Passes.{pass_of}
-use Rattle.path_board.specs.Foundations.{foundation_of}
-use Rattle.session.proofs.Parting.{all_passes, are_served, base_is, built_by, failed_so, long_after}
+use Rattle.std.proofs.lemmas.Result.{IfOk-weaker}
+use Rattle.session.specs.declared.trades.Trade.TheVariants as trade
+use Rattle.session.specs.ServedBoards.{AreServed, AreServedBy}
+use Rattle.session.specs.Trades.{IsHeldBy, feeds_at}
+use Rattle.session.proofs.Parting.{all_by_sessions}
 use Rattle.session.proofs.boards.serve_board.Goals as goal
 
-pub close-board-requires : goal.close-board-requires
-close-board-requires g c = record {
-  passes = all_passes g.D.Door.talks g.D.Door.closed g.D.Door.faults g.D.Door.port _ _ _ _ _ _ _ _ _ _ _
-      c.in-Ok-share.ensures.ok c.requires.some c.serve_shared-parted.ensures.parted;
-}
-
-pub returns-clause-base : goal.returns-clause-base
-returns-clause-base g c =
-    base_is g.D.Door.talks g.D.Door.closed g.D.Door.faults g.D.Door.port _ _ _ _ _ _ _ _ _ _ _
-    c.in-Ok-share.ensures.ok c.requires.some c.serve_shared-parted.ensures.parted (foundation_of c.close-board.result) c.close-board.ensures.base
-
-pub returns-clause-named : goal.returns-clause-named
-returns-clause-named g c =
-    λ k d early. subst (λ n. pass_of (slice_index_or c.close-board.result.history k d) < n)
-    (long_after g.D.Door.talks g.D.Door.closed g.D.Door.faults g.D.Door.port _ _ _ _ _ _ _ _ _ _ _
-    c.in-Ok-share.ensures.ok c.requires.some c.serve_shared-parted.ensures.parted) (c.close-board.ensures.named k d early)
+pub serve_trades-requires-clause-fits : goal.serve_trades-requires-clause-fits
+serve_trades-requires-clause-fits g c κs within = λ number place is map by. absurd by
 
 pub returns-clause-served : goal.returns-clause-served
 returns-clause-served g c =
-    are_served g.D.Door.talks g.D.Door.closed g.D.Door.faults g.D.Door.port _ _ _ _ _ _ _ _ _ _ _
-    c.in-Ok-share.ensures.ok c.requires.some c.serve_shared-parted.ensures.parted c.close-board.result.history
-    (c.version.ensures.version.after ∙ ap published_prefix c.requires.none) c.close-board.ensures.seen
-
-pub returns-clause-built : goal.returns-clause-built
-returns-clause-built g c =
-    built_by g.D.Door.talks g.D.Door.closed g.D.Door.faults g.D.Door.port _ _ _ _ _ _ _ _ _ _ _
-    c.in-Ok-share.ensures.ok c.requires.some c.serve_shared-parted.ensures.parted c.close-board.result.history
-    (c.version.ensures.version.after ∙ ap published_prefix c.requires.none) c.close-board.ensures.seen
-
-pub returns-clause-failed : goal.returns-clause-failed
-returns-clause-failed g c =
-    failed_so g.D.Door.talks g.D.Door.closed g.D.Door.faults g.D.Door.port _ _ _ _ _ _ _ _ _ _ _
-    c.in-Ok-share.ensures.ok c.requires.some c.serve_shared-parted.ensures.parted c.close-board.result.history
-    (c.version.ensures.version.after ∙ ap published_prefix c.requires.none) c.close-board.ensures.seen
+    IfOk-weaker c.serve_trades.result
+    (λ served. AreServedBy g.D.Door.talks g.D.Door.closed g.D.Door.faults g.D.Door.port (IsHeldBy trade.Sessions) (feeds_at trade.Sessions) c.args.board
+    c.args.doors.items served.doors.items served.board.history)
+    (λ served. AreServed g.D.Door.talks g.D.Door.closed g.D.Door.faults g.D.Door.port c.args.board c.args.doors.items served.doors.items served.board.history)
+    (λ served by. all_by_sessions g.D.Door.talks g.D.Door.closed g.D.Door.faults g.D.Door.port trade.Sessions c.args.board served.board.history c.args.doors.items
+    served.doors.items (λ number map none. none) by)
+    c.serve_trades.ensures.served

@@ -5,14 +5,18 @@ use Rattle.path_board.specs.declared.pass.Pass.{Pass}
 use Rattle.session.specs.Builders.{HasBuilt}
 use Rattle.session.specs.Crews.{any_of, has_failed}
 use Rattle.session.specs.Seats.{place_of, standing_of}
-use Rattle.session.proofs.Crewing.{crew_each, have_run}
+use Rattle.session.specs.Trades.{FitsAt, IsHeldBy, feeds_at}
+use Rattle.session.proofs.Crewing.{all_front, have_run, may_begin}
 use Rattle.session.proofs.Hiring.{back_long}
 use Rattle.session.proofs.boards.serve_shared.Goals as goal
 
-pub serve_beside-builder-requires-clause-open : goal.serve_beside-builder-requires-clause-open
-serve_beside-builder-requires-clause-open g c κs within =
-    crew_each g.D.Door.talks g.D.Door.closed g.D.Door.faults g.D.Door.port (λ door. g.D.Door.closed door ≡ false) c.hire-crew.result.items c.args.doors.items
-    c.hire-crew.ensures.doors c.requires.open
+pub serve_beside-builder-requires-clause-ready : goal.serve_beside-builder-requires-clause-ready
+serve_beside-builder-requires-clause-ready g c κs within =
+    let left = c.pop.new.self.items in
+    let had : c.args.passes.items ≡ left ++ c.unwrap.result ∷ [] = c.pop.ensures.items ∙ ap (λ o. left ++ option_to_list o) c.unwrap.ensures in
+    may_begin g.D.Door.closed (FitsAt c.args.site.now.trade.now) c.hire-crew.result.items c.args.doors.items left
+    c.hire-crew.ensures.doors c.hire-crew.ensures.passes c.requires.open
+    (all_front (λ pass. FitsAt c.args.site.now.trade.now (place_of pass)) left (c.unwrap.result ∷ []) c.args.passes.items had c.requires.fits)
 
 pub push_reserved-requires : goal.push_reserved-requires
 push_reserved-requires g c =
@@ -45,7 +49,8 @@ returns-clause-parted g c =
       first_after = c.dismiss.new.passes.items;
       builder_after = after;
       passes_after_are = c.push_reserved.ensures.items;
-      ran = have_run g.D.Door.talks g.D.Door.closed g.D.Door.faults g.D.Door.port c.hire-crew.result.items c.serve_beside-builder.result.1.items c.args.doors.items left
+      ran = have_run g.D.Door.talks g.D.Door.closed g.D.Door.faults g.D.Door.port (IsHeldBy c.args.site.now.trade.now)
+          (feeds_at c.args.site.now.trade.now) c.hire-crew.result.items c.serve_beside-builder.result.1.items c.args.doors.items left
           c.dismiss.new.doors.items c.dismiss.new.passes.items c.serve_beside-builder.ensures.ran c.hire-crew.ensures.doors c.hire-crew.ensures.passes
           c.dismiss.ensures.doors c.dismiss.ensures.passes c.any_failed-failed.result
           (c.any_failed-failed.ensures ∙ ap (λ l. any_of l (λ w. has_failed w.ended)) c.deref.ensures.value);

@@ -1,6 +1,7 @@
 use Rattle.std.proofs.Common.{subst, sym}
 use Rattle.session.specs.Doors.{HasServed, HasServedOne, LooksBetween}
-use Rattle.session.specs.Standing.{standing, stands}
+use Rattle.session.specs.Seats.{place_of, standing_of}
+use Rattle.session.specs.Trades.{IsHeldBy, feeds_at}
 use Rattle.session.proofs.Leading.{served_none, served_one}
 use Rattle.session.proofs.Ringing.{rests_none}
 use Rattle.session.proofs.doors.serve_knock.Goals as goal
@@ -8,25 +9,28 @@ use Rattle.session.proofs.doors.serve_knock.Goals.{After-knock}
 
 -- nobody was served by the knock itself
 none_served : (g : _) (c : After-knock g)
-    → HasServed (g.K.Desk.place c.args.desk.now) (stands g.K.Desk.seen g.K.Desk.version g.K.Desk.looks c.args.desk.now) (g.D.Door.talks c.args.door.now)
-    (stands g.K.Desk.seen g.K.Desk.version g.K.Desk.looks c.args.desk.now) (g.D.Door.talks c.knock.new.self)
+    → HasServed (IsHeldBy c.args.trade.now) (feeds_at c.args.trade.now) (place_of c.args.seat.now.pass) (standing_of c.args.seat.now.pass)
+    (g.D.Door.talks c.args.door.now) (standing_of c.args.seat.now.pass) (g.D.Door.talks c.knock.new.self)
 none_served g c =
-    let place = g.K.Desk.place c.args.desk.now in
-    let old = stands g.K.Desk.seen g.K.Desk.version g.K.Desk.looks c.args.desk.now in
+    let held = IsHeldBy c.args.trade.now in
+    let silent = feeds_at c.args.trade.now in
+    let place = place_of c.args.seat.now.pass in
+    let old = standing_of c.args.seat.now.pass in
     let before = g.D.Door.talks c.args.door.now in
-    subst (HasServed place old before old) (sym c.knock.ensures.talks) (served_none place old old before (rests_none place old))
+    subst (HasServed held silent place old before old) (sym c.knock.ensures.talks) (served_none held silent place old old before (rests_none place old))
 
 pub returns-in-Ok-Conn-clause-served : goal.returns-in-Ok-Conn-clause-served
 returns-in-Ok-Conn-clause-served g c =
-    let place = g.K.Desk.place c.args.desk.now in
-    let old = standing (g.K.Desk.seen c.args.desk.now) (g.K.Desk.version c.args.desk.now) (g.K.Desk.looks c.args.desk.now) in
-    let served = c.serve_conn.new.desk in
-    let mid = standing (g.K.Desk.seen served) (g.K.Desk.version served) (g.K.Desk.looks served) in
-    let desk = c.pause.new.desk in
-    let new = standing (g.K.Desk.seen desk) (g.K.Desk.version desk) (g.K.Desk.looks desk) in
+    let held = IsHeldBy c.args.trade.now in
+    let silent = feeds_at c.args.trade.now in
+    let place = place_of c.args.seat.now.pass in
+    let old = standing_of c.args.seat.now.pass in
+    let mid = standing_of c.serve_conn.new.seat.pass in
+    let new = standing_of c.pause.new.desk.pass in
     let before = g.D.Door.talks c.args.door.now in
     let after = g.D.Door.talks c.serve_conn.new.door in
-    served_one place old mid new before after (subst (λ told. HasServedOne place old told mid after) c.knock.ensures.talks c.serve_conn.ensures.served)
+    served_one held silent place old mid new before after
+    (subst (λ told. HasServedOne held silent place old told mid after) c.knock.ensures.talks c.serve_conn.ensures.served)
     (subst (λ p. LooksBetween p mid new) c.serve_conn.ensures.place c.pause.ensures.looks)
 
 pub returns-in-Ok-Closed-clause-served : goal.returns-in-Ok-Closed-clause-served
