@@ -11,10 +11,11 @@ use Rattle.path_commands.specs.declared.commands.Verb.TheVariants as verb
 use Rattle.path_commands.specs.declared.status.Status.{Status}
 use Rattle.path_commands.specs.declared.status.Status.TheVariants as status
 use Rattle.path_commands.specs.Commands.{verb_named, verb_of}
-use Rattle.path_commands.specs.Runs.{Run}
+use Rattle.path_commands.specs.declared.request.Sides.{Sides}
+use Rattle.path_commands.specs.Requests.{Aim, Fits, aim_verb, by_formula, check, export, made, near, nearpath, path, replay, scen}
+use Rattle.path_commands.specs.Runs.{IsWordsCause, Run}
 use Rattle.path_commands.specs.Statuses.{status_text}
 use Rattle.path_commands.specs.Words.{texts_of}
-use Rattle.bake_run.specs.Asking.{IsWordsCause}
 use Rattle.bake_run.specs.Baking.{BreaksOff, FailsByMap, IsAskedFor, IsCause, PutsImage, export_words, refusal_text}
 
 -- ---- the words
@@ -25,6 +26,20 @@ named_export words = refl
 
 pub asks_for_export : (all words : List Text) → all ≡ export_words words → verb_of all ≡ Some verb.Export
 asks_for_export all words same = ap verb_of same ∙ named_export words
+
+-- what `export` asks for, which is never asked of a made map
+pub is_export : (aim : Aim) → aim_verb aim ≡ verb.Export → aim ≡ export
+is_export (path start goal) same = absurd cc
+is_export check same = absurd cc
+is_export near same = absurd cc
+is_export (nearpath start goal) same = absurd cc
+is_export (scen scenarios) same = absurd cc
+is_export (made seed) same = absurd cc
+is_export (replay events) same = absurd cc
+is_export export same = refl
+
+pub no_formula : (sides : Sides) (seed : ℕ) (aim : Aim) → aim_verb aim ≡ verb.Export → Fits (by_formula sides seed) aim → ⊥
+no_formula sides seed aim same fits = subst (Fits (by_formula sides seed)) (is_export aim same) fits
 
 -- one more of the words
 pub one_more_word : (all words : List (String Global)) (k : ℕ) (word d : String Global) → k < length words → string_bytes word ≡ string_bytes (get_or words k d)
@@ -64,6 +79,7 @@ told_text cause (status.Broken why) other which = refl
 told_text cause status.BadAnswer other which = refl
 told_text cause (status.Events line) other which = refl
 told_text cause (status.Db fault) other which = refl
+told_text cause status.LeaderMemory other which = refl
 
 module _ (run : Run) where
   pub map_fails : (cause : Status) → FailsByMap run cause → IsCause run cause
@@ -80,6 +96,7 @@ module _ (run : Run) where
   map_fails status.BadAnswer fails = fails
   map_fails (status.Events line) fails = fails
   map_fails (status.Db fault) fails = fails
+  map_fails status.LeaderMemory fails = fails
 
   pub words_fail : (all : List Text) (cause : Status) → all ≡ export_words run.words → IsWordsCause all cause → IsCause run cause
   words_fail all status.Done same fails = absurd fails
@@ -95,6 +112,7 @@ module _ (run : Run) where
   words_fail all status.BadAnswer same fails = absurd fails
   words_fail all (status.Events line) same fails = absurd fails
   words_fail all (status.Db fault) same fails = absurd fails
+  words_fail all status.LeaderMemory same fails = absurd fails
 
   -- neither the end of the work nor a fault of the output is a cause
   pub no_done : (cause : Status) → IsCause run cause → cause ≢ status.Done

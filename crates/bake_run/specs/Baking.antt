@@ -11,7 +11,7 @@ use Rattle.path_image.specs.Writing.{bytes_of}
 use Rattle.path_commands.specs.declared.request.BuildOptions.{BuildOptions}
 use Rattle.path_commands.specs.declared.status.Status.{Status}
 use Rattle.path_commands.specs.declared.status.Status.TheVariants as status
-use Rattle.path_commands.specs.Requests.{Asked, export, request_of}
+use Rattle.path_commands.specs.Requests.{Asked, export, in_file, of_map, request_of}
 use Rattle.path_commands.specs.Runs.{HoldsMap, IsFirstVersion, IsMapFileCause, Run}
 use Rattle.path_commands.specs.Statuses.{status_text}
 
@@ -25,7 +25,7 @@ asked_of words = request_of (export_words words)
 
 -- the words ask for the image of the map in the file of that name, built so
 abbrev pub AsksFor : Run → Text → BuildOptions → Type 0
-AsksFor run name build = asked_of run.words ≡ Some (export name build)
+AsksFor run name build = asked_of run.words ≡ Some (of_map (in_file name) export build)
 
 -- the version is the first one of the map in the file that the words name, in the order that they name
 pub record IsAskedFor (run : Run) (version : Versioned) : Type 0 where

@@ -1,2 +1,1 @@
 pub mod Baking
-pub mod Asking

@@ -2,12 +2,12 @@
 ghost use Rattle.std.specs.Prelude.{◌≡◌, IfErr, IfOk, Some, string_bytes};
 ghost use Rattle.path_commands.specs.declared.commands.Verb.{Verb};
 ghost use Rattle.path_commands.specs.Commands.{verb_of};
-ghost use Rattle.path_commands.specs.Requests.{export, request_of};
+ghost use Rattle.path_commands.specs.Requests.{Fits, aim_of, aim_verb, export, in_file, of_map, request_of, source_of};
 ghost use Rattle.path_commands.specs.Words.{AreWorkers, texts_of};
-ghost use Rattle.bake_run.specs.Asking.{IsWordsCause};
+ghost use Rattle.path_commands.specs.Runs.{IsWordsCause};
 ghost use Rattle.bake_run.specs.Baking.{export_words};
 
-use path_commands::{BuildOptions, Request, Status, read_request};
+use path_commands::{BuildOptions, MapAsked, MapSource, Request, Status, read_request};
 use std::alloc::{AllocError, Global};
 
 /// What the words ask for: the image of a map.
@@ -44,15 +44,30 @@ fn copy_of(alloc: Global, text: &String) -> Result<String, AllocError>
 pub(crate) fn read_words<'a>(alloc: Global, words: &'a [String]) -> Result<Baking<'a>, Status>
     requires { verb_of (texts_of words.now) ≡ Some Verb.Export }
     ensures asked { IfOk result (λ asked.
-        request_of (texts_of words.entry.now) ≡ Some (export asked.map.now asked.build)) }
+        request_of (texts_of words.entry.now)
+        ≡ Some (of_map (in_file asked.map.now) export asked.build)) }
     ensures workers { IfOk result (λ asked. AreWorkers asked.build.workers) }
     ensures refused { IfErr result (IsWordsCause (texts_of words.entry.now)) }
 {
     match read_request(alloc, words)? {
-        Request::Export { map, build } => Ok(Baking { map, build }),
-        Request::Path { .. } | Request::NearPath { .. } | Request::Near { .. } => unreachable!(),
-        Request::Check { .. } | Request::Scen { .. } | Request::Made { .. } => unreachable!(),
-        Request::Replay { .. } | Request::Talk { .. } | Request::Serve { .. } => unreachable!(),
-        Request::Ask { .. } | Request::Verify { .. } => unreachable!(),
+        Request::OfMap(asked) => Ok(baking_of(asked)),
+        Request::Talk(_) | Request::Serve(_) | Request::Lead(_) => unreachable!(),
+        Request::Ask(_) | Request::Follow(_) | Request::Verify(_) => unreachable!(),
+    }
+}
+
+/// What is asked for by `export`, whose map lies in a file.
+fn baking_of<'a>(asked: MapAsked<'a>) -> Baking<'a>
+    requires verb { aim_verb (aim_of asked.aim) ≡ Verb.Export }
+    requires fits { Fits (source_of asked.source) (aim_of asked.aim) }
+    ensures { of_map (in_file result.map.now) export result.build
+        ≡ of_map (source_of asked.entry.source) (aim_of asked.entry.aim) asked.entry.build }
+{
+    match asked.source {
+        MapSource::File(map) => Baking {
+            map,
+            build: asked.build,
+        },
+        MapSource::Formula { .. } => unreachable!(),
     }
 }

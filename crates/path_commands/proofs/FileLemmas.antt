@@ -42,6 +42,7 @@ file_cause file (status.Broken why) h = absurd h
 file_cause file status.BadAnswer h = absurd h
 file_cause file (status.Events line) h = h
 file_cause file (status.Db fault) h = h
+file_cause file status.LeaderMemory h = absurd h
 
 pub holds_scenarios : (file : RunFile) (bytes : List ℕ) (scenarios : List ScenLine) → HoldsBytes file MAX_SCEN_BYTES bytes → scenarios_of bytes ≡ Ok scenarios → HoldsScenarios file scenarios
 holds_scenarios file bytes scenarios holds is = of_told (λ bytes. scenarios_of bytes ≡ Ok scenarios) file.held MAX_SCEN_BYTES bytes holds is
@@ -64,6 +65,7 @@ scenario_file_cause file (status.Broken why) h = absurd h
 scenario_file_cause file status.BadAnswer h = absurd h
 scenario_file_cause file (status.Events line) h = h
 scenario_file_cause file (status.Db fault) h = h
+scenario_file_cause file status.LeaderMemory h = absurd h
 
 pub holds_events : (file : RunFile) (bytes : List ℕ) (events : List Event) → HoldsBytes file MAX_EVENTS_BYTES bytes → AreEventsOf bytes events → HoldsEvents file events
 holds_events file bytes events holds are = of_told (λ bytes. AreEventsOf bytes events) file.held MAX_EVENTS_BYTES bytes holds are
@@ -86,3 +88,4 @@ events_file_cause file (status.Broken why) h = absurd h
 events_file_cause file status.BadAnswer h = absurd h
 events_file_cause file (status.Events line) h = absurd h
 events_file_cause file (status.Db fault) h = h
+events_file_cause file status.LeaderMemory h = absurd h

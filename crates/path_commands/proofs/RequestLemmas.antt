@@ -1,5 +1,5 @@
 -- What a command makes of words, and what it made of the values that a parse found.
-use Rattle.std.proofs.Common.{◌≡◌, List, [], ◌∷◌, length, String, Bool, true, false, Option, Some, None, Err, IfOk, IfSome, string_bytes, find, position, inl, inr, refl, sym, ap, ap₂, option_map, arith}
+use Rattle.std.proofs.Common.{◌≡◌, ◌∙◌, List, [], ◌∷◌, length, String, Bool, true, false, Option, Some, None, Err, IfOk, IfSome, string_bytes, find, position, inl, inr, refl, sym, ap, ap₂, option_map, arith}
 use Rattle.std.specs.Option.{option_and_then}
 use Rattle.std.specs.List.{position_or_len}
 use Rattle.std.proofs.lemmas.Bool.{cases_lt}
@@ -13,12 +13,13 @@ use Rattle.clap.specs.Words.{Text, first_value, found_of, is_simple_and_free}
 use Rattle.clap.specs.declared.parser.matches.ArgMatches.{ArgMatches}
 use Rattle.clap.proofs.OnLiterals.{clap_on_literals}
 use Rattle.path_commands.specs.declared.commands.Verb.{Verb}
-use Rattle.path_commands.specs.declared.commands.Verb.TheVariants.{Path, Check, Near, NearPath, Scen, Made, Replay, Talk, Serve, Ask, Export, Verify}
+use Rattle.path_commands.specs.declared.commands.Verb.TheVariants.{Path, Check, Near, NearPath, Scen, Made, Replay, Talk, Serve, Ask, Export, Verify, Lead, Follow}
 use Rattle.path_commands.specs.declared.request.Request.{Request}
 use Rattle.path_commands.specs.declared.request.RequestError.TheVariants.{Usage}
-use Rattle.path_commands.specs.Commands.{app_for, verb_named, verb_of}
+use Rattle.path_commands.specs.Commands.{app_for, kind_named, kind_or, verb_kind, verb_named, verb_of}
 use Rattle.path_commands.specs.Words.{HasValues, command_app, every_value, is_taken, texts_of}
-use Rattle.path_commands.specs.Requests.{Asked, asked, asked_by, request_by}
+use Rattle.path_commands.specs.Requests.{Asked, asked, asked_by, kind_asked, request_by, verb_asked}
+use Rattle.path_commands.specs.Requests.{ask, check, export, follow, lead, made, near, nearpath, of_map, path, replay, scen, serve, talk, verify}
 
 -- clap says of each command what it makes of any words
 pub simple_app : (verb : Verb) → is_simple_and_free (app_for verb) ≡ true
@@ -35,6 +36,8 @@ simple_app Serve = refl
 simple_app Ask = refl
 simple_app Export = refl
 simple_app Verify = refl
+simple_app Lead = refl
+simple_app Follow = refl
 
 -- the first word names the command
 pub named_first : (words : List (String Global)) (name : String Global) → Some name ≡ slice_get words 0 → verb_of (texts_of words) ≡ verb_named (string_bytes name)
@@ -59,6 +62,27 @@ read_some None x e = tt
 pub read_none : (o : Option Request) (x : Option Asked) → option_map asked o ≡ x → ok_or o Usage ≡ Err Usage → x ≡ None
 read_none (Some request) x e h = absurd cc
 read_none None x e h = sym e
+
+-- the kind of what is asked for is that of the command that asks for it
+pub kind_of_verb : (request : Asked) → verb_kind (verb_asked request) ≡ kind_asked request
+kind_of_verb (of_map source (path start goal) build) = refl
+kind_of_verb (of_map source check build) = refl
+kind_of_verb (of_map source near build) = refl
+kind_of_verb (of_map source (nearpath start goal) build) = refl
+kind_of_verb (of_map source (scen scenarios) build) = refl
+kind_of_verb (of_map source (made seed) build) = refl
+kind_of_verb (of_map source (replay events) build) = refl
+kind_of_verb (of_map source export build) = refl
+kind_of_verb (talk map room build) = refl
+kind_of_verb (serve map doors room build) = refl
+kind_of_verb (ask port said) = refl
+kind_of_verb (verify db) = refl
+kind_of_verb (lead map doors feed room build) = refl
+kind_of_verb (follow port rounds order) = refl
+
+-- and so it is that of the command that the words name
+pub kind_of_words : (words : List Text) (request : Asked) → verb_of words ≡ Some (verb_asked request) → kind_named words ≡ kind_asked request
+kind_of_words words request named = ap kind_or named ∙ kind_of_verb request
 
 -- what holds of a request that is there holds of the one that was read
 pub kept_some : (P : Request → Type 0) (o : Option Request) → IfSome o P → IfOk (ok_or o Usage) P

@@ -17,21 +17,26 @@ above_zero : (before after : ℕ) → before ≡ 0 → Rose before after → not
 above_zero before after none rose = ap not (ne_eqb after 0 (λ same. omega arith))
 
 module _ {D : Type 0} (closed : D → Bool) (faults : D → ℕ) where
+  -- where a count of a door rose from 0, it is found among them
+  pub rose_found : (before after : List D) → length after ≡ length before → All (λ door. faults door ≡ 0) before → SomeRose closed faults before after
+      → rose_once faults after ≡ true
+  rose_found before [] long none some = let early = some.within in absurd (omega (arith, long, early))
+  rose_found before (door ∷ doors) long none some =
+      let early = some.within in
+      let was : faults (get_or before some.place door) ≡ 0 = All-get_or (λ door. faults door ≡ 0) before some.place door early none in
+      list_any_at (λ door. not (faults door == 0)) (door ∷ doors) some.place door (omega (arith, long, early))
+      (above_zero (faults (get_or before some.place door)) (faults (get_or (door ∷ doors) some.place door)) was (some.rose door))
+
   -- where a count of a door rose, that of the house rises as the doors are handed back
   pub house_rose : (before after : List D) (past now : ℕ) → length after ≡ length before → All (λ door. faults door ≡ 0) before → SomeRose closed faults before after
       → now ≡ count_if (rose_once faults after) past → Rose past now
-  house_rose before [] past now long none some told = let early = some.within in absurd (omega (arith, long, early))
-  house_rose before (door ∷ doors) past now long none some told =
-      let early = some.within in
-      let was : faults (get_or before some.place door) ≡ 0 = All-get_or (λ door. faults door ≡ 0) before some.place door early none in
-      let found = list_any_at (λ door. not (faults door == 0)) (door ∷ doors) some.place door (omega (arith, long, early))
-      (above_zero (faults (get_or before some.place door)) (faults (get_or (door ∷ doors) some.place door)) was (some.rose door)) in
-      let one : now ≡ count_if true past = told ∙ ap (λ b. count_if b past) found in
+  house_rose before after past now long none some told =
+      let one : now ≡ count_if true past = told ∙ ap (λ b. count_if b past) (rose_found before after long none some) in
       subst (λ n. Rose past n) (sym one) (omega arith)
 
 module _ {D C : Type 0} (house : RunDoors D C) (ear : RunEar) where
   -- why a house gave no doors
-  doors_cause : (why : HouseError) → (why ≡ refusal.Failed → Rose house.faults_before house.faults_after) → IsDoorsCause D C house (status_without_doors why)
+  pub doors_cause : (why : HouseError) → (why ≡ refusal.Failed → Rose house.faults_before house.faults_after) → IsDoorsCause D C house (status_without_doors why)
   doors_cause refusal.Failed rose = rose refl
   doors_cause refusal.NoMemory rose = tt
 

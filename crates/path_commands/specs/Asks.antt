@@ -43,17 +43,20 @@ house_over talk lent called reads writes old new = record {
 abbrev pub HasGivenNone : {D C : Type 0} → Option (Lendings D C) → Type 0
 HasGivenNone told = IfSome told (λ lent. lent ≡ no_lendings)
 
--- The house was called at the port. Over the link that it gave the request was asked, with this result, and
--- then that link was handed back, and no other.
-pub record CallsOnce (D C : Type 0) (house : RunHouse D C) (port : ℕ) (request : Request)
-    (result : Result Heard ClientFault) : Type 0 where
+-- The house was called at the port. Over the link that it gave was this talk, told before it and after it, and then that link
+-- was handed back, and no other.
+pub record CallsOver (D C : Type 0) (house : RunHouse D C) (port : ℕ) (talks : Option Talk → Option Talk → Type 0) : Type 0 where
   pub called : house.called ≡ Some port
   pub begun : Option Talk
   pub fresh : IsFresh begun
   pub told : TellsTalk house.before begun
   pub link : C
-  pub asked : Asked request begun result (house.talk link)
+  pub talked : talks begun (house.talk link)
   pub back : house.after ≡ with_link_back (with_link_given house.before) (Some port) link
+
+-- over it the request was asked, with this result
+abbrev pub CallsOnce : (D C : Type 0) → RunHouse D C → ℕ → Request → Result Heard ClientFault → Type 0
+CallsOnce D C house port request result = CallsOver D C house port (λ begun then. Asked request begun result then)
 
 -- the house was called at the port, and nobody answered
 pub record CallsInVain (D C : Type 0) (house : RunHouse D C) (port : ℕ) : Type 0 where

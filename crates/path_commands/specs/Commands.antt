@@ -1,10 +1,12 @@
 -- The commands of the program, a line each: the name, and the arguments and options.
-use Rattle.std.specs.Prelude.{List, [], ◌∷◌, ◌++◌, Bool, Option, None, is_some, codes, find, map}
+use Rattle.std.specs.Prelude.{List, [], ◌∷◌, ◌++◌, Bool, Option, Some, None, is_some, codes, find, map}
 use Rattle.std.specs.Str.{bytes_eq}
 use Rattle.clap.specs.Walk.{Rule, Text}
 use Rattle.clap.specs.Simple.{App}
+use Rattle.path_commands.specs.declared.commands.Kind.{Kind}
+use Rattle.path_commands.specs.declared.commands.Kind.TheVariants as kind
 use Rattle.path_commands.specs.declared.commands.Verb.{Verb}
-use Rattle.path_commands.specs.declared.commands.Verb.TheVariants.{Path, Check, Near, NearPath, Scen, Made, Replay, Talk, Serve, Ask, Export, Verify}
+use Rattle.path_commands.specs.declared.commands.Verb.TheVariants.{Path, Check, Near, NearPath, Scen, Made, Replay, Talk, Serve, Ask, Export, Verify, Lead, Follow}
 use Rattle.path_commands.specs.declared.commands.Field.{Field}
 use Rattle.path_commands.specs.declared.commands.Field.TheVariants.{Argument, Setting, Several}
 use Rattle.path_commands.specs.declared.commands.Value.{Value}
@@ -42,7 +44,8 @@ with_build arguments =
     map required_rule arguments ++ option_rule (codes "order") ∷ option_rule (codes "workers") ∷ []
 
 abbrev pub verbs : List Verb
-verbs = Path ∷ Check ∷ Scen ∷ Made ∷ Replay ∷ Talk ∷ Serve ∷ Ask ∷ Export ∷ Verify ∷ Near ∷ NearPath ∷ []
+verbs = Path ∷ Check ∷ Scen ∷ Made ∷ Replay ∷ Talk ∷ Serve ∷ Ask ∷ Export ∷ Verify ∷ Near ∷ NearPath
+    ∷ Lead ∷ Follow ∷ []
 
 -- the word that names the command
 abbrev pub verb_name : Verb → Text
@@ -58,6 +61,8 @@ verb_name Serve = codes "serve"
 verb_name Ask = codes "ask"
 verb_name Export = codes "export"
 verb_name Verify = codes "verify"
+verb_name Lead = codes "lead"
+verb_name Follow = codes "follow"
 
 -- its arguments in order, and its options
 abbrev pub verb_rules : Verb → List Rule
@@ -76,6 +81,10 @@ verb_rules Serve =
 verb_rules Ask = required_rule (codes "PORT") ∷ several_rule (codes "WORDS") ∷ []
 verb_rules Export = with_build (codes "MAP" ∷ [])
 verb_rules Verify = required_rule (codes "DB") ∷ []
+verb_rules Lead =
+    with_build (codes "MAP" ∷ codes "PORT" ∷ codes "DOORS" ∷ codes "FEED" ∷ []) ++ option_rule (codes "room") ∷ []
+verb_rules Follow =
+    required_rule (codes "PORT") ∷ required_rule (codes "ROUNDS") ∷ option_rule (codes "order") ∷ []
 
 -- how they are shown
 abbrev pub verb_synopsis : Verb → Text
@@ -91,6 +100,8 @@ verb_synopsis Serve = codes " MAP PORT DOORS [--order rows|dfs] [--workers N] [-
 verb_synopsis Ask = codes " PORT WORDS.."
 verb_synopsis Export = codes " MAP [--order rows|dfs] [--workers N]"
 verb_synopsis Verify = codes " DB"
+verb_synopsis Lead = codes " MAP PORT DOORS FEED [--order rows|dfs] [--workers N] [--room N]"
+verb_synopsis Follow = codes " PORT ROUNDS [--order rows|dfs]"
 
 -- the command as clap reads it
 unfoldable pub app_for : Verb → App
@@ -104,3 +115,20 @@ verb_named name = find (λ verb. bytes_eq (verb_name verb) name) verbs
 abbrev pub verb_of : List Text → Option Verb
 verb_of [] = None
 verb_of (name ∷ rest) = verb_named name
+
+-- the kind of a command
+abbrev pub verb_kind : Verb → Kind
+verb_kind Talk = kind.Talk
+verb_kind Serve = kind.Serve
+verb_kind Ask = kind.Ask
+verb_kind Lead = kind.Lead
+verb_kind Follow = kind.Follow
+verb_kind _ = kind.Printed
+
+-- the kind of the command that the first word names; where it names none, what is said of that is printed
+abbrev pub kind_or : Option Verb → Kind
+kind_or (Some verb) = verb_kind verb
+kind_or None = kind.Printed
+
+abbrev pub kind_named : List Text → Kind
+kind_named words = kind_or (verb_of words)

@@ -1,5 +1,5 @@
 -- What the words of a command line ask for.
-use Rattle.std.specs.Prelude.{◌≡◌, ℕ, ◌<◌, ◌≤◌, ◌*◌, nat_le, List, String, Option, Some, None, codes, if◌then◌else◌, option_and_then}
+use Rattle.std.specs.Prelude.{◌≡◌, ◌≢◌, ℕ, ◌<◌, ◌≤◌, ◌*◌, ◌==◌, nat_le, List, String, Option, Some, None, codes, if◌then◌else◌, option_and_then}
 use Rattle.std.specs.Global.{Global}
 use Rattle.clap.specs.Walk.{Text}
 use Rattle.moves.specs.declared.Cell.{Cell}
@@ -10,98 +10,142 @@ use Rattle.session.specs.declared.boards.TheConstants.{MAX_DOORS}
 use Rattle.path_core.specs.declared.TheConstants.{MAX_ENTRIES}
 use Rattle.cell_order.specs.declared.OrderKind.{OrderKind}
 use Rattle.cell_order.specs.declared.OrderKind.TheVariants.{Rows}
+use Rattle.path_commands.specs.declared.commands.Kind.{Kind}
+use Rattle.path_commands.specs.declared.commands.Kind.TheVariants as kind
 use Rattle.path_commands.specs.declared.commands.Verb.{Verb}
 use Rattle.path_commands.specs.declared.commands.Verb.TheVariants as verb
 use Rattle.path_commands.specs.declared.request.BuildOptions.{BuildOptions}
+use Rattle.path_commands.specs.declared.request.MapAim.{MapAim}
+use Rattle.path_commands.specs.declared.request.MapAim.TheVariants as aim
+use Rattle.path_commands.specs.declared.request.MapSource.{MapSource}
+use Rattle.path_commands.specs.declared.request.MapSource.TheVariants.{File, Formula}
+use Rattle.path_commands.specs.declared.request.Refusal.{Refusal}
 use Rattle.path_commands.specs.declared.request.Request.{Request}
-use Rattle.path_commands.specs.declared.request.Request.TheVariants.{Path, Check, Near, NearPath, Scen, Made, Replay, Talk, Serve, Ask, Export, Verify}
+use Rattle.path_commands.specs.declared.request.Request.TheVariants.{OfMap, Talk, Serve, Ask, Verify, Lead, Follow}
+use Rattle.path_commands.specs.declared.request.RequestError.TheVariants.{Usage}
 use Rattle.path_commands.specs.declared.request.Sides.{Sides}
-use Rattle.path_commands.specs.declared.words.TheConstants.{STANDARD_ROOM}
+use Rattle.path_commands.specs.declared.words.TheConstants.{MAX_ROUNDS, STANDARD_ROOM}
 use Rattle.path_commands.specs.declared.words.NumberKind.{NumberKind}
 use Rattle.path_commands.specs.declared.words.NumberKind.TheVariants as number
-use Rattle.path_commands.specs.Commands.{app_for, verb_of}
-use Rattle.path_commands.specs.Words.{coordinate_in, is_taken, number_as, order_in, path_in, room_in}
+use Rattle.path_commands.specs.Commands.{app_for, kind_named, verb_of}
+use Rattle.path_commands.specs.Words.{AreWorkers, coordinate_in, is_taken, number_as, order_in, path_in, room_in}
 use Rattle.path_commands.specs.Words.{texts_of, value_of, values_of, workers_in}
 use Rattle.path_commands.specs.SaidRequests.{Said, request_said, said_by}
 
--- What is asked for, each with how a database is built: a best path between two cells of a map;
--- whether a file is a map; how many runs a map has where compass moves need none; a best path by such
--- moves; what a map says of a file of scenarios; the map that is made of two sides
--- and a seed; what a file of events prints on a board that begins with a map; a session on such
--- a board, with its room; sessions at so many doors of a port on such a board; and, without a
--- database, one request to the server at a port; the file of the database of a map; and, without one that
--- is built, whether a file is that of a database.
+-- where a map comes from: the file of that name, or the formula, of two sides and a seed
+pub data Source : Type 0 where
+  in_file : Text → Source
+  by_formula : Sides → ℕ → Source
+
+-- What the first version of a map is to answer: a best path between two cells; its size; how many runs are
+-- left where compass moves need none; a best path by such moves; the scenarios in a file; the queries of the
+-- seed that it was made of; the events in a file; and the file of its database.
+pub data Aim : Type 0 where
+  path : Cell → Cell → Aim
+  check : Aim
+  near : Aim
+  nearpath : Cell → Cell → Aim
+  scen : Text → Aim
+  made : ℕ → Aim
+  replay : Text → Aim
+  export : Aim
+
+-- What is asked for: something of the first version of a map, with how that is built; a session on a board that
+-- begins with the map in a file, with its room; sessions at so many doors of a port on such a board; one request
+-- to the server at a port; whether a file is that of a database; such sessions, and a door at another port where
+-- followers are fed; and a session on a board that follows the leader at a port, which is asked so often.
 pub data Asked : Type 0 where
-  path : Text → Cell → Cell → BuildOptions → Asked
-  check : Text → BuildOptions → Asked
-  near : Text → BuildOptions → Asked
-  nearpath : Text → Cell → Cell → BuildOptions → Asked
-  scen : Text → Text → BuildOptions → Asked
-  made : Sides → ℕ → BuildOptions → Asked
-  replay : Text → Text → BuildOptions → Asked
+  of_map : Source → Aim → BuildOptions → Asked
   talk : Text → ℕ → BuildOptions → Asked
   serve : Text → DoorsAsked → ℕ → BuildOptions → Asked
   ask : ℕ → Said → Asked
-  export : Text → BuildOptions → Asked
   verify : Text → Asked
+  lead : Text → DoorsAsked → ℕ → ℕ → BuildOptions → Asked
+  follow : ℕ → ℕ → OrderKind → Asked
+
+-- the same with the bytes of their texts
+abbrev pub source_of : MapSource → Source
+source_of (File name) = in_file name.now
+source_of (Formula sides seed) = by_formula sides seed
+
+abbrev pub aim_of : MapAim → Aim
+aim_of (aim.Path start goal) = path start goal
+aim_of aim.Check = check
+aim_of aim.Near = near
+aim_of (aim.NearPath start goal) = nearpath start goal
+aim_of (aim.Scen scenarios) = scen scenarios.now
+aim_of (aim.Made seed) = made seed
+aim_of (aim.Replay events) = replay events.now
+aim_of aim.Export = export
 
 -- a request of the program, with the bytes of its texts
 abbrev pub asked : Request → Asked
-asked (Path map start goal build) = path map.now start goal build
-asked (Check map build) = check map.now build
-asked (Near map build) = near map.now build
-asked (NearPath map start goal build) = nearpath map.now start goal build
-asked (Scen map scenarios build) = scen map.now scenarios.now build
-asked (Made sides seed build) = made sides seed build
-asked (Replay map events build) = replay map.now events.now build
-asked (Talk map room build) = talk map.now room build
-asked (Serve map doors room build) = serve map.now doors room build
-asked (Ask port asking) = ask port (said_by asking)
-asked (Export map build) = export map.now build
+asked (OfMap map) = of_map (source_of map.source) (aim_of map.aim) map.build
+asked (Talk board) = talk board.map.now board.room board.build
+asked (Serve board) = serve board.map.now board.doors board.room board.build
+asked (Ask server) = ask server.port (said_by server.asking)
 asked (Verify db) = verify db.now
+asked (Lead board) = lead board.map.now board.doors board.feed board.room board.build
+asked (Follow leader) = follow leader.port leader.rounds leader.order
 
 -- the command that asks for it
+abbrev pub aim_verb : Aim → Verb
+aim_verb (path start goal) = verb.Path
+aim_verb check = verb.Check
+aim_verb near = verb.Near
+aim_verb (nearpath start goal) = verb.NearPath
+aim_verb (scen scenarios) = verb.Scen
+aim_verb (made seed) = verb.Made
+aim_verb (replay events) = verb.Replay
+aim_verb export = verb.Export
+
 abbrev pub verb_asked : Asked → Verb
-verb_asked (path map start goal build) = verb.Path
-verb_asked (check map build) = verb.Check
-verb_asked (near map build) = verb.Near
-verb_asked (nearpath map start goal build) = verb.NearPath
-verb_asked (scen map scenarios build) = verb.Scen
-verb_asked (made sides seed build) = verb.Made
-verb_asked (replay map events build) = verb.Replay
+verb_asked (of_map source aim build) = aim_verb aim
 verb_asked (talk map room build) = verb.Talk
 verb_asked (serve map doors room build) = verb.Serve
 verb_asked (ask port said) = verb.Ask
-verb_asked (export map build) = verb.Export
 verb_asked (verify db) = verb.Verify
+verb_asked (lead map doors feed room build) = verb.Lead
+verb_asked (follow port rounds order) = verb.Follow
 
--- how the first version of the map is built; as without options where there is none
-abbrev pub build_of : Asked → BuildOptions
-build_of (path map start goal build) = build
-build_of (check map build) = build
-build_of (near map build) = build
-build_of (nearpath map start goal build) = build
-build_of (scen map scenarios build) = build
-build_of (made sides seed build) = build
-build_of (replay map events build) = build
-build_of (talk map room build) = build
-build_of (serve map doors room build) = build
-build_of (ask port said) = record { order = Rows; workers = 1 }
-build_of (export map build) = build
-build_of (verify db) = record { order = Rows; workers = 1 }
+-- and the kind of that
+abbrev pub kind_asked : Asked → Kind
+kind_asked (of_map source aim build) = kind.Printed
+kind_asked (talk map room build) = kind.Talk
+kind_asked (serve map doors room build) = kind.Serve
+kind_asked (ask port said) = kind.Ask
+kind_asked (verify db) = kind.Printed
+kind_asked (lead map doors feed room build) = kind.Lead
+kind_asked (follow port rounds order) = kind.Follow
 
 -- so many doors a port may have
 pub record AreDoors (count : ℕ) : Type 0 where
   pub some : 0 < count
   pub few : count ≤ MAX_DOORS
 
--- a map that is made has sides within the limits, a board has room for no more entries than it can
--- have, and a port has as many doors as it may
+-- a map that is made has sides within the limits
+abbrev pub HasSides : Source → Type 0
+HasSides (in_file name) = Unit {0}
+HasSides (by_formula sides seed) = IsWithinLimits sides.width sides.height
+
+-- the queries of a seed are those of the map that is made of it, and of such a map nothing else is asked
+abbrev pub Fits : Source → Aim → Type 0
+Fits (in_file name) (made seed) = ⊥
+Fits (in_file name) _ = Unit {0}
+Fits (by_formula sides seed) (made other) = other ≡ seed
+Fits (by_formula sides seed) _ = ⊥
+
+-- the limits of what is asked for: also, a board has room for no more entries than it can have, a port has as many
+-- doors as it may, followers are fed at another one, and a leader is asked no more often than it answers
 abbrev pub HasLimits : Asked → Type 0
-HasLimits (made sides seed build) = IsWithinLimits sides.width sides.height
-HasLimits (talk map room build) = room ≤ MAX_ENTRIES
-HasLimits (serve map doors room build) = (room ≤ MAX_ENTRIES) × AreDoors doors.count
-HasLimits _ = Unit {0}
+HasLimits (of_map source aim build) = HasSides source × Fits source aim × AreWorkers build.workers
+HasLimits (talk map room build) = (room ≤ MAX_ENTRIES) × AreWorkers build.workers
+HasLimits (serve map doors room build) = (room ≤ MAX_ENTRIES) × AreDoors doors.count × AreWorkers build.workers
+HasLimits (ask port said) = Unit {0}
+HasLimits (verify db) = Unit {0}
+HasLimits (lead map doors feed room build) =
+    (room ≤ MAX_ENTRIES) × AreDoors doors.count × (feed ≢ doors.port) × AreWorkers build.workers
+HasLimits (follow port rounds order) = rounds ≤ MAX_ROUNDS
 
 -- ---- what a command makes of its values, each of which has the name of an argument or option
 
@@ -171,7 +215,7 @@ unfoldable pub build_at : Values → Option BuildOptions
 build_at values = build_from (order_at values (codes "order")) (workers_at values (codes "workers"))
 
 abbrev pub path_from : Option Text → Option Cell → Option Cell → Option BuildOptions → Option Asked
-path_from (Some map) (Some start) (Some goal) (Some build) = Some (path map start goal build)
+path_from (Some map) (Some start) (Some goal) (Some build) = Some (of_map (in_file map) (path start goal) build)
 path_from _ _ _ _ = None
 
 -- `path MAP SX SY GX GY`
@@ -181,7 +225,7 @@ path_by values = path_from (path_at values (codes "MAP"))
     (build_at values)
 
 abbrev pub check_from : Option Text → Option BuildOptions → Option Asked
-check_from (Some map) (Some build) = Some (check map build)
+check_from (Some map) (Some build) = Some (of_map (in_file map) check build)
 check_from _ _ = None
 
 -- `check MAP`
@@ -189,7 +233,7 @@ unfoldable pub check_by : Values → Option Asked
 check_by values = check_from (path_at values (codes "MAP")) (build_at values)
 
 abbrev pub near_from : Option Text → Option BuildOptions → Option Asked
-near_from (Some map) (Some build) = Some (near map build)
+near_from (Some map) (Some build) = Some (of_map (in_file map) near build)
 near_from _ _ = None
 
 -- `near MAP`
@@ -197,7 +241,7 @@ unfoldable pub near_by : Values → Option Asked
 near_by values = near_from (path_at values (codes "MAP")) (build_at values)
 
 abbrev pub nearpath_from : Option Text → Option Cell → Option Cell → Option BuildOptions → Option Asked
-nearpath_from (Some map) (Some start) (Some goal) (Some build) = Some (nearpath map start goal build)
+nearpath_from (Some map) (Some start) (Some goal) (Some build) = Some (of_map (in_file map) (nearpath start goal) build)
 nearpath_from _ _ _ _ = None
 
 -- `nearpath MAP SX SY GX GY`
@@ -207,7 +251,7 @@ nearpath_by values = nearpath_from (path_at values (codes "MAP"))
     (build_at values)
 
 abbrev pub scen_from : Option Text → Option Text → Option BuildOptions → Option Asked
-scen_from (Some map) (Some scenarios) (Some build) = Some (scen map scenarios build)
+scen_from (Some map) (Some scenarios) (Some build) = Some (of_map (in_file map) (scen scenarios) build)
 scen_from _ _ _ = None
 
 -- `scen MAP SCEN`
@@ -216,7 +260,7 @@ scen_by values = scen_from (path_at values (codes "MAP")) (path_at values (codes
     (build_at values)
 
 abbrev pub made_from : Option Sides → Option ℕ → Option BuildOptions → Option Asked
-made_from (Some sides) (Some seed) (Some build) = Some (made sides seed build)
+made_from (Some sides) (Some seed) (Some build) = Some (of_map (by_formula sides seed) (made seed) build)
 made_from _ _ _ = None
 
 -- `made W H SEED`
@@ -225,7 +269,7 @@ made_by values = made_from (sides_at values (codes "W") (codes "H"))
     (number_at number.Seed values (codes "SEED")) (build_at values)
 
 abbrev pub replay_from : Option Text → Option Text → Option BuildOptions → Option Asked
-replay_from (Some map) (Some events) (Some build) = Some (replay map events build)
+replay_from (Some map) (Some events) (Some build) = Some (of_map (in_file map) (replay events) build)
 replay_from _ _ _ = None
 
 -- `replay MAP EVENTS`
@@ -274,7 +318,7 @@ unfoldable pub ask_by : Values → Lists → Option Asked
 ask_by values lists = ask_from (number_at number.Port values (codes "PORT")) (said_at lists (codes "WORDS"))
 
 abbrev pub export_from : Option Text → Option BuildOptions → Option Asked
-export_from (Some map) (Some build) = Some (export map build)
+export_from (Some map) (Some build) = Some (of_map (in_file map) export build)
 export_from _ _ = None
 
 -- `export MAP`
@@ -288,6 +332,35 @@ verify_from None = None
 -- `verify DB`
 unfoldable pub verify_by : Values → Option Asked
 verify_by values = verify_from (path_at values (codes "DB"))
+
+-- the port at which followers are fed: any but that of the doors
+abbrev pub feed_beside : ℕ → Option ℕ → Option ℕ
+feed_beside port (Some feed) = if feed == port then None else Some feed
+feed_beside port None = None
+
+-- the port that an argument names beside those doors
+abbrev pub feed_at : Values → Option DoorsAsked → Text → Option ℕ
+feed_at values doors id = option_and_then (λ doors. feed_beside doors.port (number_at number.Port values id)) doors
+
+abbrev pub lead_from : Option Text → Option DoorsAsked → Option ℕ → Option ℕ → Option BuildOptions → Option Asked
+lead_from (Some map) (Some doors) (Some feed) (Some room) (Some build) = Some (lead map doors feed room build)
+lead_from _ _ _ _ _ = None
+
+-- `lead MAP PORT DOORS FEED`, with `--room N`
+unfoldable pub lead_by : Values → Option Asked
+lead_by values = lead_from (path_at values (codes "MAP"))
+    (doors_at values (codes "PORT") (codes "DOORS"))
+    (feed_at values (doors_at values (codes "PORT") (codes "DOORS")) (codes "FEED"))
+    (room_at values (codes "room")) (build_at values)
+
+abbrev pub follow_from : Option ℕ → Option ℕ → Option OrderKind → Option Asked
+follow_from (Some port) (Some rounds) (Some order) = Some (follow port rounds order)
+follow_from _ _ _ = None
+
+-- `follow PORT ROUNDS`
+unfoldable pub follow_by : Values → Option Asked
+follow_by values = follow_from (number_at number.Port values (codes "PORT"))
+    (number_at number.Rounds values (codes "ROUNDS")) (order_at values (codes "order"))
 
 -- what each command makes of its values
 abbrev pub asked_by : Verb → Values → Lists → Option Asked
@@ -303,6 +376,8 @@ asked_by verb.Serve values lists = serve_by values
 asked_by verb.Ask values lists = ask_by values lists
 asked_by verb.Export values lists = export_by values
 asked_by verb.Verify values lists = verify_by values
+asked_by verb.Lead values lists = lead_by values
+asked_by verb.Follow values lists = follow_by values
 
 -- ---- the command line
 
@@ -316,20 +391,31 @@ request_by verb words =
 unfoldable pub request_of : List Text → Option Asked
 request_of words = option_and_then (λ verb. request_by verb words) (verb_of words)
 
+-- these words name a command of that kind, and they ask for nothing, or there was no memory to read them
+pub record IsRefusalOf (words : List Text) (refusal : Refusal) : Type 0 where
+  pub kind : refusal.kind ≡ kind_named words
+  pub usage : refusal.error ≡ Usage → request_of words ≡ None
+
 -- the first word is `talk`
 abbrev pub IsTalk : List (String Global) → Type 0
-IsTalk words = verb_of (texts_of words) ≡ Some verb.Talk
+IsTalk words = kind_named (texts_of words) ≡ kind.Talk
 
 -- the first word is `serve`
 abbrev pub IsServe : List (String Global) → Type 0
-IsServe words = verb_of (texts_of words) ≡ Some verb.Serve
+IsServe words = kind_named (texts_of words) ≡ kind.Serve
 
 -- the first word is `ask`
 abbrev pub IsAsk : List (String Global) → Type 0
-IsAsk words = verb_of (texts_of words) ≡ Some verb.Ask
+IsAsk words = kind_named (texts_of words) ≡ kind.Ask
+
+-- the first word is `lead`
+abbrev pub IsLead : List (String Global) → Type 0
+IsLead words = kind_named (texts_of words) ≡ kind.Lead
+
+-- the first word is `follow`
+abbrev pub IsFollow : List (String Global) → Type 0
+IsFollow words = kind_named (texts_of words) ≡ kind.Follow
 
 -- it is none of these: what the words come to is worked out here, and printed
-pub record IsPrinted (words : List (String Global)) : Type 0 where
-  pub no_talk : IsTalk words → ⊥
-  pub no_serve : IsServe words → ⊥
-  pub no_ask : IsAsk words → ⊥
+abbrev pub IsPrinted : List (String Global) → Type 0
+IsPrinted words = kind_named (texts_of words) ≡ kind.Printed

@@ -2,9 +2,7 @@
 use Rattle.std.specs.Prelude.{◌≡◌, ◌⊎◌, ℕ, ◌<◌, ◌≤◌, List, length, Option, None, Some, IfSome, Ok, Err}
 use Rattle.std.specs.Prelude.{String, Vec}
 use Rattle.std.specs.Global.{Global}
-use Rattle.std.specs.Io.KnownBytes.{Appends}
 use Rattle.wire.specs.Causes.{Rose}
-use Rattle.wire.specs.Contents.{PutsPrefix}
 use Rattle.clap.specs.Walk.{Text}
 use Rattle.moves.specs.declared.Cell.{Cell}
 use Rattle.moves.specs.Maps.{Map}
@@ -35,7 +33,7 @@ use Rattle.path_commands.specs.declared.status.Status.TheVariants as status
 use Rattle.path_commands.specs.declared.task.Task.{Task}
 use Rattle.path_commands.specs.declared.task.Task.TheVariants as task
 use Rattle.path_commands.specs.Words.{texts_of}
-use Rattle.path_commands.specs.Requests.{Asked, path, check, near, nearpath, scen, made, replay, talk, serve, ask, export, verify, build_of, request_of}
+use Rattle.path_commands.specs.Requests.{Aim, Asked, Source, by_formula, check, export, in_file, made, near, nearpath, of_map, path, replay, request_of, scen, verify}
 use Rattle.path_commands.specs.Texts.{check_text, version_text}
 use Rattle.path_commands.specs.Queries.{TellsAnswer, TellsReplay, TellsResults, TellsTotals}
 use Rattle.path_commands.specs.NearQueries.{TellsNear, TellsNearAnswer}
@@ -121,20 +119,10 @@ HasFailed file = Rose file.before file.after
 abbrev pub map_made : Sides → ℕ → Map
 map_made sides seed = formula_map sides.width sides.height seed
 
--- where each command has its map from; `ask` and `verify` have none
-abbrev pub GivesMap : (Text → RunFile) → Asked → Map → Type 0
-GivesMap file (path name start goal build) map = HoldsMap (file name) map
-GivesMap file (check name build) map = HoldsMap (file name) map
-GivesMap file (near name build) map = HoldsMap (file name) map
-GivesMap file (nearpath name start goal build) map = HoldsMap (file name) map
-GivesMap file (scen name scenarios build) map = HoldsMap (file name) map
-GivesMap file (made sides seed build) map = IsMade (map_made sides seed) (Whole map)
-GivesMap file (replay name events build) map = HoldsMap (file name) map
-GivesMap file (talk name room build) map = HoldsMap (file name) map
-GivesMap file (serve name doors room build) map = HoldsMap (file name) map
-GivesMap file (ask port said) map = ⊥
-GivesMap file (export name build) map = HoldsMap (file name) map
-GivesMap file (verify name) map = ⊥
+-- the map that a source gives
+abbrev pub GivesMap : (Text → RunFile) → Source → Map → Type 0
+GivesMap file (in_file name) map = HoldsMap (file name) map
+GivesMap file (by_formula sides seed) map = IsMade (map_made sides seed) (Whole map)
 
 -- the task is that of the scenarios in a file
 pub record GivesScenarios (file : RunFile) (asked : Task) : Type 0 where
@@ -148,21 +136,16 @@ pub record GivesEvents (file : RunFile) (asked : Task) : Type 0 where
   pub is : asked ≡ task.Replay events
   pub holds : HoldsEvents file events
 
--- what each command does with the first version of its map, and where it has that from; sessions are
--- no such task, and the check of a database is none
-abbrev pub GivesTask : (Text → RunFile) → Asked → Task → Type 0
-GivesTask file (path name start goal build) asked = asked ≡ task.Path start goal
-GivesTask file (check name build) asked = asked ≡ task.Check
-GivesTask file (near name build) asked = asked ≡ task.Near
-GivesTask file (nearpath name start goal build) asked = asked ≡ task.NearPath start goal
-GivesTask file (scen name scenarios build) asked = GivesScenarios (file scenarios) asked
-GivesTask file (made sides seed build) asked = asked ≡ task.Made seed
-GivesTask file (replay name events build) asked = GivesEvents (file events) asked
-GivesTask file (talk name room build) asked = ⊥
-GivesTask file (serve name doors room build) asked = ⊥
-GivesTask file (ask port said) asked = ⊥
-GivesTask file (export name build) asked = asked ≡ task.Export
-GivesTask file (verify name) asked = ⊥
+-- what is done with the first version of a map, with what is read of a second file
+abbrev pub GivesTask : (Text → RunFile) → Aim → Task → Type 0
+GivesTask file (path start goal) given = given ≡ task.Path start goal
+GivesTask file check given = given ≡ task.Check
+GivesTask file near given = given ≡ task.Near
+GivesTask file (nearpath start goal) given = given ≡ task.NearPath start goal
+GivesTask file (scen scenarios) given = GivesScenarios (file scenarios) given
+GivesTask file (made seed) given = given ≡ task.Made seed
+GivesTask file (replay events) given = GivesEvents (file events) given
+GivesTask file export given = given ≡ task.Export
 
 -- the first version of a map in an order: the one that comes after no edit
 pub record IsFirstVersion (map : Map) (order : OrderKind) (version : Versioned) : Type 0 where
@@ -170,15 +153,6 @@ pub record IsFirstVersion (map : Map) (order : OrderKind) (version : Versioned) 
   pub unedited : version.prefix ≡ 0
   pub same_order : version.order ≡ order
   pub whole : IsVersion version
-
--- the words ask for this task, and for it of the first version of a map in the order asked for
-pub record AsksOf (run : Run) (task : Task) (version : Versioned) : Type 0 where
-  pub asked : Asked
-  pub asks : Asks run asked
-  pub map : Map
-  pub gives : GivesMap run.file asked map
-  pub does : GivesTask run.file asked task
-  pub first : IsFirstVersion map (build_of asked).order version
 
 -- ---- the answer
 
@@ -204,12 +178,14 @@ pub record IsFirstAnswer (map : Map) (order : OrderKind) (task : Task) (text : L
   pub first : IsFirstVersion map order version
   pub answers : IsAnswerOn version task text
 
--- the words ask for something of a map, and the text is what its first version answers
-pub record AnswersOfMap (run : Run) (text : List ℕ) : Type 0 where
+-- the source gives a map, and the text is what its first version answers
+pub record AnswersOfMap (file : Text → RunFile) (source : Source) (aim : Aim) (order : OrderKind)
+    (text : List ℕ) : Type 0 where
+  pub map : Map
+  pub gives : GivesMap file source map
   pub task : Task
-  pub version : Versioned
-  pub of : AsksOf run task version
-  pub answers : IsAnswerOn version task text
+  pub does : GivesTask file aim task
+  pub first : IsFirstAnswer map order task text
 
 -- told bytes are the file of this version, and not more than there may be
 abbrev pub HoldsVersion : RunFile → Versioned → Type 0
@@ -221,17 +197,23 @@ abbrev pub HoldsNoVersion : RunFile → DbFault → Type 0
 HoldsNoVersion file fault =
     IfSome file.held (λ bytes. (length bytes ≤ MAX_DB) × IsFirstDbFault bytes fault)
 
--- the words ask whether a file is that of a database, it is that of a version, and the text tells its size
-pub record TellsVersion (run : Run) (text : List ℕ) : Type 0 where
-  pub name : Text
-  pub asks : Asks run (verify name)
+-- the file is that of a version, and the text tells its size
+pub record TellsVersion (file : RunFile) (text : List ℕ) : Type 0 where
   pub version : Versioned
-  pub holds : HoldsVersion (run.file name) version
+  pub holds : HoldsVersion file version
   pub told : text ≡ version_text version
 
+-- the text answers what was asked for; sessions and what is asked of a server have no such answer
+abbrev pub Answers : (Text → RunFile) → Asked → List ℕ → Type 0
+Answers file (of_map source aim build) text = AnswersOfMap file source aim build.order text
+Answers file (verify db) text = TellsVersion (file db) text
+Answers file _ text = ⊥
+
 -- the text answers what the words ask for
-abbrev pub IsAnswerTo : Run → List ℕ → Type 0
-IsAnswerTo run text = AnswersOfMap run text ⊎ TellsVersion run text
+pub record IsAnswerTo (run : Run) (text : List ℕ) : Type 0 where
+  pub asked : Asked
+  pub asks : Asks run asked
+  pub answers : Answers run.file asked text
 
 -- ---- the causes of the other statuses. Want of memory alone is free.
 
@@ -268,25 +250,15 @@ abbrev pub IsDbFileCause : RunFile → Status → Type 0
 IsDbFileCause file (status.Db fault) = HoldsNoVersion file fault
 IsDbFileCause file cause = IsFileCause file MAX_DB cause
 
--- why what was asked for has no map
-abbrev pub GivesNoMap : (Text → RunFile) → Asked → Status → Type 0
-GivesNoMap file (path name start goal build) cause = IsMapFileCause (file name) cause
-GivesNoMap file (check name build) cause = IsMapFileCause (file name) cause
-GivesNoMap file (near name build) cause = IsMapFileCause (file name) cause
-GivesNoMap file (nearpath name start goal build) cause = IsMapFileCause (file name) cause
-GivesNoMap file (scen name scenarios build) cause = IsMapFileCause (file name) cause
-GivesNoMap file (made sides seed build) cause = IsMadeCause (map_made sides seed) cause
-GivesNoMap file (replay name events build) cause = IsMapFileCause (file name) cause
-GivesNoMap file (talk name room build) cause = IsMapFileCause (file name) cause
-GivesNoMap file (serve name doors room build) cause = IsMapFileCause (file name) cause
-GivesNoMap file (ask port said) cause = ⊥
-GivesNoMap file (export name build) cause = IsMapFileCause (file name) cause
-GivesNoMap file (verify name) cause = ⊥
+-- why a source gives no map
+abbrev pub GivesNoMap : (Text → RunFile) → Source → Status → Type 0
+GivesNoMap file (in_file name) cause = IsMapFileCause (file name) cause
+GivesNoMap file (by_formula sides seed) cause = IsMadeCause (map_made sides seed) cause
 
--- why what was asked for has a map, and cannot be done for want of another file
-abbrev pub GivesNoTask : (Text → RunFile) → Asked → Status → Type 0
-GivesNoTask file (scen name scenarios build) cause = IsScenFileCause (file scenarios) cause
-GivesNoTask file (replay name events build) cause = IsEventsFileCause (file events) cause
+-- why nothing is done with a map, for want of another file
+abbrev pub GivesNoTask : (Text → RunFile) → Aim → Status → Type 0
+GivesNoTask file (scen scenarios) cause = IsScenFileCause (file scenarios) cause
+GivesNoTask file (replay events) cause = IsEventsFileCause (file events) cause
 GivesNoTask file _ cause = ⊥
 
 -- why a query of a version has no text: it is refused
@@ -312,52 +284,47 @@ pub record IsFirstCause (map : Map) (order : OrderKind) (task : Task) (cause : S
   pub first : IsFirstVersion map order version
   pub fails : IsVersionCause version task cause
 
--- the words ask for something, and there is no map for it
-pub record FailsByMap (run : Run) (cause : Status) : Type 0 where
-  pub asked : Asked
-  pub asks : Asks run asked
-  pub fails : GivesNoMap run.file asked cause
-
--- the words ask for something, there is a map for it, and another file is not what it has to be
-pub record FailsByTask (run : Run) (cause : Status) : Type 0 where
-  pub asked : Asked
-  pub asks : Asks run asked
+-- there is a map, and another file is not what it has to be
+pub record FailsByTask (file : Text → RunFile) (source : Source) (aim : Aim) (cause : Status) : Type 0 where
   pub map : Map
-  pub gives : GivesMap run.file asked map
-  pub fails : GivesNoTask run.file asked cause
+  pub gives : GivesMap file source map
+  pub fails : GivesNoTask file aim cause
 
--- the words ask whether a file is that of a database, and it gives no version
-pub record FailsByDb (run : Run) (cause : Status) : Type 0 where
-  pub name : Text
-  pub asks : Asks run (verify name)
-  pub fails : IsDbFileCause (run.file name) cause
-
--- one of the files
-abbrev pub FailsByFile : Run → Status → Type 0
-FailsByFile run cause = FailsByMap run cause ⊎ (FailsByTask run cause ⊎ FailsByDb run cause)
-
--- the words ask for something of a map, and its first version has no answer
-pub record FailsByVersion (run : Run) (cause : Status) : Type 0 where
+-- there is a map, and its first version has no answer
+pub record FailsByVersion (file : Text → RunFile) (source : Source) (aim : Aim) (order : OrderKind)
+    (cause : Status) : Type 0 where
+  pub map : Map
+  pub gives : GivesMap file source map
   pub task : Task
-  pub version : Versioned
-  pub of : AsksOf run task version
-  pub fails : IsVersionCause version task cause
+  pub does : GivesTask file aim task
+  pub first : IsFirstCause map order task cause
 
--- the cause of each status other than `Done`
+-- why there is no answer to what was asked of a map: it, or another file, or its first version
+abbrev pub FailsOfMap : (Text → RunFile) → Source → Aim → OrderKind → Status → Type 0
+FailsOfMap file source aim order cause = GivesNoMap file source cause
+    ⊎ (FailsByTask file source aim cause ⊎ FailsByVersion file source aim order cause)
+
+-- why there is no answer to what was asked for; sessions and what is asked of a server end in ways of their own
+abbrev pub Fails : (Text → RunFile) → Asked → Status → Type 0
+Fails file (of_map source aim build) cause = FailsOfMap file source aim build.order cause
+Fails file (verify db) cause = IsDbFileCause (file db) cause
+Fails file _ cause = ⊥
+
+-- the words ask for nothing, or there was no memory to read them
+abbrev pub IsWordsCause : List Text → Status → Type 0
+IsWordsCause words status.Usage = request_of words ≡ None
+IsWordsCause words status.NoMemory = Unit {0}
+IsWordsCause words _ = ⊥
+
+-- the words ask for something that has no answer
+pub record FailsAsked (run : Run) (cause : Status) : Type 0 where
+  pub asked : Asked
+  pub asks : Asks run asked
+  pub fails : Fails run.file asked cause
+
+-- the cause of a status other than `Done`
 abbrev pub IsCause : Run → Status → Type 0
-IsCause run status.Done = ⊥
-IsCause run status.Usage = request_of run.words ≡ None
-IsCause run (status.Map fault) = FailsByMap run (status.Map fault)
-IsCause run (status.Scen fault) = FailsByTask run (status.Scen fault)
-IsCause run (status.Query refusal) = FailsByVersion run (status.Query refusal)
-IsCause run status.ReadFault = FailsByFile run status.ReadFault
-IsCause run status.WriteFault = ⊥
-IsCause run status.NoMemory = Unit {0}
-IsCause run (status.TooLong limit) = FailsByFile run (status.TooLong limit)
-IsCause run (status.Events line) = FailsByTask run (status.Events line)
-IsCause run (status.Broken fault) = ⊥
-IsCause run status.BadAnswer = ⊥
-IsCause run (status.Db fault) = FailsByDb run (status.Db fault)
+IsCause run cause = IsWordsCause run.words cause ⊎ FailsAsked run cause
 
 -- ---- what a task needs
 
@@ -375,22 +342,18 @@ NeedsVersion (task.NearPath start goal) = ⊥
 NeedsVersion task.Export = ⊥
 NeedsVersion _ = Unit {0}
 
--- ---- how a run ends
+-- ---- how a run ends whose answer is printed
 
--- the status and the text are right: the answer, or a status that has its cause, with its line
+-- the answer is the text of `Done`
+pub record IsDoneBy (run : Run) (ended : Status) (text : List ℕ) : Type 0 where
+  pub done : ended ≡ status.Done
+  pub answer : IsAnswerTo run text
+
+-- a status that has its cause has its line for its text
+pub record IsRefusedBy (run : Run) (ended : Status) (text : List ℕ) : Type 0 where
+  pub cause : IsCause run ended
+  pub line : text ≡ status_text ended
+
+-- the status and the text are right
 abbrev pub IsRight : Run → Status → List ℕ → Type 0
-IsRight run status.Done text = IsAnswerTo run text
-IsRight run status text = IsCause run status × (text ≡ status_text status)
-
--- the output grew by the whole text that is right with this status
-pub record PutsAll (run : Run) (ended : Status) (old new : Option (List ℕ)) : Type 0 where
-  pub text : List ℕ
-  pub right : IsRight run ended text
-  pub put : Appends old new text
-
--- the output grew by a first part, less than the whole, of a text that is right with some status
-pub record BreaksOff (run : Run) (old new : Option (List ℕ)) : Type 0 where
-  pub ended : Status
-  pub text : List ℕ
-  pub right : IsRight run ended text
-  pub put : PutsPrefix old new text
+IsRight run ended text = IsDoneBy run ended text ⊎ IsRefusedBy run ended text

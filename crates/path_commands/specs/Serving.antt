@@ -19,13 +19,11 @@ use Rattle.session.specs.ServedBoards.{AreServed, FailedSo, IsBuiltBy}
 use Rattle.path_commands.specs.declared.status.Status.{Status}
 use Rattle.path_commands.specs.declared.status.Status.TheVariants as status
 use Rattle.path_commands.specs.Statuses.{status_text}
-use Rattle.path_commands.specs.declared.request.BuildOptions.{BuildOptions}
-use Rattle.path_commands.specs.Requests.{serve}
-use Rattle.path_commands.specs.Runs.{Asks, FailsByFile, IsCause, Run}
+use Rattle.cell_order.specs.declared.OrderKind.{OrderKind}
+use Rattle.path_commands.specs.Runs.{HasFailed, IsMapFileCause, RunFile}
 use Rattle.path_commands.specs.Talks.{IsFirstBoard}
 use Rattle.path_commands.specs.Texts.{line}
 use Rattle.path_commands.specs.Words.{AreWorkers}
-use Rattle.clap.specs.Walk.{Text}
 
 -- ---- the texts
 
@@ -75,10 +73,10 @@ abbrev pub PutsCause : Option (List ℕ) → Option (List ℕ) → Status → St
 PutsCause before after told ended =
     PutsLine before after told ended ⊎ PutsLine before after status.NoMemory ended
 
--- the first line could not be made, or the output did not take it
-abbrev pub FailsToBegin : Option (List ℕ) → Option (List ℕ) → ℕ → Status → Type 0
-FailsToBegin before after port ended =
-    PutsPart before after (serving_text port) ended ⊎ PutsLine before after status.NoMemory ended
+-- the text that stands before all else could not be made, or the output did not take it
+abbrev pub FailsToBegin : Option (List ℕ) → Option (List ℕ) → List ℕ → Status → Type 0
+FailsToBegin before after first ended =
+    PutsPart before after first ended ⊎ PutsLine before after status.NoMemory ended
 
 -- the last lines were put, or there was no memory for them
 abbrev pub PutsClosing : Option (List ℕ) → Option (List ℕ) → List Entry → Bool → Status → Type 0
@@ -161,15 +159,19 @@ pub record IsServedAt (D C : Type 0) (house : RunDoors D C) (ear : RunEar) (boar
   pub how : FailedSo house.closed house.faults failed doors doors_after last.history
   pub over : ear.over ≡ true
 
--- it was served; the doors were handed back as their loops left them, and its last lines were put
-pub record ServesBoard (D C : Type 0) (house : RunDoors D C) (ear : RunEar) (board : Boarded) (doors : List D)
-    (before after : Option (List ℕ))
-    (ended : Status) : Type 0 where
+-- it was served at these doors, with that many builds of each kind
+abbrev pub IsServedSo : (D C : Type 0) → RunDoors D C → RunEar → Boarded → List D → List D → Boarded → Bool → Type 0
+IsServedSo D C house ear board doors doors_after last failed =
+    (builds : BuildTotals) × IsServedAt D C house ear board doors doors_after last builds failed
+
+-- A board was served, as `served` says of its doors as their loops left them, of the board in the end and of whether a knock
+-- failed. The doors were handed back, and its last lines were put.
+pub record ServesBoard (D C : Type 0) (house : RunDoors D C) (served : List D → Boarded → Bool → Type 0)
+    (before after : Option (List ℕ)) (ended : Status) : Type 0 where
   pub doors_after : List D
   pub last : Boarded
-  pub builds : BuildTotals
   pub failed : Bool
-  pub served : IsServedAt D C house ear board doors doors_after last builds failed
+  pub so : served doors_after last failed
   pub back : house.after ≡ with_doors_back house.before doors_after
   pub put : PutsClosing before after last.history failed ended
 
@@ -180,32 +182,39 @@ pub record LeavesBoard (D C : Type 0) (house : RunDoors D C) (ear : RunEar) (doo
   pub heard : IsUnrung ear
   pub put : PutsLine before after status.NoMemory ended
 
--- one of both
-abbrev pub EndsBegun : (D C : Type 0) → RunDoors D C → RunEar → Boarded → List D → Option (List ℕ)
-    → Option (List ℕ) → Status → Type 0
-EndsBegun D C house ear board doors before after ended =
-    ServesBoard D C house ear board doors before after ended ⊎ LeavesBoard D C house ear doors before after ended
+module _ (D C : Type 0) (house : RunDoors D C) (ear : RunEar) (served : List D → Boarded → Bool → Type 0)
+    (doors : List D) where
+  -- one of both
+  abbrev pub EndsBegun : Option (List ℕ) → Option (List ℕ) → Status → Type 0
+  EndsBegun before after ended =
+      ServesBoard D C house served before after ended ⊎ LeavesBoard D C house ear doors before after ended
 
--- The first line was put. What is put then stands behind it.
-pub record Begins (D C : Type 0) (house : RunDoors D C) (ear : RunEar) (board : Boarded) (doors : List D)
-    (port : ℕ) (before after : Option (List ℕ))
-    (ended : Status) : Type 0 where
-  pub begun : Option (List ℕ)
-  pub first : Appends before begun (serving_text port)
-  pub ends : EndsBegun D C house ear board doors begun after ended
+  -- The first text was put. What is put then stands behind it.
+  pub record Begins (first : List ℕ) (before after : Option (List ℕ)) (ended : Status) : Type 0 where
+    pub begun : Option (List ℕ)
+    pub put : Appends before begun first
+    pub ends : EndsBegun begun after ended
 
--- The first line was not put: no door was served, and the doors were handed back as they were.
-pub record FailsAtOnce (D C : Type 0) (house : RunDoors D C) (ear : RunEar) (doors : List D) (port : ℕ)
-    (before after : Option (List ℕ)) (ended : Status) : Type 0 where
-  pub back : house.after ≡ with_doors_back house.before doors
-  pub heard : IsUnrung ear
-  pub put : FailsToBegin before after port ended
+  -- The first text was not put: no door was served, and the doors were handed back as they were.
+  pub record FailsAtOnce (first : List ℕ) (before after : Option (List ℕ)) (ended : Status) : Type 0 where
+    pub back : house.after ≡ with_doors_back house.before doors
+    pub heard : IsUnrung ear
+    pub put : FailsToBegin before after first ended
 
--- one of both
-abbrev pub EndsAt : (D C : Type 0) → RunDoors D C → RunEar → Boarded → List D → ℕ → Option (List ℕ)
-    → Option (List ℕ) → Status → Type 0
-EndsAt D C house ear board doors port before after ended =
-    Begins D C house ear board doors port before after ended ⊎ FailsAtOnce D C house ear doors port before after ended
+  -- one of both
+  abbrev pub EndsAt : List ℕ → Option (List ℕ) → Option (List ℕ) → Status → Type 0
+  EndsAt first before after ended = Begins first before after ended ⊎ FailsAtOnce first before after ended
+
+-- how a run ends that serves a board at these doors, where the first line has been put, and where it has not
+abbrev pub ServesBegun : (D C : Type 0) → RunDoors D C → RunEar → Boarded → List D → Option (List ℕ) → Option (List ℕ)
+    → Status → Type 0
+ServesBegun D C house ear board doors before after ended =
+    EndsBegun D C house ear (IsServedSo D C house ear board doors) doors before after ended
+
+abbrev pub ServesAt : (D C : Type 0) → RunDoors D C → RunEar → Boarded → List D → ℕ → Option (List ℕ) → Option (List ℕ)
+    → Status → Type 0
+ServesAt D C house ear board doors port before after ended =
+    EndsAt D C house ear (IsServedSo D C house ear board doors) doors (serving_text port) before after ended
 
 -- ---- how a board is served at the doors of a house
 
@@ -227,7 +236,7 @@ pub record ServesDoors (D C : Type 0) (house : RunDoors D C) (ear : RunEar) (boa
     (ended : Status) : Type 0 where
   pub doors : List D
   pub opened : AreOpened D C house asked doors
-  pub ends : EndsAt D C (with_given house asked.count) ear board doors asked.port before after ended
+  pub ends : ServesAt D C (with_given house asked.count) ear board doors asked.port before after ended
 
 -- why there are no doors
 abbrev pub IsDoorsCause : (D C : Type 0) → RunDoors D C → Status → Type 0
@@ -250,48 +259,42 @@ abbrev pub ServeEnds : (D C : Type 0) → RunDoors D C → RunEar → Boarded �
 ServeEnds D C house ear board asked before after ended =
     ServesDoors D C house ear board asked before after ended ⊎ OpensNone D C house ear before after ended
 
--- ---- what the words ask for
-
--- the words ask for sessions on this board, at these doors
-pub record AsksServing (run : Run) (board : Boarded) (doors : DoorsAsked) : Type 0 where
-  pub name : Text
-  pub room : ℕ
-  pub build : BuildOptions
-  pub asks : Asks run (serve name doors room build)
-  pub first : IsFirstBoard (run.file name) build.order room board
+-- ---- how a board is served that begins with the map in a file
 
 -- the board was served at these doors, which were asked for once, and at no other
-pub record ServesAsked (D C : Type 0) (run : Run) (house : RunDoors D C) (ear : RunEar) (requests : List DoorsAsked)
-    (before after : Option (List ℕ)) (ended : Status) : Type 0 where
+pub record ServesFirst (D C : Type 0) (file : RunFile) (order : OrderKind) (room : ℕ) (doors : DoorsAsked)
+    (house : RunDoors D C) (ear : RunEar) (requests : List DoorsAsked) (before after : Option (List ℕ))
+    (ended : Status) : Type 0 where
   pub board : Boarded
-  pub doors : DoorsAsked
-  pub asks : AsksServing run board doors
+  pub first : IsFirstBoard file order room board
   pub once : requests ≡ doors ∷ []
   pub ends : ServeEnds D C house ear board doors before after ended
 
--- there is no board to serve: no doors were asked for, no ring was heard, and the line of the cause was put
-pub record HasNoBoard (D C : Type 0) (run : Run) (house : RunDoors D C) (ear : RunEar) (requests : List DoorsAsked)
-    (before after : Option (List ℕ)) (ended : Status) : Type 0 where
-  pub cause : Status
-  pub is : IsCause run cause
+-- no doors were asked for, none was given and none failed, and no ring was heard
+pub record IsUnopened (D C : Type 0) (house : RunDoors D C) (ear : RunEar) (requests : List DoorsAsked) : Type 0 where
   pub none : requests ≡ []
   pub kept : house.after ≡ house.before
   pub quiet : house.faults_after ≡ house.faults_before
   pub heard : IsUnrung ear
+
+-- the file gives no board to serve, and the line of the cause was put
+pub record HasNoBoard (D C : Type 0) (file : RunFile) (house : RunDoors D C) (ear : RunEar)
+    (requests : List DoorsAsked) (before after : Option (List ℕ)) (ended : Status) : Type 0 where
+  pub cause : Status
+  pub is : IsMapFileCause file cause
+  pub unopened : IsUnopened D C house ear requests
   pub put : PutsCause before after cause ended
 
--- HOW THE COMMAND ENDS
-abbrev pub Serves : (D C : Type 0) → Run → RunDoors D C → RunEar → List DoorsAsked → Option (List ℕ)
-    → Option (List ℕ) → Status
-    → Type 0
-Serves D C run house ear requests before after ended =
-    ServesAsked D C run house ear requests before after ended
-    ⊎ HasNoBoard D C run house ear requests before after ended
+-- HOW `serve` ENDS, of which the map's file, the order, the room and the doors are told
+abbrev pub Serves : (D C : Type 0) → RunFile → OrderKind → ℕ → DoorsAsked → RunDoors D C → RunEar → List DoorsAsked
+    → Option (List ℕ) → Option (List ℕ) → Status → Type 0
+Serves D C file order room doors house ear requests before after ended =
+    ServesFirst D C file order room doors house ear requests before after ended
+    ⊎ HasNoBoard D C file house ear requests before after ended
 
 -- a read failed: of the map's file, or at a door
-abbrev pub FailsToRead : (D C : Type 0) → Run → RunDoors D C → Type 0
-FailsToRead D C run house =
-    FailsByFile run status.ReadFault ⊎ Rose house.faults_before house.faults_after
+abbrev pub FailsToRead : (D C : Type 0) → RunFile → RunDoors D C → Type 0
+FailsToRead D C file house = HasFailed file ⊎ Rose house.faults_before house.faults_after
 
 -- the status of doors that were not opened
 abbrev pub status_without_doors : HouseError → Status

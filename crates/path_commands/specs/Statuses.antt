@@ -23,7 +23,7 @@ use Rattle.path_commands.specs.Texts.{line}
 -- output fails, and where a session broke off
 abbrev pub status_words : Status → List ℕ
 status_words status.Done = []
-status_words status.Usage = codes "usage: path check scen made replay talk serve ask export verify near nearpath"
+status_words status.Usage = codes "usage: path check scen made replay talk serve ask export verify near nearpath lead follow"
 status_words (status.Map fault) = codes "map refused: " ++ fault_text fault
 status_words (status.Scen fault) = codes "scenario refused: " ++ scenario_fault_text fault
 status_words (status.Query refusal) = refusal_text refusal
@@ -35,6 +35,7 @@ status_words (status.Events line) = codes "events refused: line " ++ decimal lin
 status_words (status.Broken fault) = []
 status_words status.BadAnswer = codes "bad answer"
 status_words (status.Db fault) = codes "database refused: " ++ db_fault_text fault
+status_words status.LeaderMemory = codes "leader out of memory"
 
 -- the same as a line
 abbrev pub status_text : Status → List ℕ
@@ -55,6 +56,7 @@ status_code (status.Broken fault) = 9
 status_code status.BadAnswer = 10
 status_code (status.Events line) = 11
 status_code (status.Db fault) = 12
+status_code status.LeaderMemory = 13
 
 -- the status of words that ask for nothing
 abbrev pub status_of : RequestError → Status

@@ -2,7 +2,6 @@
 use Rattle.std.specs.Prelude.{◌≡◌, ◌⊎◌, ℕ, Err, None, Ok, Option, Result}
 use Rattle.wire.specs.Causes.{Rose}
 use Rattle.wire.specs.Talks.{Talk}
-use Rattle.clap.specs.Walk.{Text}
 use Rattle.moves.specs.Maps.{Map}
 use Rattle.cell_order.specs.declared.OrderKind.{OrderKind}
 use Rattle.versions.specs.Databases.{Versioned}
@@ -13,11 +12,9 @@ use Rattle.session.specs.declared.sessions.SessionFault.{SessionFault}
 use Rattle.session.specs.declared.sessions.SessionFault.TheVariants as fault
 use Rattle.session.specs.Conversations.{Conversed}
 use Rattle.session.specs.Standing.{AddsOnlyOwn, Place, Standing, standing}
-use Rattle.path_commands.specs.declared.request.BuildOptions.{BuildOptions}
 use Rattle.path_commands.specs.declared.status.Status.{Status}
 use Rattle.path_commands.specs.declared.status.Status.TheVariants as status
-use Rattle.path_commands.specs.Requests.{talk}
-use Rattle.path_commands.specs.Runs.{Asks, HoldsMap, IsCause, IsFirstVersion, Run, RunFile}
+use Rattle.path_commands.specs.Runs.{HoldsMap, IsFirstVersion, IsMapFileCause, RunFile}
 
 -- the input of a run: its talk, where it is told, and how often a read and a write of it failed, before
 -- the run and after it
@@ -55,14 +52,6 @@ pub record IsFirstBoard (file : RunFile) (order : OrderKind) (room : ℕ) (board
   pub first : IsFirstVersion map order version
   pub is : board ≡ new_board map version room
 
--- the words ask for a session on this board
-pub record AsksBoard (run : Run) (board : Boarded) : Type 0 where
-  pub name : Text
-  pub room : ℕ
-  pub build : BuildOptions
-  pub asks : Asks run (talk name room build)
-  pub first : IsFirstBoard (run.file name) build.order room board
-
 -- where the one pass of a session stands, on a board of this map, in this order and with this room
 abbrev pub place_for : Map → OrderKind → ℕ → Place
 place_for map order room =
@@ -77,33 +66,34 @@ pub record HoldsTalk (board : Boarded) (input : RunInput) (ended : Result Ended 
   pub legal : IsLegal board.start last.seen
   pub own : AddsOnlyOwn 0 board.history last.seen
 
--- the words ask for a session on a board, and it was held over the input, and ended so
-pub record HasTalked (run : Run) (input : RunInput) (ended : Result Ended SessionFault) : Type 0 where
-  pub board : Boarded
-  pub asks : AsksBoard run board
-  pub talk : HoldsTalk board input ended
-
 -- the input ended inside a frame, or a frame is too long
 abbrev pub IsBroken : SessionFault → Type 0
 IsBroken (fault.Torn have want) = Unit {0}
 IsBroken (fault.TooLong size) = Unit {0}
 IsBroken _ = ⊥
 
--- `talk` ends with its session; a fault of the input has its cause in the count of its direction
-abbrev pub EndsSession : Run → RunInput → Status → Type 0
-EndsSession run input status.Done = (ended : Ended) × HasTalked run input (Ok ended)
-EndsSession run input (status.Broken why) = IsBroken why × HasTalked run input (Err why)
-EndsSession run input status.ReadFault =
-    Rose input.reads_before input.reads_after × HasTalked run input (Err fault.ReadFault)
-EndsSession run input status.WriteFault =
-    Rose input.writes_before input.writes_after × HasTalked run input (Err fault.WriteFault)
-EndsSession run input _ = ⊥
+-- A session was held over the input as the one pass of this board, and the run ends so; a fault of the
+-- input has its cause in the count of its direction.
+abbrev pub HoldsSession : Boarded → RunInput → Status → Type 0
+HoldsSession board input status.Done = (ended : Ended) × HoldsTalk board input (Ok ended)
+HoldsSession board input (status.Broken why) = IsBroken why × HoldsTalk board input (Err why)
+HoldsSession board input status.ReadFault =
+    Rose input.reads_before input.reads_after × HoldsTalk board input (Err fault.ReadFault)
+HoldsSession board input status.WriteFault =
+    Rose input.writes_before input.writes_after × HoldsTalk board input (Err fault.WriteFault)
+HoldsSession board input _ = ⊥
 
--- `talk` ends before its session begins, with a cause that other commands have too
-pub record EndsBefore (run : Run) (input : RunInput) (ended : Status) : Type 0 where
-  pub cause : IsCause run ended
+-- a session was held on the first board of the map in the file, and the run ends so
+pub record EndsSession (file : RunFile) (order : OrderKind) (room : ℕ) (input : RunInput) (ended : Status) : Type 0 where
+  pub board : Boarded
+  pub first : IsFirstBoard file order room board
+  pub held : HoldsSession board input ended
+
+-- the file gives no board, and the session does not begin
+pub record EndsBefore (file : RunFile) (input : RunInput) (ended : Status) : Type 0 where
+  pub cause : IsMapFileCause file ended
   pub unheard : IsUnheard input
 
--- how `talk` ends
-abbrev pub TalkEnds : Run → RunInput → Status → Type 0
-TalkEnds run input ended = EndsBefore run input ended ⊎ EndsSession run input ended
+-- HOW `talk` ENDS, of which the map's file, the order and the room are told
+abbrev pub TalkEnds : RunFile → OrderKind → ℕ → RunInput → Status → Type 0
+TalkEnds file order room input ended = EndsBefore file input ended ⊎ EndsSession file order room input ended

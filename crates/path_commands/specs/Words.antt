@@ -21,6 +21,7 @@ use Rattle.build_pool.specs.declared.TheConstants.{MAX_WORKERS}
 use Rattle.moves.specs.declared.TheConstants.{MAX_SIDE}
 use Rattle.path_core.specs.declared.TheConstants.{MAX_ENTRIES}
 use Rattle.session.specs.declared.boards.TheConstants.{MAX_DOORS}
+use Rattle.path_commands.specs.declared.words.TheConstants.{MAX_ROUNDS}
 use Rattle.path_commands.specs.declared.words.NumberKind.{NumberKind}
 use Rattle.path_commands.specs.declared.words.NumberKind.TheVariants as number
 
@@ -95,6 +96,7 @@ least number.Workers = 1
 least number.Room = 0
 least number.Port = 1
 least number.Doors = 1
+least number.Rounds = 0
 
 abbrev pub most : NumberKind → ℕ
 most number.Coordinate = 65535
@@ -104,6 +106,7 @@ most number.Workers = MAX_WORKERS
 most number.Room = MAX_ENTRIES
 most number.Port = 65535
 most number.Doors = MAX_DOORS
+most number.Rounds = MAX_ROUNDS
 
 -- the number where it is from the one to the other
 abbrev pub between : ℕ → ℕ → Option ℕ → Option ℕ

@@ -4,62 +4,59 @@ ghost use Rattle.std.specs.Prelude.{◌≡◌, ◌≢◌, ◌≤◌, ◌⊎◌, 
 ghost use Rattle.wire.specs.Causes.{Rose};
 ghost use Rattle.path_commands.specs.declared.status.Status.{Status};
 ghost use Rattle.path_commands.specs.Asks.{CallsInVain, CallsOnce, HasGivenNone, HearsNoText, HearsText, house_over};
-ghost use Rattle.path_commands.specs.AskEnds.{CallsNoMore, FallsShort, IsAnswered, IsAskCause, PutsHeard};
-ghost use Rattle.path_commands.specs.Requests.{IsAsk};
-ghost use Rattle.path_commands.specs.Words.{texts_of};
+ghost use Rattle.path_commands.specs.AskEnds.{CallsServer, FallsShort, IsAnswered, IsAskCause, PutsHeard};
+ghost use Rattle.path_commands.specs.SaidRequests.{said_by};
 
 use crate::heard::heard_text;
 use crate::output::{put, refuse};
-use crate::request::{Request, read_request};
+use crate::request::AskAsked;
 use crate::status::Status;
 use path_client::{ClientFault, Heard};
 use std::alloc::Global;
 use wire::{Failed, House, Sink};
 
-/// Asks the server that the words name what they say, and puts the text of its answer, or the line
-/// of the status with which the run ends without one. The link is hung up before anything is put.
-pub fn ask<O: Sink, H: House>(alloc: Global, words: &[String], out: &mut O, house: &mut H) -> Status
-    requires ask { IsAsk words.now }
+/// Asks the server at a port, and puts the text of its answer, or the line of the status with which the
+/// run ends without one. The link is hung up before anything is put.
+pub fn ask<O: Sink, H: House>(alloc: Global, asked: AskAsked, out: &mut O, house: &mut H) -> Status
     requires uncalled { H.called house.old ≡ None }
     requires unlent { HasGivenNone (H.lent house.old) }
-    ensures calls { CallsNoMore H.Door H.Conn (texts_of words.now)
-        (house_over H.Conn.talk H.lent H.called H.read_faults H.write_faults house.old house.new) }
-    ensures whole { result ≢ Status.WriteFault → PutsHeard H.Door H.Conn (texts_of words.now)
+    ensures calls { CallsServer H.Door H.Conn
         (house_over H.Conn.talk H.lent H.called H.read_faults H.write_faults house.old house.new)
-        result (O.bytes out.old) (O.bytes out.new) }
-    ensures cut { result ≡ Status.WriteFault → FallsShort H.Door H.Conn (texts_of words.now)
+        asked.port (said_by asked.asking) }
+    ensures whole { result ≢ Status.WriteFault → PutsHeard H.Door H.Conn
         (house_over H.Conn.talk H.lent H.called H.read_faults H.write_faults house.old house.new)
-        (O.faults out.old) (O.faults out.new) (O.bytes out.old) (O.bytes out.new) }
+        asked.port (said_by asked.asking) result (O.bytes out.old) (O.bytes out.new) }
+    ensures cut { result ≡ Status.WriteFault → FallsShort H.Door H.Conn
+        (house_over H.Conn.talk H.lent H.called H.read_faults H.write_faults house.old house.new)
+        asked.port (said_by asked.asking) (O.faults out.old) (O.faults out.new)
+        (O.bytes out.old) (O.bytes out.new) }
     ensures doors { H.asked house.new ≡ H.asked house.old }
     ensures door_faults { H.door_faults house.new ≡ H.door_faults house.old }
 {
-    match hear(alloc, words, house) {
+    match hear(alloc, asked, house) {
         Ok(text) => put(out, text.as_bytes(), Status::Done),
         Err(Status::WriteFault) => Status::WriteFault,
         Err(status) => refuse(alloc, out, status),
     }
 }
 
-/// The text of the answer of the server that the words name.
-fn hear<H: House>(alloc: Global, words: &[String], house: &mut H) -> Result<String, Status>
-    requires ask { IsAsk words.now }
+/// The text of the answer of the server at the port.
+fn hear<H: House>(alloc: Global, asked: AskAsked, house: &mut H) -> Result<String, Status>
     requires uncalled { H.called house.old ≡ None }
     requires unlent { HasGivenNone (H.lent house.old) }
-    ensures calls { CallsNoMore H.Door H.Conn (texts_of words.now)
-        (house_over H.Conn.talk H.lent H.called H.read_faults H.write_faults house.old house.new) }
-    ensures heard { IfOk result (λ text. IsAnswered H.Door H.Conn (texts_of words.now)
+    ensures calls { CallsServer H.Door H.Conn
         (house_over H.Conn.talk H.lent H.called H.read_faults H.write_faults house.old house.new)
-        (string_bytes text)) }
-    ensures fault { IfErr result (IsAskCause H.Door H.Conn (texts_of words.now)
-        (house_over H.Conn.talk H.lent H.called H.read_faults H.write_faults house.old house.new)) }
+        asked.port (said_by asked.asking) }
+    ensures heard { IfOk result (λ text. IsAnswered H.Door H.Conn
+        (house_over H.Conn.talk H.lent H.called H.read_faults H.write_faults house.old house.new)
+        asked.port (said_by asked.asking) (string_bytes text)) }
+    ensures fault { IfErr result (IsAskCause H.Door H.Conn
+        (house_over H.Conn.talk H.lent H.called H.read_faults H.write_faults house.old house.new)
+        asked.port (said_by asked.asking)) }
     ensures doors { H.asked house.new ≡ H.asked house.old }
     ensures door_faults { H.door_faults house.new ≡ H.door_faults house.old }
 {
-    let request = read_request(alloc, words)?;
-    let Request::Ask { port, asking } = request else {
-        unreachable!()
-    };
-    ask_at(alloc, house, port, asking.request())
+    ask_at(alloc, house, asked.port, asked.asking.request())
 }
 
 /// Asks the server at the port, and gives the text of its answer. The link is hung up by then.

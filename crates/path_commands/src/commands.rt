@@ -4,7 +4,7 @@ ghost use Rattle.std.specs.Prelude.{is_some, slice_get};
 ghost use Rattle.clap.specs.Words.{app_of, rule_of};
 ghost use Rattle.path_commands.specs.Commands.{app_for, field_text, form_text, is_value, rule_for};
 ghost use Rattle.path_commands.specs.Words.{several_rule};
-ghost use Rattle.path_commands.specs.Commands.{verb_name, verb_named, verb_rules, verb_synopsis};
+ghost use Rattle.path_commands.specs.Commands.{verb_kind, verb_name, verb_named, verb_rules, verb_synopsis};
 
 use crate::words::{NumberKind, file_name, order};
 use clap::{Arg, ArgAction, Command};
@@ -39,6 +39,27 @@ pub enum Verb {
     Export,
     /// Whether a file is that of a database.
     Verify,
+    /// Sessions at the doors of a port, and a door at another one where followers are fed.
+    Lead,
+    /// A session on a board that follows a leader's.
+    Follow,
+}
+
+/// What a command is for, as far as its end differs from those of others.
+#[derive(Clone, Copy, Debug, PartialEq, Eq)]
+pub enum Kind {
+    /// What it comes to is printed. So is the line of words that name no command.
+    Printed,
+    /// `talk`: a session over the input.
+    Talk,
+    /// `serve`: sessions at doors.
+    Serve,
+    /// `ask`: one request to a server.
+    Ask,
+    /// `lead`: sessions at doors, and a feed.
+    Lead,
+    /// `follow`: a session on a board that follows another.
+    Follow,
 }
 
 /// An argument or an option of a command, and what its value may be.
@@ -124,9 +145,25 @@ static ASK_FIELDS: [Field; 2] = [
 
 static VERIFY_FIELDS: [Field; 1] = [Field::Argument("DB", Value::File)];
 
+static LEAD_FIELDS: [Field; 7] = [
+    Field::Argument("MAP", Value::File),
+    Field::Argument("PORT", Value::Number(NumberKind::Port)),
+    Field::Argument("DOORS", Value::Number(NumberKind::Doors)),
+    Field::Argument("FEED", Value::Number(NumberKind::Port)),
+    Field::Setting("order", Value::Order),
+    Field::Setting("workers", Value::Number(NumberKind::Workers)),
+    Field::Setting("room", Value::Number(NumberKind::Room)),
+];
+
+static FOLLOW_FIELDS: [Field; 3] = [
+    Field::Argument("PORT", Value::Number(NumberKind::Port)),
+    Field::Argument("ROUNDS", Value::Number(NumberKind::Rounds)),
+    Field::Setting("order", Value::Order),
+];
+
 impl Verb {
     /// All commands.
-    pub const ALL: [Verb; 12] = [
+    pub const ALL: [Verb; 14] = [
         Verb::Path,
         Verb::Check,
         Verb::Scen,
@@ -139,6 +176,8 @@ impl Verb {
         Verb::Verify,
         Verb::Near,
         Verb::NearPath,
+        Verb::Lead,
+        Verb::Follow,
     ];
 
     /// The word that names the command.
@@ -158,6 +197,24 @@ impl Verb {
             Verb::Ask => "ask",
             Verb::Export => "export",
             Verb::Verify => "verify",
+            Verb::Lead => "lead",
+            Verb::Follow => "follow",
+        }
+    }
+
+    /// What it is for, as far as its end differs from those of others.
+    pub fn kind(self) -> Kind
+        ensures { result ≡ verb_kind self }
+    {
+        match self {
+            Verb::Talk => Kind::Talk,
+            Verb::Serve => Kind::Serve,
+            Verb::Ask => Kind::Ask,
+            Verb::Lead => Kind::Lead,
+            Verb::Follow => Kind::Follow,
+            Verb::Path | Verb::NearPath | Verb::Near | Verb::Check => Kind::Printed,
+            Verb::Scen | Verb::Made | Verb::Replay => Kind::Printed,
+            Verb::Export | Verb::Verify => Kind::Printed,
         }
     }
 
@@ -177,6 +234,8 @@ impl Verb {
             Verb::Serve => SERVE_FIELDS.as_slice(),
             Verb::Ask => ASK_FIELDS.as_slice(),
             Verb::Verify => VERIFY_FIELDS.as_slice(),
+            Verb::Lead => LEAD_FIELDS.as_slice(),
+            Verb::Follow => FOLLOW_FIELDS.as_slice(),
         }
     }
 
@@ -200,6 +259,10 @@ impl Verb {
             Verb::Near =>
                 "prints what check prints, and how many runs are left where the compass is right",
             Verb::NearPath => "prints an optimal path that goes by the compass where that is right",
+            Verb::Lead =>
+                "serves as serve does, and feeds followers its accepted edits at a port of their own",
+            Verb::Follow =>
+                "takes the accepted edits of a leader, and then answers requests as talk does",
         }
     }
 
@@ -218,6 +281,8 @@ impl Verb {
             Verb::Verify => "path_server verify tutorial.db",
             Verb::Near => "path_server near maps/tutorial.map",
             Verb::NearPath => "path_server nearpath maps/tutorial.map 2 2 37 17",
+            Verb::Lead => "path_server lead maps/tutorial.map 4000 8 4001",
+            Verb::Follow => "path_server follow 4001 1",
         }
     }
 
@@ -270,6 +335,8 @@ impl Field {
             "SEED" => "what the formula mixes in",
             "PORT" => "the port of this machine, at 127.0.0.1",
             "DOORS" => "how many connections are served side by side",
+            "FEED" => "the port at which followers are fed, another than PORT",
+            "ROUNDS" => "how often the leader is asked for edits",
             "WORDS" => {
                 "query SX SY GX GY, change X Y 0 (blocked) or 1 (passable), build, status, bye or stop"
             }

@@ -9,7 +9,10 @@ use crate::commands::{Field, Verb, command};
 use crate::pages::{
     asks_for_help, asks_for_version, nearest, push_page, push_page_of, push_version,
 };
-use crate::request::{Request, RequestError, first_verb, read_request};
+use crate::request::{
+    AskAsked, FollowAsked, MapAim, MapAsked, MapSource, Request, RequestError, first_verb,
+    read_request,
+};
 use crate::seen::Seen;
 use crate::status::Status;
 use clap::ArgMatches;
@@ -41,11 +44,19 @@ pub fn advice(
         (Status::Done, _) => {}
         (Status::Usage, _) => push_usage(&mut text, alloc, words)?,
         (Status::NoMemory, _) => text.push_str("path_server: out of memory\n")?,
-        (Status::WriteFault, Ok(Request::Ask { .. })) => {
+        (Status::WriteFault, Ok(Request::Ask(_))) => {
             text.push_str("path_server ask: the output or the connection failed\n")?
         }
+        (Status::WriteFault, Ok(Request::Follow(_))) => {
+            text.push_str("path_server follow: the output or the connection failed\n")?
+        }
         (Status::WriteFault, _) => text.push_str("path_server: the output failed\n")?,
-        (Status::Broken(fault), _) => push_broken(&mut text, *fault)?,
+        (Status::Broken(fault), Ok(Request::Follow(_))) => {
+            push_broken(&mut text, "follow", *fault)?
+        }
+        (Status::Broken(fault), _) => push_broken(&mut text, "talk", *fault)?,
+        (_, Ok(Request::Ask(asked))) => push_on_server(&mut text, asked, status)?,
+        (_, Ok(Request::Follow(asked))) => push_on_leader(&mut text, asked, status)?,
         (_, Ok(request)) => push_on_file(&mut text, request, status, seen)?,
         (_, Err(_)) => {}
     }
@@ -60,15 +71,15 @@ pub fn argument_advice(error: RequestError) -> &'static str {
     }
 }
 
-/// How the input of a session broke off.
-fn push_broken(text: &mut String, fault: SessionFault) -> Result<(), AllocError> {
+/// How the input of a session broke off that the command of this name held.
+fn push_broken(text: &mut String, name: &str, fault: SessionFault) -> Result<(), AllocError> {
     match fault {
         SessionFault::Torn { have, want } => {
-            text.push_str("path_server talk: the input ended inside a frame, ")?;
+            write!(text, "path_server {name}: the input ended inside a frame, ")?;
             write!(text, "{have} of {want} bytes\n")
         }
         SessionFault::TooLong { length } => {
-            text.push_str("path_server talk: a frame of ")?;
+            write!(text, "path_server {name}: a frame of ")?;
             let (short, long) = (frame_limit(Proto::One), frame_limit(Proto::Two));
             write!(
                 text,
@@ -79,7 +90,7 @@ fn push_broken(text: &mut String, fault: SessionFault) -> Result<(), AllocError>
     }
 }
 
-/// What is wrong with the file that was asked for, or with the query of it.
+/// What is wrong with a file or a door that was asked for, or with the query of a map.
 fn push_on_file(
     text: &mut String,
     request: Request,
@@ -87,19 +98,15 @@ fn push_on_file(
     seen: Seen,
 ) -> Result<(), AllocError> {
     match (status, request) {
-        (Status::ReadFault, Request::Talk { .. }) if seen.reason.is_none() => {
+        (Status::ReadFault, Request::Talk(_)) if seen.reason.is_none() => {
             text.push_str("path_server talk: the input failed\n")
         }
-        (Status::ReadFault, Request::Serve { doors, .. }) if seen.reason.is_none() => {
-            push_door_fault(text, doors, seen.refusal)
+        (Status::ReadFault, Request::Serve(asked)) if seen.reason.is_none() => {
+            push_door_fault(text, asked.doors, seen.refusal)
         }
-        (Status::ReadFault, Request::Ask { port, .. }) => {
-            write!(
-                text,
-                "path_server ask: nobody answers at port {port}, or no longer\n"
-            )
+        (Status::ReadFault, Request::Lead(asked)) if seen.reason.is_none() => {
+            push_feed_fault(text, asked.doors, asked.feed, seen.refusal)
         }
-        (Status::BadAnswer, Request::Ask { port, .. }) => push_bad_answer(text, port),
         (Status::ReadFault, _) => {
             push_read_fault(text, file_at(request, seen.files.files), seen.reason)
         }
@@ -107,33 +114,50 @@ fn push_on_file(
             let file = file_at(request, seen.files.files);
             write!(text, "{file}: expected at most {limit} bytes\n")
         }
-        (Status::Map(fault), Request::Made { .. }) => push_made_fault(text, *fault),
+        (Status::Db(fault), Request::Verify(db)) => push_db_fault(text, db, *fault, seen),
+        (Status::Map(fault), Request::OfMap(asked)) => {
+            push_on_source(text, asked.source, *fault, seen)
+        }
         (Status::Map(fault), _) => push_map_fault(text, file_at(request, 0), *fault, seen),
-        (Status::Scen(fault), Request::Scen { scenarios, .. }) => {
+        (_, Request::OfMap(asked)) => push_on_aim(text, asked, status, seen),
+        _ => Ok(()),
+    }
+}
+
+/// Why a source gives no map.
+fn push_on_source(
+    text: &mut String,
+    source: MapSource,
+    fault: MapFault,
+    seen: Seen,
+) -> Result<(), AllocError> {
+    match source {
+        MapSource::File(map) => push_map_fault(text, map, fault, seen),
+        MapSource::Formula { .. } => push_made_fault(text, fault),
+    }
+}
+
+/// What is wrong with what a map was asked for.
+fn push_on_aim(
+    text: &mut String,
+    asked: MapAsked,
+    status: &Status,
+    seen: Seen,
+) -> Result<(), AllocError> {
+    let map = source_file(asked.source);
+    match (status, asked.aim) {
+        (Status::Scen(fault), MapAim::Scen(scenarios)) => {
             push_scenario_fault(text, scenarios, *fault, seen)
         }
-        (Status::Db(fault), Request::Verify { db }) => push_db_fault(text, db, *fault, seen),
-        (Status::Events { line }, Request::Replay { events, .. }) => {
+        (Status::Events { line }, MapAim::Replay(events)) => {
             push_events_fault(text, events, *line, seen)
         }
-        (
-            Status::Query(refusal),
-            Request::Path {
-                map,
-                start,
-                goal,
-                ..
-            },
-        ) => { push_refusal(text, map, start, goal, *refusal) }
-        (
-            Status::Query(refusal),
-            Request::NearPath {
-                map,
-                start,
-                goal,
-                ..
-            },
-        ) => { push_refusal(text, map, start, goal, *refusal) }
+        (Status::Query(refusal), MapAim::Path { start, goal }) => {
+            push_refusal(text, map, start, goal, *refusal)
+        }
+        (Status::Query(refusal), MapAim::NearPath { start, goal }) => {
+            push_refusal(text, map, start, goal, *refusal)
+        }
         _ => Ok(()),
     }
 }
@@ -157,10 +181,71 @@ fn push_door_fault(
     write!(text, ": {error}\n")
 }
 
-/// What is wrong with what came in from a port.
-fn push_bad_answer(text: &mut String, port: u16) -> Result<(), AllocError> {
-    text.push_str("path_server ask: what came in is no answer, ")?;
-    write!(text, "or ended before it was whole, at port {port}\n")
+/// The same of the doors of a leader, of which one is at a port of its own.
+fn push_feed_fault(
+    text: &mut String,
+    doors: DoorsAsked,
+    feed: u16,
+    refusal: Option<io::Error>,
+) -> Result<(), AllocError> {
+    let DoorsAsked { port, count } = doors;
+    let Some(error) = refusal else {
+        return write!(
+            text,
+            "path_server lead: a door of port {port} or {feed} failed\n"
+        );
+    };
+    write!(text, "path_server lead: port {port} or {feed} ")?;
+    match error.kind() {
+        ErrorKind::AddrInUse => text.push_str("is taken")?,
+        ErrorKind::PermissionDenied => text.push_str("is forbidden")?,
+        _ => write!(text, "cannot have {count} doors and one")?,
+    }
+    write!(text, ": {error}\n")
+}
+
+// ---- connections that are called
+
+/// What is wrong with what came in from a server, or with the connection to it.
+fn push_on_server(text: &mut String, asked: AskAsked, status: &Status) -> Result<(), AllocError> {
+    let AskAsked { port, .. } = asked;
+    match status {
+        Status::ReadFault => {
+            write!(
+                text,
+                "path_server ask: nobody answers at port {port}, or no longer\n"
+            )
+        }
+        Status::BadAnswer => {
+            text.push_str("path_server ask: what came in is no answer, ")?;
+            write!(text, "or ended before it was whole, at port {port}\n")
+        }
+        _ => Ok(()),
+    }
+}
+
+/// What is wrong with what came in from a leader, with the leader, or with the connection to it.
+fn push_on_leader(
+    text: &mut String,
+    asked: FollowAsked,
+    status: &Status,
+) -> Result<(), AllocError> {
+    let FollowAsked { port, .. } = asked;
+    match status {
+        Status::ReadFault => {
+            write!(text, "path_server follow: nobody answers at port {port}, ")?;
+            text.push_str("or no longer, or the input failed\n")
+        }
+        Status::BadAnswer => {
+            text.push_str("path_server follow: what came in is no feed, ")?;
+            write!(text, "or ended before it was whole, at port {port}\n")
+        }
+        Status::LeaderMemory => {
+            text.push_str("path_server follow: the leader at port ")?;
+            write!(text, "{port} has no memory for its edits\n")
+        }
+        _ => Ok(()),
+    }
 }
 
 // ---- files
@@ -172,32 +257,38 @@ fn file_at<'a>(request: Request<'a>, others: u32) -> &'a str {
     {
         return file;
     }
-    map_file(request)
+    first_file(request)
 }
 
 /// The name of the file that is read behind the map's.
 fn second_file<'a>(request: Request<'a>) -> Option<&'a str> {
-    match request {
-        Request::Scen { scenarios, .. } => Some(scenarios),
-        Request::Replay { events, .. } => Some(events),
+    let Request::OfMap(asked) = request else {
+        return None;
+    };
+    match asked.aim {
+        MapAim::Scen(scenarios) => Some(scenarios),
+        MapAim::Replay(events) => Some(events),
         _ => None,
     }
 }
 
-/// The name of the map's file; none where the map is made or a server is asked.
-fn map_file<'a>(request: Request<'a>) -> &'a str {
+/// The name of the file that is read first; none where a map is made, and where a port is called.
+fn first_file<'a>(request: Request<'a>) -> &'a str {
     match request {
-        Request::Path { map, .. } => map,
-        Request::Check { map, .. } => map,
-        Request::Near { map, .. } => map,
-        Request::NearPath { map, .. } => map,
-        Request::Scen { map, .. } => map,
-        Request::Replay { map, .. } => map,
-        Request::Talk { map, .. } => map,
-        Request::Serve { map, .. } => map,
-        Request::Export { map, .. } => map,
-        Request::Verify { db } => db,
-        _ => "",
+        Request::OfMap(asked) => source_file(asked.source),
+        Request::Talk(asked) => asked.map,
+        Request::Serve(asked) => asked.map,
+        Request::Lead(asked) => asked.map,
+        Request::Verify(db) => db,
+        Request::Ask(_) | Request::Follow(_) => "",
+    }
+}
+
+/// The name of the map's file; none where the map is made.
+fn source_file<'a>(source: MapSource<'a>) -> &'a str {
+    match source {
+        MapSource::File(map) => map,
+        MapSource::Formula { .. } => "",
     }
 }
 
@@ -618,6 +709,7 @@ fn push_wrong_values(text: &mut String, verb: Verb) -> Result<(), AllocError> {
             text.push_str("path_server ask: WORDS: expected query SX SY GX GY, ")?;
             text.push_str("change X Y 0, change X Y 1, build, status, bye or stop\n")
         }
+        Verb::Lead => text.push_str("path_server lead: PORT FEED: expected two ports\n"),
         _ => {
             text.push_str("path_server made: W H: ")?;
             write!(text, "expected at most {MAX_CELLS} cells\n")

@@ -25,7 +25,7 @@ pub mod request_laws;
 mod scen;
 mod seen;
 pub mod serve;
-mod serving;
+pub mod serving;
 mod status;
 mod system;
 pub mod talk;
@@ -34,7 +34,8 @@ mod watch;
 mod words;
 
 pub use check::answer_check;
-pub use database::{first_near, first_version};
+pub use commands::{Kind, Verb};
+pub use database::{first_board, first_near, first_version};
 pub use db::{answer_verify, put_file, read_version};
 pub use help::{advice, argument_advice};
 pub use made::{answer_made, made_grid};
@@ -45,8 +46,8 @@ pub use output::{put, refuse};
 pub use path::answer_path;
 pub use replay::answer_replay;
 pub use request::{
-    BuildOptions, Request, RequestError, Sides, file_to_verify, is_ask, is_serve, is_talk,
-    read_request,
+    AskAsked, BuildOptions, FollowAsked, LeadAsked, MapAim, MapAsked, MapSource, Refusal, Request,
+    RequestError, ServeAsked, Sides, TalkAsked, first_verb, read_request,
 };
 pub use scen::answer_scen;
 pub use seen::Seen;
@@ -54,3 +55,4 @@ pub use status::Status;
 pub use system::{command_words, exit_code, is_printed_name};
 pub use task::{Task, task_for};
 pub use watch::Watch;
+pub use words::MAX_ROUNDS;

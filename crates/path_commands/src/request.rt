@@ -1,9 +1,9 @@
 //! What the words of a command line ask for.
-ghost use Rattle.std.specs.Prelude.{◌≡◌, ◌≢◌, ◌≤◌, IfNone, IfOk, IfSome, IsFalse, IsTrue, None, Some, false, option_map};
+ghost use Rattle.std.specs.Prelude.{◌≡◌, ◌≢◌, ◌≤◌, IfErr, IfOk, IfSome, None, Some, false, option_map};
 ghost use Rattle.clap.specs.Words.{first_value, found_of, kind_of};
 ghost use Rattle.path_commands.specs.declared.request.RequestError.TheVariants.{NoMemory, Usage};
 ghost use Rattle.clap.specs.declared.error.kind.ErrorKind.TheVariants.{OutOfMemory};
-ghost use Rattle.path_commands.specs.Commands.{app_for, verb_of};
+ghost use Rattle.path_commands.specs.Commands.{app_for, kind_named, verb_of};
 ghost use Rattle.path_commands.specs.Words.{AreWorkers, HasValues, is_taken, texts_of};
 ghost use Rattle.moves.specs.Maps.{IsWithinLimits};
 ghost use Rattle.path_core.specs.declared.TheConstants.{MAX_ENTRIES};
@@ -11,14 +11,14 @@ ghost use Rattle.path_commands.specs.declared.commands.Verb.{Verb};
 ghost use Rattle.path_commands.specs.Words.{IsOfKind, every_value};
 ghost use Rattle.path_commands.specs.SaidRequests.{said_by};
 ghost use Rattle.path_commands.specs.declared.words.NumberKind.{NumberKind};
-ghost use Rattle.path_commands.specs.Requests.{AreDoors, HasLimits, IsAsk, IsServe, IsTalk, doors_at, serve_by, ask_by, asked, asked_by, build_at, said_at};
-ghost use Rattle.path_commands.specs.Requests.{build_of, cell_at, export_by, verify, verify_by};
-ghost use Rattle.path_commands.specs.Requests.{check_by, coordinate_at, made_by, near_by, nearpath_by, number_at, order_at};
-ghost use Rattle.path_commands.specs.Requests.{path_at, path_by, replay_by, request_by, request_of};
-ghost use Rattle.path_commands.specs.Requests.{room_at, scen_by, sides_at, talk_by, verb_asked, workers_at};
+ghost use Rattle.path_commands.specs.Requests.{AreDoors, HasLimits, IsRefusalOf, asked, asked_by, kind_asked, verb_asked};
+ghost use Rattle.path_commands.specs.Requests.{ask_by, check_by, export_by, follow_by, lead_by, made_by, near_by};
+ghost use Rattle.path_commands.specs.Requests.{nearpath_by, path_by, replay_by, scen_by, serve_by, talk_by, verify_by};
+ghost use Rattle.path_commands.specs.Requests.{build_at, cell_at, coordinate_at, doors_at, feed_at, number_at, order_at};
+ghost use Rattle.path_commands.specs.Requests.{path_at, request_by, request_of, room_at, said_at, sides_at, workers_at};
 
 use crate::asked::{Asking, asking_in};
-use crate::commands::{Verb, command};
+use crate::commands::{Kind, Verb, command};
 use crate::words::{NumberKind, STANDARD_ROOM, coordinate, file_name, order, workers};
 use cell_order::OrderKind;
 use clap::error::ErrorKind;
@@ -30,111 +30,140 @@ use wire::DoorsAsked;
 /// What the words of a command line ask for.
 #[derive(Clone, Copy, Debug, PartialEq, Eq)]
 pub enum Request<'a> {
-    /// A best path between two cells of a map.
-    Path {
-        /// The name of the map's file, which is not empty.
-        map: &'a str,
-        /// The cell that the path begins with.
-        start: Cell,
-        /// The cell that the path ends with.
-        goal: Cell,
-        /// How a database of the map is built.
-        build: BuildOptions,
-    },
-    /// Whether a file is a map, and its size.
-    Check {
-        /// The name of the map's file, which is not empty.
-        map: &'a str,
-        /// How a database of the map is built.
-        build: BuildOptions,
-    },
-    /// How many runs a map has where compass moves need none.
-    Near {
-        /// The name of the map's file, which is not empty.
-        map: &'a str,
-        /// How a database of the map is built.
-        build: BuildOptions,
-    },
-    /// A best path between two cells of a map, by compass moves where they are right.
-    NearPath {
-        /// The name of the map's file, which is not empty.
-        map: &'a str,
-        /// The cell that the path begins with.
-        start: Cell,
-        /// The cell that the path ends with.
-        goal: Cell,
-        /// How a database of the map is built.
-        build: BuildOptions,
-    },
-    /// What a map says of scenarios.
-    Scen {
-        /// The name of the map's file, which is not empty.
-        map: &'a str,
-        /// The name of the scenarios' file, which is not empty.
-        scenarios: &'a str,
-        /// How a database of the map is built.
-        build: BuildOptions,
-    },
-    /// The map that is made of two sides and a seed.
-    Made {
+    /// What the first version of a map answers.
+    OfMap(MapAsked<'a>),
+    /// A session on a board that begins with a map.
+    Talk(TalkAsked<'a>),
+    /// Sessions at the doors of a port, on such a board.
+    Serve(ServeAsked<'a>),
+    /// One request to the server at a port.
+    Ask(AskAsked),
+    /// Whether the file of this name, which is not empty, is that of a database.
+    Verify(&'a str),
+    /// Sessions at the doors of a port, and a door at another one where followers are fed.
+    Lead(LeadAsked<'a>),
+    /// A session on a board that follows the leader at a port.
+    Follow(FollowAsked),
+}
+
+/// What is asked of the first version of a map.
+#[derive(Clone, Copy, Debug, PartialEq, Eq)]
+pub struct MapAsked<'a> {
+    /// Where the map comes from.
+    pub source: MapSource<'a>,
+    /// What the version is to answer.
+    pub aim: MapAim<'a>,
+    /// How the version is built.
+    pub build: BuildOptions,
+}
+
+/// Where a map comes from.
+#[derive(Clone, Copy, Debug, PartialEq, Eq)]
+pub enum MapSource<'a> {
+    /// The file of this name, which is not empty.
+    File(&'a str),
+    /// The formula that makes a map of two sides and a seed.
+    Formula {
         /// The sides of the map.
         sides: Sides,
         /// The seed.
         seed: u32,
-        /// How a database of the map is built.
-        build: BuildOptions,
     },
-    /// What events print on a board that begins with a map.
-    Replay {
-        /// The name of the map's file, which is not empty.
-        map: &'a str,
-        /// The name of the events' file, which is not empty.
-        events: &'a str,
-        /// How a database of the map is built.
-        build: BuildOptions,
+}
+
+/// What the first version of a map is to answer.
+#[derive(Clone, Copy, Debug, PartialEq, Eq)]
+pub enum MapAim<'a> {
+    /// A best path between two cells.
+    Path {
+        /// The cell that the path begins with.
+        start: Cell,
+        /// The cell that the path ends with.
+        goal: Cell,
     },
-    /// A session on a board that begins with a map.
-    Talk {
-        /// The name of the map's file, which is not empty.
-        map: &'a str,
-        /// For how many entries the board takes memory first, at most
-        /// [`MAX_ENTRIES`](path_core::MAX_ENTRIES).
-        room: u32,
-        /// How a database of the map is built.
-        build: BuildOptions,
+    /// The size.
+    Check,
+    /// How many runs are left where compass moves need none.
+    Near,
+    /// A best path between two cells, by compass moves where they are right.
+    NearPath {
+        /// The cell that the path begins with.
+        start: Cell,
+        /// The cell that the path ends with.
+        goal: Cell,
     },
-    /// Sessions at the doors of a port, on a board that begins with a map.
-    Serve {
-        /// The name of the map's file, which is not empty.
-        map: &'a str,
-        /// The port, from 1 on, and how many doors it has, from 1 to
-        /// [`MAX_DOORS`](session::MAX_DOORS).
-        doors: DoorsAsked,
-        /// For how many entries the board takes memory first, at most
-        /// [`MAX_ENTRIES`](path_core::MAX_ENTRIES).
-        room: u32,
-        /// How a database of the map is built.
-        build: BuildOptions,
-    },
-    /// One request to the server at a port.
-    Ask {
-        /// The port, from 1 on.
-        port: u16,
-        /// What is asked for.
-        asking: Asking,
-    },
-    /// The file of the database of a map.
-    Export {
-        /// The name of the map's file, which is not empty.
-        map: &'a str,
-        /// How a database of the map is built.
-        build: BuildOptions,
-    },
-    /// Whether a file is that of a database.
-    Verify {
-        /// The name of the file, which is not empty.
-        db: &'a str,
-    },
+    /// The scenarios in the file of this name, which is not empty.
+    Scen(&'a str),
+    /// The queries of this seed, from which the map was made.
+    Made(u32),
+    /// The events in the file of this name, which is not empty, on a board that begins with the version.
+    Replay(&'a str),
+    /// The file of its database.
+    Export,
+}
+
+/// A session on a board that begins with a map.
+#[derive(Clone, Copy, Debug, PartialEq, Eq)]
+pub struct TalkAsked<'a> {
+    /// The name of the map's file, which is not empty.
+    pub map: &'a str,
+    /// For how many entries the board takes memory first, at most
+    /// [`MAX_ENTRIES`](path_core::MAX_ENTRIES).
+    pub room: u32,
+    /// How the versions are built.
+    pub build: BuildOptions,
+}
+
+/// Sessions at the doors of a port, on a board that begins with a map.
+#[derive(Clone, Copy, Debug, PartialEq, Eq)]
+pub struct ServeAsked<'a> {
+    /// The name of the map's file, which is not empty.
+    pub map: &'a str,
+    /// The port, from 1 on, and how many doors it has, from 1 to
+    /// [`MAX_DOORS`](session::MAX_DOORS).
+    pub doors: DoorsAsked,
+    /// For how many entries the board takes memory first, at most
+    /// [`MAX_ENTRIES`](path_core::MAX_ENTRIES).
+    pub room: u32,
+    /// How the versions are built.
+    pub build: BuildOptions,
+}
+
+/// One request to the server at a port.
+#[derive(Clone, Copy, Debug, PartialEq, Eq)]
+pub struct AskAsked {
+    /// The port, from 1 on.
+    pub port: u16,
+    /// What is asked for.
+    pub asking: Asking,
+}
+
+/// Sessions at the doors of a port, and a door at another one where followers are fed.
+#[derive(Clone, Copy, Debug, PartialEq, Eq)]
+pub struct LeadAsked<'a> {
+    /// The name of the map's file, which is not empty.
+    pub map: &'a str,
+    /// The port, from 1 on, and how many doors it has, from 1 to
+    /// [`MAX_DOORS`](session::MAX_DOORS).
+    pub doors: DoorsAsked,
+    /// The port at which followers are fed, from 1 on, another than that of the doors.
+    pub feed: u16,
+    /// For how many entries the board takes memory first, at most
+    /// [`MAX_ENTRIES`](path_core::MAX_ENTRIES).
+    pub room: u32,
+    /// How the versions are built.
+    pub build: BuildOptions,
+}
+
+/// A session on a board that follows the leader at a port.
+#[derive(Clone, Copy, Debug, PartialEq, Eq)]
+pub struct FollowAsked {
+    /// The port, from 1 on.
+    pub port: u16,
+    /// How often the leader is asked for edits, at most [`MAX_ROUNDS`](crate::words::MAX_ROUNDS).
+    pub rounds: u32,
+    /// The order of the cells in the databases of the board.
+    pub order: OrderKind,
 }
 
 /// The sides of a map: each from 1 to [`MAX_SIDE`](moves::MAX_SIDE), with at most [`MAX_CELLS`]
@@ -155,12 +184,6 @@ pub struct BuildOptions {
     /// How many threads build, from 1 to 64; one where no other number is given.
     pub workers: u32,
 }
-
-/// How a database is built where no option is given.
-const STANDARD_BUILD: BuildOptions = BuildOptions {
-    order: OrderKind::Rows,
-    workers: 1,
-};
 
 /// Why the words of a command line ask for nothing.
 #[derive(Clone, Copy, Debug, PartialEq, Eq)]
@@ -190,42 +213,44 @@ impl From<Error> for RequestError {
     }
 }
 
-impl<'a> Request<'a> {
-    /// How the first version of the map is built; as without options where there is none.
-    pub fn build(&self) -> BuildOptions
-        ensures { result ≡ build_of (asked self.now) }
-    {
-        match self {
-            Request::Path { build, .. } => *build,
-            Request::Check { build, .. } => *build,
-            Request::Near { build, .. } => *build,
-            Request::NearPath { build, .. } => *build,
-            Request::Scen { build, .. } => *build,
-            Request::Made { build, .. } => *build,
-            Request::Replay { build, .. } => *build,
-            Request::Talk { build, .. } => *build,
-            Request::Serve { build, .. } => *build,
-            Request::Export { build, .. } => *build,
-            Request::Ask { .. } | Request::Verify { .. } => STANDARD_BUILD,
-        }
-    }
+/// Words that ask for nothing, and what is known of them.
+#[derive(Clone, Copy, Debug, PartialEq, Eq)]
+pub struct Refusal {
+    /// The kind of the command that the first word names; that of a printed one where it names none.
+    pub kind: Kind,
+    /// Why they ask for nothing.
+    pub error: RequestError,
 }
 
 /// Reads the words after the program's own name, of which the first names the command.
+///
+/// # Errors
+///
+/// - `Usage` only where no command takes the words.
+/// - `NoMemory` for want of memory.
 #[tactic(auto, unfolding(crate::specs::Requests::request_of))]
-pub fn read_request<'a>(alloc: Global, words: &'a [String]) -> Result<Request<'a>, RequestError>
+pub fn read_request<'a>(alloc: Global, words: &'a [String]) -> Result<Request<'a>, Refusal>
     ensures request { IfOk result (λ request.
         request_of (texts_of words.entry.now) ≡ Some (asked request)) }
-    ensures usage { result ≡ Err RequestError.Usage
-        → request_of (texts_of words.entry.now) ≡ None }
     ensures verb { IfOk result (λ request.
         verb_of (texts_of words.entry.now) ≡ Some (verb_asked (asked request))) }
-    ensures workers { IfOk result (λ request. AreWorkers (build_of (asked request)).workers) }
+    ensures kind { IfOk result (λ request.
+        kind_named (texts_of words.entry.now) ≡ kind_asked (asked request)) }
     ensures limits { IfOk result (λ request. HasLimits (asked request)) }
+    ensures refused { IfErr result (IsRefusalOf (texts_of words.entry.now)) }
 {
-    match first_verb(words) {
-        Some(verb) => read_as(alloc, verb, words),
-        None => Err(RequestError::Usage),
+    let Some(verb) = first_verb(words) else {
+        return Err(Refusal {
+            kind: Kind::Printed,
+            error: RequestError::Usage,
+        });
+    };
+    match read_as(alloc, verb, words) {
+        Ok(request) => Ok(request),
+        Err(error) => Err(Refusal {
+            kind: verb.kind(),
+            error,
+        }),
     }
 }
 
@@ -237,44 +262,6 @@ pub fn first_verb(words: &[String]) -> Option<Verb>
     Verb::named(name.as_str())
 }
 
-/// The name of the file that is to be checked; `None` exactly where that is not asked for.
-pub fn file_to_verify<'a>(request: Request<'a>) -> Option<&'a str>
-    ensures some { IfSome result (λ db. asked request.entry ≡ verify db.now) }
-    ensures none { IfNone result (verb_asked (asked request.entry) ≢ Verb.Verify) }
-{
-    match request {
-        Request::Verify { db } => Some(db),
-        Request::Path { .. } | Request::NearPath { .. } | Request::Near { .. } => None,
-        Request::Check { .. } | Request::Scen { .. } | Request::Made { .. } => None,
-        Request::Replay { .. } | Request::Talk { .. } | Request::Serve { .. } => None,
-        Request::Ask { .. } | Request::Export { .. } => None,
-    }
-}
-
-/// Whether the words name `talk`.
-pub fn is_talk(words: &[String]) -> bool
-    ensures talk { IsTrue result → IsTalk words.now }
-    ensures other { IsFalse result → IsTalk words.now → ⊥ }
-{
-    first_verb(words) == Some(Verb::Talk)
-}
-
-/// Whether the words name `serve`.
-pub fn is_serve(words: &[String]) -> bool
-    ensures serve { IsTrue result → IsServe words.now }
-    ensures other { IsFalse result → IsServe words.now → ⊥ }
-{
-    first_verb(words) == Some(Verb::Serve)
-}
-
-/// Whether the words name `ask`.
-pub fn is_ask(words: &[String]) -> bool
-    ensures ask { IsTrue result → IsAsk words.now }
-    ensures other { IsFalse result → IsAsk words.now → ⊥ }
-{
-    first_verb(words) == Some(Verb::Ask)
-}
-
 /// Reads the words of this command.
 fn read_as<'a>(alloc: Global, verb: Verb, words: &'a [String]) -> Result<Request<'a>, RequestError>
     ensures request { IfOk result (λ request.
@@ -282,7 +269,6 @@ fn read_as<'a>(alloc: Global, verb: Verb, words: &'a [String]) -> Result<Request
     ensures usage { result ≡ Err RequestError.Usage
         → request_by verb (texts_of words.entry.now) ≡ None }
     ensures verb { IfOk result (λ request. verb_asked (asked request) ≡ verb) }
-    ensures workers { IfOk result (λ request. AreWorkers (build_of (asked request)).workers) }
     ensures limits { IfOk result (λ request. HasLimits (asked request)) }
 {
     let matches = parse(alloc, verb, words)?;
@@ -304,7 +290,6 @@ fn asked_of<'a>(verb: Verb, matches: &ArgMatches<'a>) -> Option<Request<'a>>
     ensures asked { option_map asked result
         ≡ asked_by verb (first_value (found_of matches.now)) (every_value (found_of matches.now)) }
     ensures verb { IfSome result (λ request. verb_asked (asked request) ≡ verb) }
-    ensures workers { IfSome result (λ request. AreWorkers (build_of (asked request)).workers) }
     ensures limits { IfSome result (λ request. HasLimits (asked request)) }
 {
     match verb {
@@ -320,6 +305,8 @@ fn asked_of<'a>(verb: Verb, matches: &ArgMatches<'a>) -> Option<Request<'a>>
         Verb::Ask => ask_asked(matches),
         Verb::Export => export_asked(matches),
         Verb::Verify => verify_asked(matches),
+        Verb::Lead => lead_asked(matches),
+        Verb::Follow => follow_asked(matches),
     }
 }
 
@@ -328,19 +315,17 @@ fn asked_of<'a>(verb: Verb, matches: &ArgMatches<'a>) -> Option<Request<'a>>
 fn path_asked<'a>(matches: &ArgMatches<'a>) -> Option<Request<'a>>
     ensures asked { option_map asked result ≡ path_by (first_value (found_of matches.now)) }
     ensures verb { IfSome result (λ request. verb_asked (asked request) ≡ Verb.Path) }
-    ensures workers { IfSome result (λ request. AreWorkers (build_of (asked request)).workers) }
     ensures limits { IfSome result (λ request. HasLimits (asked request)) }
 {
     let map = file_at(matches, "MAP")?;
     let start = cell_at(matches, "SX", "SY")?;
     let goal = cell_at(matches, "GX", "GY")?;
     let build = build_at(matches)?;
-    Some(Request::Path {
-        map,
-        start,
-        goal,
+    Some(Request::OfMap(MapAsked {
+        source: MapSource::File(map),
+        aim: MapAim::Path { start, goal },
         build,
-    })
+    }))
 }
 
 /// What `check` asks for.
@@ -348,12 +333,15 @@ fn path_asked<'a>(matches: &ArgMatches<'a>) -> Option<Request<'a>>
 fn check_asked<'a>(matches: &ArgMatches<'a>) -> Option<Request<'a>>
     ensures asked { option_map asked result ≡ check_by (first_value (found_of matches.now)) }
     ensures verb { IfSome result (λ request. verb_asked (asked request) ≡ Verb.Check) }
-    ensures workers { IfSome result (λ request. AreWorkers (build_of (asked request)).workers) }
     ensures limits { IfSome result (λ request. HasLimits (asked request)) }
 {
     let map = file_at(matches, "MAP")?;
     let build = build_at(matches)?;
-    Some(Request::Check { map, build })
+    Some(Request::OfMap(MapAsked {
+        source: MapSource::File(map),
+        aim: MapAim::Check,
+        build,
+    }))
 }
 
 /// What `near` asks for.
@@ -361,12 +349,15 @@ fn check_asked<'a>(matches: &ArgMatches<'a>) -> Option<Request<'a>>
 fn near_asked<'a>(matches: &ArgMatches<'a>) -> Option<Request<'a>>
     ensures asked { option_map asked result ≡ near_by (first_value (found_of matches.now)) }
     ensures verb { IfSome result (λ request. verb_asked (asked request) ≡ Verb.Near) }
-    ensures workers { IfSome result (λ request. AreWorkers (build_of (asked request)).workers) }
     ensures limits { IfSome result (λ request. HasLimits (asked request)) }
 {
     let map = file_at(matches, "MAP")?;
     let build = build_at(matches)?;
-    Some(Request::Near { map, build })
+    Some(Request::OfMap(MapAsked {
+        source: MapSource::File(map),
+        aim: MapAim::Near,
+        build,
+    }))
 }
 
 /// What `nearpath` asks for.
@@ -374,19 +365,17 @@ fn near_asked<'a>(matches: &ArgMatches<'a>) -> Option<Request<'a>>
 fn nearpath_asked<'a>(matches: &ArgMatches<'a>) -> Option<Request<'a>>
     ensures asked { option_map asked result ≡ nearpath_by (first_value (found_of matches.now)) }
     ensures verb { IfSome result (λ request. verb_asked (asked request) ≡ Verb.NearPath) }
-    ensures workers { IfSome result (λ request. AreWorkers (build_of (asked request)).workers) }
     ensures limits { IfSome result (λ request. HasLimits (asked request)) }
 {
     let map = file_at(matches, "MAP")?;
     let start = cell_at(matches, "SX", "SY")?;
     let goal = cell_at(matches, "GX", "GY")?;
     let build = build_at(matches)?;
-    Some(Request::NearPath {
-        map,
-        start,
-        goal,
+    Some(Request::OfMap(MapAsked {
+        source: MapSource::File(map),
+        aim: MapAim::NearPath { start, goal },
         build,
-    })
+    }))
 }
 
 /// What `scen` asks for.
@@ -394,17 +383,16 @@ fn nearpath_asked<'a>(matches: &ArgMatches<'a>) -> Option<Request<'a>>
 fn scen_asked<'a>(matches: &ArgMatches<'a>) -> Option<Request<'a>>
     ensures asked { option_map asked result ≡ scen_by (first_value (found_of matches.now)) }
     ensures verb { IfSome result (λ request. verb_asked (asked request) ≡ Verb.Scen) }
-    ensures workers { IfSome result (λ request. AreWorkers (build_of (asked request)).workers) }
     ensures limits { IfSome result (λ request. HasLimits (asked request)) }
 {
     let map = file_at(matches, "MAP")?;
     let scenarios = file_at(matches, "SCEN")?;
     let build = build_at(matches)?;
-    Some(Request::Scen {
-        map,
-        scenarios,
+    Some(Request::OfMap(MapAsked {
+        source: MapSource::File(map),
+        aim: MapAim::Scen(scenarios),
         build,
-    })
+    }))
 }
 
 /// What `made` asks for.
@@ -412,13 +400,16 @@ fn scen_asked<'a>(matches: &ArgMatches<'a>) -> Option<Request<'a>>
 fn made_asked<'a>(matches: &ArgMatches<'a>) -> Option<Request<'a>>
     ensures asked { option_map asked result ≡ made_by (first_value (found_of matches.now)) }
     ensures verb { IfSome result (λ request. verb_asked (asked request) ≡ Verb.Made) }
-    ensures workers { IfSome result (λ request. AreWorkers (build_of (asked request)).workers) }
     ensures limits { IfSome result (λ request. HasLimits (asked request)) }
 {
     let sides = sides_at(matches, "W", "H")?;
     let seed = number_at(matches, NumberKind::Seed, "SEED")?;
     let build = build_at(matches)?;
-    Some(Request::Made { sides, seed, build })
+    Some(Request::OfMap(MapAsked {
+        source: MapSource::Formula { sides, seed },
+        aim: MapAim::Made(seed),
+        build,
+    }))
 }
 
 /// What `replay` asks for.
@@ -426,13 +417,16 @@ fn made_asked<'a>(matches: &ArgMatches<'a>) -> Option<Request<'a>>
 fn replay_asked<'a>(matches: &ArgMatches<'a>) -> Option<Request<'a>>
     ensures asked { option_map asked result ≡ replay_by (first_value (found_of matches.now)) }
     ensures verb { IfSome result (λ request. verb_asked (asked request) ≡ Verb.Replay) }
-    ensures workers { IfSome result (λ request. AreWorkers (build_of (asked request)).workers) }
     ensures limits { IfSome result (λ request. HasLimits (asked request)) }
 {
     let map = file_at(matches, "MAP")?;
     let events = file_at(matches, "EVENTS")?;
     let build = build_at(matches)?;
-    Some(Request::Replay { map, events, build })
+    Some(Request::OfMap(MapAsked {
+        source: MapSource::File(map),
+        aim: MapAim::Replay(events),
+        build,
+    }))
 }
 
 /// What `talk` asks for.
@@ -440,13 +434,12 @@ fn replay_asked<'a>(matches: &ArgMatches<'a>) -> Option<Request<'a>>
 fn talk_asked<'a>(matches: &ArgMatches<'a>) -> Option<Request<'a>>
     ensures asked { option_map asked result ≡ talk_by (first_value (found_of matches.now)) }
     ensures verb { IfSome result (λ request. verb_asked (asked request) ≡ Verb.Talk) }
-    ensures workers { IfSome result (λ request. AreWorkers (build_of (asked request)).workers) }
     ensures limits { IfSome result (λ request. HasLimits (asked request)) }
 {
     let map = file_at(matches, "MAP")?;
     let room = room_at(matches, "room")?;
     let build = build_at(matches)?;
-    Some(Request::Talk { map, room, build })
+    Some(Request::Talk(TalkAsked { map, room, build }))
 }
 
 /// What `serve` asks for.
@@ -454,19 +447,18 @@ fn talk_asked<'a>(matches: &ArgMatches<'a>) -> Option<Request<'a>>
 fn serve_asked<'a>(matches: &ArgMatches<'a>) -> Option<Request<'a>>
     ensures asked { option_map asked result ≡ serve_by (first_value (found_of matches.now)) }
     ensures verb { IfSome result (λ request. verb_asked (asked request) ≡ Verb.Serve) }
-    ensures workers { IfSome result (λ request. AreWorkers (build_of (asked request)).workers) }
     ensures limits { IfSome result (λ request. HasLimits (asked request)) }
 {
     let map = file_at(matches, "MAP")?;
     let doors = doors_at(matches, "PORT", "DOORS")?;
     let room = room_at(matches, "room")?;
     let build = build_at(matches)?;
-    Some(Request::Serve {
+    Some(Request::Serve(ServeAsked {
         map,
         doors,
         room,
         build,
-    })
+    }))
 }
 
 /// The doors of which the one argument names the port, and the other how many they are.
@@ -486,12 +478,11 @@ fn ask_asked<'a>(matches: &ArgMatches<'a>) -> Option<Request<'a>>
     ensures asked { option_map asked result
         ≡ ask_by (first_value (found_of matches.now)) (every_value (found_of matches.now)) }
     ensures verb { IfSome result (λ request. verb_asked (asked request) ≡ Verb.Ask) }
-    ensures workers { IfSome result (λ request. AreWorkers (build_of (asked request)).workers) }
     ensures limits { IfSome result (λ request. HasLimits (asked request)) }
 {
     let port = port_at(matches, "PORT")?;
     let asking = asking_at(matches, "WORDS")?;
-    Some(Request::Ask { port, asking })
+    Some(Request::Ask(AskAsked { port, asking }))
 }
 
 /// What `export` asks for.
@@ -499,12 +490,15 @@ fn ask_asked<'a>(matches: &ArgMatches<'a>) -> Option<Request<'a>>
 fn export_asked<'a>(matches: &ArgMatches<'a>) -> Option<Request<'a>>
     ensures asked { option_map asked result ≡ export_by (first_value (found_of matches.now)) }
     ensures verb { IfSome result (λ request. verb_asked (asked request) ≡ Verb.Export) }
-    ensures workers { IfSome result (λ request. AreWorkers (build_of (asked request)).workers) }
     ensures limits { IfSome result (λ request. HasLimits (asked request)) }
 {
     let map = file_at(matches, "MAP")?;
     let build = build_at(matches)?;
-    Some(Request::Export { map, build })
+    Some(Request::OfMap(MapAsked {
+        source: MapSource::File(map),
+        aim: MapAim::Export,
+        build,
+    }))
 }
 
 /// What `verify` asks for.
@@ -512,11 +506,57 @@ fn export_asked<'a>(matches: &ArgMatches<'a>) -> Option<Request<'a>>
 fn verify_asked<'a>(matches: &ArgMatches<'a>) -> Option<Request<'a>>
     ensures asked { option_map asked result ≡ verify_by (first_value (found_of matches.now)) }
     ensures verb { IfSome result (λ request. verb_asked (asked request) ≡ Verb.Verify) }
-    ensures workers { IfSome result (λ request. AreWorkers (build_of (asked request)).workers) }
     ensures limits { IfSome result (λ request. HasLimits (asked request)) }
 {
     let db = file_at(matches, "DB")?;
-    Some(Request::Verify { db })
+    Some(Request::Verify(db))
+}
+
+/// What `lead` asks for.
+#[tactic(auto, unfolding(crate::specs::Requests::lead_by))]
+fn lead_asked<'a>(matches: &ArgMatches<'a>) -> Option<Request<'a>>
+    ensures asked { option_map asked result ≡ lead_by (first_value (found_of matches.now)) }
+    ensures verb { IfSome result (λ request. verb_asked (asked request) ≡ Verb.Lead) }
+    ensures limits { IfSome result (λ request. HasLimits (asked request)) }
+{
+    let map = file_at(matches, "MAP")?;
+    let doors = doors_at(matches, "PORT", "DOORS")?;
+    let feed = feed_at(matches, doors, "FEED")?;
+    let room = room_at(matches, "room")?;
+    let build = build_at(matches)?;
+    Some(Request::Lead(LeadAsked {
+        map,
+        doors,
+        feed,
+        room,
+        build,
+    }))
+}
+
+/// The port that the argument `id` names; `None` too where it is that of the doors.
+fn feed_at(matches: &ArgMatches<'_>, doors: DoorsAsked, id: &str) -> Option<u16>
+    ensures port { result ≡ feed_at (first_value (found_of matches.now)) (Some doors) id.now }
+    ensures other { IfSome result (λ feed. feed ≢ doors.port) }
+{
+    let feed = port_at(matches, id)?;
+    if feed == doors.port { None } else { Some(feed) }
+}
+
+/// What `follow` asks for.
+#[tactic(auto, unfolding(crate::specs::Requests::follow_by))]
+fn follow_asked<'a>(matches: &ArgMatches<'a>) -> Option<Request<'a>>
+    ensures asked { option_map asked result ≡ follow_by (first_value (found_of matches.now)) }
+    ensures verb { IfSome result (λ request. verb_asked (asked request) ≡ Verb.Follow) }
+    ensures limits { IfSome result (λ request. HasLimits (asked request)) }
+{
+    let port = port_at(matches, "PORT")?;
+    let rounds = number_at(matches, NumberKind::Rounds, "ROUNDS")?;
+    let order = order_at(matches, "order")?;
+    Some(Request::Follow(FollowAsked {
+        port,
+        rounds,
+        order,
+    }))
 }
 
 /// The port that the argument `id` names.

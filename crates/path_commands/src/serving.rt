@@ -6,7 +6,7 @@ ghost use Rattle.wire.specs.Causes.{Rose};
 ghost use Rattle.wire.specs.Houses.{HasLentDoors};
 ghost use Rattle.session.specs.declared.boards.TheConstants.{MAX_DOORS};
 ghost use Rattle.path_commands.specs.declared.status.Status.{Status};
-ghost use Rattle.path_commands.specs.Serving.{CanBeServed, EndsAt, EndsBegun, FailsToBegin, Puts, PutsCause, PutsClosing};
+ghost use Rattle.path_commands.specs.Serving.{CanBeServed, FailsToBegin, Puts, PutsCause, PutsClosing, ServesAt, ServesBegun};
 ghost use Rattle.path_commands.specs.Serving.{PutsLine, ServeEnds};
 ghost use Rattle.path_commands.specs.Serving.{closing_text, doors_over, ear_over, history_text, serving_text};
 ghost use Rattle.path_commands.specs.Words.{AreWorkers};
@@ -102,7 +102,7 @@ fn serve_at<H: House, O: Sink, B: Bell, E: Ear, G: Gate, R: Threads + Wait + Syn
 ) -> Status
     requires { CanBeServed H.Door H.Conn H.Door.closed H.Door.faults opened.board
         opened.doors.items opened.workers (H.lent house.old) (E.over ear.old) }
-    ensures ends { EndsAt H.Door H.Conn
+    ensures ends { ServesAt H.Door H.Conn
         (doors_over H.Door.talks H.Door.closed H.Door.faults H.Door.port H.lent H.door_faults
         house.old house.new)
         (ear_over E.rung E.over ear.old ear.new) opened.board opened.doors.items port
@@ -134,7 +134,7 @@ fn serve_begun<H: House, O: Sink, B: Bell, E: Ear, G: Gate, R: Threads + Wait + 
 ) -> Status
     requires { CanBeServed H.Door H.Conn H.Door.closed H.Door.faults opened.board
         opened.doors.items opened.workers (H.lent house.old) (E.over ear.old) }
-    ensures ends { EndsBegun H.Door H.Conn
+    ensures ends { ServesBegun H.Door H.Conn
         (doors_over H.Door.talks H.Door.closed H.Door.faults H.Door.port H.lent H.door_faults
         house.old house.new)
         (ear_over E.rung E.over ear.old ear.new) opened.board opened.doors.items
@@ -175,7 +175,8 @@ fn serve_begun<H: House, O: Sink, B: Bell, E: Ear, G: Gate, R: Threads + Wait + 
 /// The status with which the run ends without it: `WriteFault`, or `NoMemory`, whose line was put.
 fn begin<O: Sink>(alloc: Global, out: &mut O, port: u16) -> Result<(), Status>
     ensures first { OnOk result (Appends (O.bytes out.old) (O.bytes out.new) (serving_text port)) }
-    ensures failed { IfErr result (FailsToBegin (O.bytes out.old) (O.bytes out.new) port) }
+    ensures failed { IfErr result
+        (FailsToBegin (O.bytes out.old) (O.bytes out.new) (serving_text port)) }
     ensures no_read { IfErr result (λ ended. ended ≢ Status.ReadFault) }
     ensures write { IfErr result (λ ended. ended ≡ Status.WriteFault →
         Rose (O.faults out.old) (O.faults out.new)) }
@@ -191,7 +192,7 @@ fn begin<O: Sink>(alloc: Global, out: &mut O, port: u16) -> Result<(), Status>
 }
 
 /// Puts the lines that tell a board's history, and that of a fault behind them where a knock failed.
-fn put_closing<O: Sink>(alloc: Global, out: &mut O, board: &Board, failed: bool) -> Status
+pub fn put_closing<O: Sink>(alloc: Global, out: &mut O, board: &Board, failed: bool) -> Status
     ensures put { PutsClosing (O.bytes out.old) (O.bytes out.new) board.now.history failed result }
     ensures fault { result ≡ Status.ReadFault → IsTrue failed }
     ensures write { result ≡ Status.WriteFault → Rose (O.faults out.old) (O.faults out.new) }
@@ -221,7 +222,7 @@ pub fn put_cause<O: Sink>(alloc: Global, out: &mut O, status: Status) -> Status
 }
 
 /// Puts the line of want of memory.
-fn put_no_memory<O: Sink>(out: &mut O) -> Status
+pub fn put_no_memory<O: Sink>(out: &mut O) -> Status
     ensures put { PutsLine (O.bytes out.old) (O.bytes out.new) Status.NoMemory result }
     ensures fault { result ≢ Status.ReadFault }
     ensures write { result ≡ Status.WriteFault → Rose (O.faults out.old) (O.faults out.new) }
@@ -245,7 +246,7 @@ fn put<O: Sink>(out: &mut O, text: &[u8], status: Status) -> Status
 }
 
 /// The line that stands before all else.
-fn serving_text(alloc: Global, port: u16) -> Result<String, AllocError>
+pub fn serving_text(alloc: Global, port: u16) -> Result<String, AllocError>
     ensures { IfOk result (λ text. string_bytes text ≡ serving_text port) }
 {
     let mut text = String::new(alloc);

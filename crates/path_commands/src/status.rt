@@ -3,7 +3,7 @@
 ghost use Rattle.std.specs.Prelude.{◌≡◌, IfOk, string_bytes};
 ghost use Rattle.path_commands.specs.Statuses.{status_code, status_text};
 
-use crate::request::RequestError;
+use crate::request::{Refusal, RequestError};
 use map_read::MapFault;
 use path_client::ClientFault;
 use path_file::{DbError, DbFault};
@@ -51,6 +51,8 @@ pub enum Status {
     BadAnswer,
     /// The file is not that of a database.
     Db(DbFault),
+    /// A leader had no memory for the edits that it was asked for.
+    LeaderMemory,
 }
 
 impl Status {
@@ -72,6 +74,7 @@ impl Status {
             Status::BadAnswer => 10,
             Status::Events { .. } => 11,
             Status::Db(_) => 12,
+            Status::LeaderMemory => 13,
         }
     }
 }
@@ -140,6 +143,17 @@ impl From<RequestError> for Status {
     }
 }
 
+impl From<Refusal> for Status {
+    ghost use Rattle.std.specs.Prelude.{◌≡◌};
+    ghost use Rattle.path_commands.specs.Statuses.{status_of};
+
+    ghost from_gives = { λ refusal status. status ≡ status_of refusal.error };
+
+    fn from(refusal: Refusal) -> Status {
+        Status::from(refusal.error)
+    }
+}
+
 impl From<HouseError> for Status {
     ghost use Rattle.std.specs.Prelude.{◌≡◌};
     ghost use Rattle.path_commands.specs.Serving.{status_without_doors};
@@ -199,7 +213,7 @@ impl fmt::Display for Status {
             Status::Done | Status::WriteFault | Status::Broken(_) => Ok(()),
             Status::Usage => write!(
                 f,
-                "usage: path check scen made replay talk serve ask export verify near nearpath"
+                "usage: path check scen made replay talk serve ask export verify near nearpath lead follow"
             ),
             Status::Map(fault) => write!(f, "map refused: {fault}"),
             Status::Scen(fault) => write!(f, "scenario refused: {fault}"),
@@ -210,6 +224,7 @@ impl fmt::Display for Status {
             Status::Events { line } => write!(f, "events refused: line {line}"),
             Status::BadAnswer => write!(f, "bad answer"),
             Status::Db(fault) => write!(f, "database refused: {fault}"),
+            Status::LeaderMemory => write!(f, "leader out of memory"),
         }
     }
 }

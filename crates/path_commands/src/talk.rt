@@ -1,14 +1,14 @@
 //! `talk MAP`: a session over the input, on a board that begins with a map.
-ghost use Rattle.std.specs.Prelude.{IfErr, IfOk};
+ghost use Rattle.std.specs.Prelude.{◌≤◌, IfErr};
+ghost use Rattle.path_core.specs.declared.TheConstants.{MAX_ENTRIES};
 ghost use Rattle.session.specs.Conversations.{HasCause};
-ghost use Rattle.path_commands.specs.Requests.{IsTalk};
-ghost use Rattle.path_commands.specs.Runs.{IsCause, run_over};
-ghost use Rattle.path_commands.specs.Talks.{AsksBoard, HoldsTalk, TalkEnds, input_over};
+ghost use Rattle.path_commands.specs.Runs.{file_over};
+ghost use Rattle.path_commands.specs.Talks.{HoldsSession, HoldsTalk, TalkEnds, input_over};
 ghost use Rattle.path_commands.specs.Words.{AreWorkers};
 
 use crate::database::first_board;
 use crate::means::Means;
-use crate::request::{Request, read_request};
+use crate::request::TalkAsked;
 use crate::status::Status;
 use crate::watch::Watch;
 use build_pool::Gate;
@@ -18,30 +18,41 @@ use std::sync::Wait;
 use std::thread::Threads;
 use wire::{Bell, Files, Link};
 
-/// A board to hold a session on, and how many threads build its versions.
-#[derive(Drop)]
-struct Begun {
-    board: Board,
-    workers: u32,
-}
-
-/// Holds the session that the words ask for over the input, and says how it ended.
+/// Holds a session over the input, on a board that begins with a map, and says how it ended. Nothing is
+/// taken or sent where there is no such board.
 pub fn talk<F: Files, L: Link, B: Bell, G: Watch, R: Threads + Wait + Sync>(
     means: &Means<R, B, G>,
-    words: &[String],
+    asked: TalkAsked<'_>,
     files: &mut F,
     input: &mut L,
 ) -> Status
-    requires { IsTalk words.now }
-    ensures { TalkEnds (run_over words.now F.content F.faults files.old files.new)
+    requires room { asked.room ≤ MAX_ENTRIES }
+    requires workers { AreWorkers asked.build.workers }
+    ensures { TalkEnds
+        (file_over F.content F.faults files.old files.new asked.entry.map.now)
+        asked.entry.build.order asked.entry.room
         (input_over L.talk L.read_faults L.write_faults input.old input.new) result }
 {
-    match begin(means, words, files) {
-        Ok(begun) => match hold(means, begun, input) {
-            Ok(_) => Status::Done,
-            Err(fault) => Status::from(fault),
-        },
+    match first_board(means, files, asked.map, asked.room, asked.build) {
+        Ok(board) => hold(means, board, asked.build.workers, input),
         Err(status) => status,
+    }
+}
+
+/// Holds a session over the input, as the one pass of a board, and says how it ended.
+pub fn hold<L: Link, B: Bell, G: Gate, R: Threads + Wait + Sync>(
+    means: &Means<R, B, G>,
+    board: Board,
+    workers: u32,
+    input: &mut L,
+) -> Status
+    requires { AreWorkers workers }
+    ensures { HoldsSession board
+        (input_over L.talk L.read_faults L.write_faults input.old input.new) result }
+{
+    match converse(means, board, workers, input) {
+        Ok(_) => Status::Done,
+        Err(fault) => Status::from(fault),
     }
 }
 
@@ -50,54 +61,22 @@ pub fn talk<F: Files, L: Link, B: Bell, G: Watch, R: Threads + Wait + Sync>(
 /// # Errors
 ///
 /// Those of `serve_link`.
-fn hold<L: Link, B: Bell, G: Gate, R: Threads + Wait + Sync>(
+fn converse<L: Link, B: Bell, G: Gate, R: Threads + Wait + Sync>(
     means: &Means<R, B, G>,
-    begun: Begun,
+    board: Board,
+    workers: u32,
     input: &mut L,
 ) -> Result<Ended, SessionFault>
-    requires { AreWorkers begun.workers }
-    ensures talk { HoldsTalk begun.board
+    requires { AreWorkers workers }
+    ensures talk { HoldsTalk board
         (input_over L.talk L.read_faults L.write_faults input.old input.new) result }
     ensures cause { IfErr result (HasCause
         (L.read_faults input.old) (L.read_faults input.new)
         (L.write_faults input.old) (L.write_faults input.new)) }
 {
-    let mut desk = Lone {
-        board: begun.board,
-        pass: 0,
-    };
-    let ended = serve_link(
-        means.rt,
-        means.alloc,
-        &mut desk,
-        input,
-        begun.workers,
-        means.gate,
-    );
+    let mut desk = Lone { board, pass: 0 };
+    let ended = serve_link(means.rt, means.alloc, &mut desk, input, workers, means.gate);
     // That the history is legal is known from here.
     let _entries = desk.board.entries();
     ended
-}
-
-/// The board that the words ask for.
-fn begin<F: Files, B: Bell, G: Watch, R: Threads + Sync>(
-    means: &Means<R, B, G>,
-    words: &[String],
-    files: &mut F,
-) -> Result<Begun, Status>
-    requires { IsTalk words.now }
-    ensures board { IfOk result (λ begun. AsksBoard
-        (run_over words.now F.content F.faults files.old files.new) begun.board) }
-    ensures workers { IfOk result (λ begun. AreWorkers begun.workers) }
-    ensures refused { IfErr result
-        (IsCause (run_over words.now F.content F.faults files.old files.new)) }
-{
-    let request = read_request(means.alloc, words)?;
-    let Request::Talk { map, room, build } = request else {
-        unreachable!()
-    };
-    Ok(Begun {
-        board: first_board(means, files, map, room, build)?,
-        workers: build.workers,
-    })
 }

@@ -1,11 +1,10 @@
 //! What is done with the first version of a map, once all files are read.
-ghost use Rattle.std.specs.Prelude.{◌≡◌, ◌≢◌, IfErr, IfOk};
-ghost use Rattle.path_commands.specs.declared.commands.Verb.{Verb};
-ghost use Rattle.path_commands.specs.Requests.{asked, verb_asked};
+ghost use Rattle.std.specs.Prelude.{IfErr, IfOk};
+ghost use Rattle.path_commands.specs.Requests.{aim_of};
 ghost use Rattle.path_commands.specs.Runs.{GivesNoTask, GivesTask, MayBeDone, file_over};
 
 use crate::replay::read_event_file;
-use crate::request::Request;
+use crate::request::MapAim;
 use crate::scen::read_scenarios;
 use crate::status::Status;
 use moves::Cell;
@@ -48,29 +47,22 @@ pub enum Task {
     Export,
 }
 
-/// What is to be done, with what the second file says where there is one. Sessions are no task, a request
-/// to a server is none, and the check of a database is none.
-pub fn task_for<F: Files>(alloc: Global, files: &mut F, request: Request) -> Result<Task, Status>
-    requires talk { verb_asked (asked request) ≢ Verb.Talk }
-    requires serve { verb_asked (asked request) ≢ Verb.Serve }
-    requires ask { verb_asked (asked request) ≢ Verb.Ask }
-    requires verify { verb_asked (asked request) ≢ Verb.Verify }
+/// What is to be done, with what the second file says where there is one.
+pub fn task_for<F: Files>(alloc: Global, files: &mut F, aim: MapAim) -> Result<Task, Status>
     ensures task { IfOk result
-        (GivesTask (file_over F.content F.faults files.old files.new) (asked request.entry)) }
+        (GivesTask (file_over F.content F.faults files.old files.new) (aim_of aim.entry)) }
     ensures may { IfOk result MayBeDone }
     ensures refused { IfErr result
-        (GivesNoTask (file_over F.content F.faults files.old files.new) (asked request.entry)) }
+        (GivesNoTask (file_over F.content F.faults files.old files.new) (aim_of aim.entry)) }
 {
-    match request {
-        Request::Path { start, goal, .. } => Ok(Task::Path { start, goal }),
-        Request::Check { .. } => Ok(Task::Check),
-        Request::Near { .. } => Ok(Task::Near),
-        Request::NearPath { start, goal, .. } => Ok(Task::NearPath { start, goal }),
-        Request::Scen { scenarios, .. } => Ok(Task::Scen(read_scenarios(alloc, files, scenarios)?)),
-        Request::Made { seed, .. } => Ok(Task::Made { seed }),
-        Request::Replay { events, .. } => Ok(Task::Replay(read_event_file(alloc, files, events)?)),
-        Request::Talk { .. } | Request::Serve { .. } => unreachable!(),
-        Request::Export { .. } => Ok(Task::Export),
-        Request::Ask { .. } | Request::Verify { .. } => unreachable!(),
+    match aim {
+        MapAim::Path { start, goal } => Ok(Task::Path { start, goal }),
+        MapAim::Check => Ok(Task::Check),
+        MapAim::Near => Ok(Task::Near),
+        MapAim::NearPath { start, goal } => Ok(Task::NearPath { start, goal }),
+        MapAim::Scen(scenarios) => Ok(Task::Scen(read_scenarios(alloc, files, scenarios)?)),
+        MapAim::Made(seed) => Ok(Task::Made { seed }),
+        MapAim::Replay(events) => Ok(Task::Replay(read_event_file(alloc, files, events)?)),
+        MapAim::Export => Ok(Task::Export),
     }
 }

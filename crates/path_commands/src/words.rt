@@ -14,6 +14,9 @@ use session::MAX_DOORS;
 /// For how many entries a board takes memory first, where no other number is given.
 pub const STANDARD_ROOM: u32 = 65_536;
 
+/// How often a follower asks at most: as often as one feed answers.
+pub const MAX_ROUNDS: u32 = 1_048_576;
+
 /// What a number of a command says, and with it from where to where it may go.
 #[derive(Clone, Copy, Debug, PartialEq, Eq)]
 pub enum NumberKind {
@@ -31,6 +34,8 @@ pub enum NumberKind {
     Port,
     /// How many doors a port has.
     Doors,
+    /// How often a follower asks.
+    Rounds,
 }
 
 impl NumberKind {
@@ -39,7 +44,7 @@ impl NumberKind {
         ensures { result ≡ least self }
     {
         match self {
-            NumberKind::Coordinate | NumberKind::Seed | NumberKind::Room => 0,
+            NumberKind::Coordinate | NumberKind::Seed | NumberKind::Room | NumberKind::Rounds => 0,
             NumberKind::Side | NumberKind::Workers => 1,
             NumberKind::Port | NumberKind::Doors => 1,
         }
@@ -56,6 +61,7 @@ impl NumberKind {
             NumberKind::Workers => MAX_WORKERS,
             NumberKind::Room => MAX_ENTRIES,
             NumberKind::Doors => MAX_DOORS,
+            NumberKind::Rounds => MAX_ROUNDS,
         }
     }
 

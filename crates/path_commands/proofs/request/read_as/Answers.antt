@@ -1,6 +1,5 @@
 use Rattle.std.proofs.Common.{◌≡◌, ◌∙◌, sym, ap, Err}
-use Rattle.path_commands.specs.Requests.{asked, build_of, verb_asked}
-use Rattle.path_commands.specs.Words.{AreWorkers}
+use Rattle.path_commands.specs.Requests.{asked, verb_asked}
 use Rattle.path_commands.proofs.RequestLemmas.{kept_some, read_none, read_some, request_found, request_refused}
 use Rattle.path_commands.proofs.request.read_as.Goals as goal
 
@@ -17,9 +16,6 @@ returns-clause-request c =
 pub returns-clause-usage : goal.returns-clause-usage
 returns-clause-usage c = λ refused.
     read_none c.asked_of.result _ (c.asked_of.ensures.asked ∙ request_found _ _ _ c.in_ok-matches.ensures.values) (sym c.ok_or.ensures.value ∙ refused)
-
-pub returns-clause-workers : goal.returns-clause-workers
-returns-clause-workers c = rw c.ok_or.ensures.value (kept_some (λ request. AreWorkers (build_of (asked request)).workers) c.asked_of.result c.asked_of.ensures.workers)
 
 pub returns-clause-verb : goal.returns-clause-verb
 returns-clause-verb c = rw c.ok_or.ensures.value (kept_some (λ request. verb_asked (asked request) ≡ c.args.verb) c.asked_of.result c.asked_of.ensures.verb)
