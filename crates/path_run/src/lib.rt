@@ -2,32 +2,36 @@
 //! ear that are handed in.
 #![tactic(auto)]
 
-ghost use Rattle.std.specs.Prelude.{◌≡◌, ◌≢◌, ◌≤◌, [], false, IfErr, IfOk, None, string_bytes};
+ghost use Rattle.std.specs.Prelude.{◌≡◌, ◌≢◌, [], false, IfErr, IfOk, None, string_bytes};
 ghost use Rattle.wire.specs.Causes.{NoneFell, Rose};
 ghost use Rattle.wire.specs.Contents.{TellsTheSame};
 ghost use Rattle.moves.specs.Maps.{IsSearchable};
-ghost use Rattle.path_commands.specs.declared.commands.Verb.{Verb};
+ghost use Rattle.path_commands.specs.declared.commands.Kind.{Kind};
 ghost use Rattle.path_commands.specs.declared.status.Status.{Status};
 ghost use Rattle.path_commands.specs.declared.task.Task.{Task};
-ghost use Rattle.path_commands.specs.Requests.{HasLimits, IsAsk, IsPrinted, IsServe, IsTalk, asked, build_of, verb_asked};
-ghost use Rattle.path_commands.specs.AskEnds.{CallsNoMore, FallsShort, PutsHeard};
+ghost use Rattle.path_commands.specs.Requests.{HasSides, IsAsk, IsFollow, IsLead, IsPrinted, IsServe};
+ghost use Rattle.path_commands.specs.Requests.{IsTalk, aim_of, source_of};
 ghost use Rattle.path_commands.specs.Asks.{HasGivenNone, house_over};
 ghost use Rattle.path_commands.specs.Words.{AreWorkers, texts_of};
-ghost use Rattle.path_commands.specs.Runs.{BreaksOff, GivesMap, GivesNoMap, IsAnswerOn, IsAnswerTo};
-ghost use Rattle.path_commands.specs.Runs.{IsCause, IsDbFileCause, IsFirstAnswer, IsFirstCause, IsVersionCause, MayBeDone, NeedsVersion, PutsAll};
-ghost use Rattle.path_commands.specs.Runs.{file_over, run_over};
-ghost use Rattle.path_run.specs.Answering.{AnswersRequest, FailsRequest, TellsVersionIn, bytes_of};
-ghost use Rattle.path_commands.specs.Talks.{TalkEnds, input_over};
-ghost use Rattle.path_commands.specs.Serving.{FailsToRead, Serves, doors_over, ear_over};
+ghost use Rattle.path_commands.specs.Runs.{AnswersOfMap, FailsOfMap, GivesMap, GivesNoMap, IsAnswerOn, IsDbFileCause};
+ghost use Rattle.path_commands.specs.Runs.{IsFirstAnswer, IsFirstCause, IsVersionCause, MayBeDone, NeedsVersion};
+ghost use Rattle.path_commands.specs.Runs.{TellsVersion, file_over, run_over};
+ghost use Rattle.path_commands.specs.Serving.{PutsCause, doors_over, ear_over};
+ghost use Rattle.path_commands.specs.Statuses.{status_of};
+ghost use Rattle.path_commands.specs.Talks.{input_over};
+ghost use Rattle.path_run.specs.Answering.{PutsAnswer, bytes_of};
+ghost use Rattle.path_run.specs.RunEnds.{AsksServer, FollowsLeader, LeadsSessions, Prints};
+ghost use Rattle.path_run.specs.RunEnds.{ServesSessions, Talks, output_over};
 
 use moves::{Cell, Grid};
+use node_commands::{follow, lead};
 use path_commands::ask::ask;
 use path_commands::serve::serve;
 use path_commands::talk::talk;
 use path_commands::{
-    BuildOptions, Means, Request, Status, Task, Watch, answer_check, answer_made, answer_near,
-    answer_near_path, answer_path, answer_replay, answer_scen, answer_verify, file_to_verify,
-    first_near, first_version, is_ask, is_serve, is_talk, made_grid, put, put_file, read_grid,
+    BuildOptions, Kind, MapAsked, MapSource, Means, Refusal, Request, Status, Task, Watch,
+    answer_check, answer_made, answer_near, answer_near_path, answer_path, answer_replay,
+    answer_scen, answer_verify, first_near, first_version, made_grid, put, put_file, read_grid,
     read_request, read_version, refuse, task_for,
 };
 use std::alloc::Global;
@@ -38,13 +42,15 @@ use versions::Version;
 use wire::{Bell, Ear, Files, House, Link, Sink};
 
 /// Does what the words of a command line ask for, which are those after the program's own name, and
-/// says how it ended. Each piece of a build passes the gate, which is told how far the first version is.
+/// says how it ended. The words are read once. Each piece of a build passes the gate, which is told how far
+/// the first version is.
 ///
 /// `talk` holds a session over the input, and puts nothing on the output. `serve` holds sessions at
-/// doors of the house, and builds at each ring of the ear. `ask` calls once at the port of a server,
-/// over the house, and hangs up before it puts what it heard. Any other command leaves these alone,
-/// and the text that is right for the end was put: with `Done` the answer, with any other status its
-/// line. Only with `WriteFault` it is less than a whole text, and the output has failed.
+/// doors of the house, and builds at each ring of the ear; `lead` does so and feeds followers at one door
+/// more. `ask` calls once at the port of a server, over the house, and hangs up before it puts what it
+/// heard. `follow` calls once at the port of a leader, and then holds a session over the input. Any other
+/// command leaves these alone, and the text that is right for the end was put: with `Done` the answer, with
+/// any other status its line. Only with `WriteFault` it is less than a whole text, and the output has failed.
 pub fn run<
     F: Files,
     O: Sink,
@@ -70,52 +76,42 @@ pub fn run<
     requires uncalled { H.called house.old ≡ None }
     requires unlent { HasGivenNone (H.lent house.old) }
     requires waiting { E.over ear.old ≡ false }
-    ensures whole { IsPrinted words.now → result ≢ Status.WriteFault
-        → PutsAll (run_over words.now F.content F.faults files.old files.new) result
-        (O.bytes out.old) (O.bytes out.new) }
-    ensures cut { IsPrinted words.now → result ≡ Status.WriteFault
-        → BreaksOff (run_over words.now F.content F.faults files.old files.new)
-        (O.bytes out.old) (O.bytes out.new) }
-    ensures fault { IsPrinted words.now → result ≡ Status.WriteFault
-        → Rose (O.faults out.old) (O.faults out.new) }
-    ensures unheard { (IsTalk words.now → ⊥) → input.new ≡ input.old }
-    ensures still { (IsServe words.now → ⊥) → (IsAsk words.now → ⊥) → house.new ≡ house.old }
-    ensures deaf { (IsServe words.now → ⊥) → ear.new ≡ ear.old }
-    ensures silent { IsTalk words.now → out.new ≡ out.old }
-    ensures talk { IsTalk words.now
-        → TalkEnds (run_over words.now F.content F.faults files.old files.new)
-        (input_over L.talk L.read_faults L.write_faults input.old input.new) result }
-    ensures serves { IsServe words.now → Serves H.Door H.Conn
+    ensures printed { IsPrinted words.now → Prints
+        (run_over words.now F.content F.faults files.old files.new)
+        (output_over O.bytes O.faults out.old out.new)
+        input.old input.new house.old house.new ear.old ear.new result }
+    ensures talk { IsTalk words.now → Talks
+        (run_over words.now F.content F.faults files.old files.new)
+        (input_over L.talk L.read_faults L.write_faults input.old input.new)
+        out.old out.new house.old house.new ear.old ear.new result }
+    ensures serve { IsServe words.now → ServesSessions H.Door H.Conn
         (run_over words.now F.content F.faults files.old files.new)
         (doors_over H.Door.talks H.Door.closed H.Door.faults H.Door.port H.lent H.door_faults
         house.old house.new)
-        (ear_over E.rung E.over ear.old ear.new) (H.asked house.new) (O.bytes out.old)
-        (O.bytes out.new) result }
-    ensures reads { IsServe words.now → result ≡ Status.ReadFault → FailsToRead H.Door H.Conn
+        (house_over H.Conn.talk H.lent H.called H.read_faults H.write_faults house.old house.new)
+        (ear_over E.rung E.over ear.old ear.new) (H.asked house.new)
+        (output_over O.bytes O.faults out.old out.new) input.old input.new result }
+    ensures ask { IsAsk words.now → AsksServer H.Door H.Conn (texts_of words.now)
+        (doors_over H.Door.talks H.Door.closed H.Door.faults H.Door.port H.lent H.door_faults
+        house.old house.new)
+        (house_over H.Conn.talk H.lent H.called H.read_faults H.write_faults house.old house.new)
+        (H.asked house.new) (output_over O.bytes O.faults out.old out.new)
+        files.old files.new input.old input.new ear.old ear.new result }
+    ensures lead { IsLead words.now → LeadsSessions H.Door H.Conn
         (run_over words.now F.content F.faults files.old files.new)
         (doors_over H.Door.talks H.Door.closed H.Door.faults H.Door.port H.lent H.door_faults
-        house.old house.new) }
-    ensures writes { IsServe words.now → result ≡ Status.WriteFault
-        → Rose (O.faults out.old) (O.faults out.new) }
-    ensures unread { IsAsk words.now → files.new ≡ files.old }
-    ensures calls { IsAsk words.now → CallsNoMore H.Door H.Conn (texts_of words.now)
-        (house_over H.Conn.talk H.lent H.called H.read_faults H.write_faults house.old house.new) }
-    ensures heard { IsAsk words.now → result ≢ Status.WriteFault
-        → PutsHeard H.Door H.Conn (texts_of words.now)
+        house.old house.new)
         (house_over H.Conn.talk H.lent H.called H.read_faults H.write_faults house.old house.new)
-        result (O.bytes out.old) (O.bytes out.new) }
-    ensures short { IsAsk words.now → result ≡ Status.WriteFault
-        → FallsShort H.Door H.Conn (texts_of words.now)
+        (ear_over E.rung E.over ear.old ear.new) (H.asked house.new)
+        (output_over O.bytes O.faults out.old out.new) input.old input.new result }
+    ensures follow { IsFollow words.now → FollowsLeader H.Door H.Conn (texts_of words.now)
+        (doors_over H.Door.talks H.Door.closed H.Door.faults H.Door.port H.lent H.door_faults
+        house.old house.new)
         (house_over H.Conn.talk H.lent H.called H.read_faults H.write_faults house.old house.new)
-        (O.faults out.old) (O.faults out.new) (O.bytes out.old) (O.bytes out.new) }
-    ensures doors { (IsServe words.now → ⊥) → H.asked house.new ≡ H.asked house.old }
-    ensures door_faults { (IsServe words.now → ⊥) →
-        H.door_faults house.new ≡ H.door_faults house.old }
-    ensures called { (IsAsk words.now → ⊥) → H.called house.new ≡ H.called house.old }
-    ensures call_faults { (IsAsk words.now → ⊥) →
-        H.read_faults house.new ≡ H.read_faults house.old }
-    ensures send_faults { (IsAsk words.now → ⊥) →
-        H.write_faults house.new ≡ H.write_faults house.old }
+        (H.asked house.new)
+        (input_over L.talk L.read_faults L.write_faults input.old input.new)
+        (output_over O.bytes O.faults out.old out.new)
+        files.old files.new ear.old ear.new result }
 {
     let means = Means {
         rt,
@@ -123,38 +119,45 @@ pub fn run<
         bell,
         gate,
     };
-    if is_talk(words) {
-        talk(&means, words, files, input)
-    } else if is_serve(words) {
-        serve(&means, words, files, house, out, ear)
-    } else if is_ask(words) {
-        ask(alloc, words, out, house)
-    } else {
-        print(&means, words, files, out)
+    match read_request(alloc, words) {
+        Ok(Request::OfMap(asked)) => print(alloc, answer(&means, asked, files), out),
+        Ok(Request::Verify(name)) => print(alloc, verify(alloc, files, name), out),
+        Ok(Request::Talk(asked)) => talk(&means, asked, files, input),
+        Ok(Request::Serve(asked)) => serve(&means, asked, files, house, out, ear),
+        Ok(Request::Ask(asked)) => ask(alloc, asked, out, house),
+        Ok(Request::Lead(asked)) => lead(&means, asked, files, house, out, ear),
+        Ok(Request::Follow(asked)) => follow(&means, asked, input, house, out),
+        Err(refusal) => end_refused(alloc, out, refusal),
     }
 }
 
-/// Puts the text that answers the words, or the line of the status with which the run ends without
-/// one.
-fn print<F: Files, O: Sink, B: Bell, G: Watch, R: Threads + Sync>(
-    means: &Means<R, B, G>,
-    words: &[String],
-    files: &mut F,
-    out: &mut O,
-) -> Status
-    requires printed { IsPrinted words.now }
-    ensures whole { result ≢ Status.WriteFault
-        → PutsAll (run_over words.now F.content F.faults files.old files.new) result
-        (O.bytes out.old) (O.bytes out.new) }
-    ensures cut { result ≡ Status.WriteFault
-        → BreaksOff (run_over words.now F.content F.faults files.old files.new)
-        (O.bytes out.old) (O.bytes out.new) }
+/// Ends a run whose words ask for nothing: the line of the status is put, but for words that name `talk`.
+fn end_refused<O: Sink>(alloc: Global, out: &mut O, refusal: Refusal) -> Status
+    ensures silent { refusal.kind ≡ Kind.Talk → out.new ≡ out.old }
+    ensures status { refusal.kind ≡ Kind.Talk → result ≡ status_of refusal.error }
+    ensures put { refusal.kind ≢ Kind.Talk → PutsCause
+        (O.bytes out.old) (O.bytes out.new) (status_of refusal.error) result }
+    ensures fault { refusal.kind ≢ Kind.Talk → result ≡ Status.WriteFault
+        → Rose (O.faults out.old) (O.faults out.new) }
+{
+    let status = Status::from(refusal.error);
+    if refusal.kind == Kind::Talk {
+        return status;
+    }
+    refuse(alloc, out, status)
+}
+
+/// Puts an answer, or the line of the status that stands for it.
+fn print<O: Sink>(alloc: Global, answer: Result<Printed, Status>, out: &mut O) -> Status
+    requires done { IfErr answer (λ status. status ≢ Status.Done) }
+    requires write { IfErr answer (λ status. status ≢ Status.WriteFault) }
+    ensures put { PutsAnswer answer (O.bytes out.old) (O.bytes out.new) result }
     ensures fault { result ≡ Status.WriteFault → Rose (O.faults out.old) (O.faults out.new) }
 {
-    match answer(means, words, files) {
+    match answer {
         Ok(Printed::Text(text)) => put(out, text.bytes(), Status::Done),
         Ok(Printed::File(version)) => put_file(out, &version),
-        Err(status) => refuse(means.alloc, out, status),
+        Err(status) => refuse(alloc, out, status),
     }
 }
 
@@ -165,29 +168,10 @@ enum Printed {
     File(Version),
 }
 
-/// What answers the words, or the status with which the run ends without it.
-fn answer<F: Files, B: Bell, G: Watch, R: Threads + Sync>(
-    means: &Means<R, B, G>,
-    words: &[String],
-    files: &mut F,
-) -> Result<Printed, Status>
-    requires printed { IsPrinted words.now }
-    ensures done { IfOk result (λ printed.
-        IsAnswerTo (run_over words.now F.content F.faults files.old files.new) (bytes_of printed)) }
-    ensures refused { IfErr result
-        (IsCause (run_over words.now F.content F.faults files.old files.new)) }
-{
-    let request = read_request(means.alloc, words)?;
-    match file_to_verify(request) {
-        Some(db) => verify(means.alloc, files, db),
-        None => answer_of(means, request, files),
-    }
-}
-
 /// What tells the size of the version whose file has that name.
 fn verify<F: Files>(alloc: Global, files: &mut F, name: &str) -> Result<Printed, Status>
-    ensures done { IfOk result
-        (TellsVersionIn (file_over F.content F.faults files.old files.new name.now)) }
+    ensures done { IfOk result (λ printed. TellsVersion
+        (file_over F.content F.faults files.old files.new name.now) (bytes_of printed)) }
     ensures refused { IfErr result
         (IsDbFileCause (file_over F.content F.faults files.old files.new name.now)) }
 {
@@ -196,26 +180,24 @@ fn verify<F: Files>(alloc: Global, files: &mut F, name: &str) -> Result<Printed,
     Ok(Printed::Text(as_text(text)))
 }
 
-/// What answers a request of a map.
-fn answer_of<F: Files, B: Bell, G: Watch, R: Threads + Sync>(
+/// What answers what was asked of the first version of a map.
+fn answer<F: Files, B: Bell, G: Watch, R: Threads + Sync>(
     means: &Means<R, B, G>,
-    request: Request,
+    asked: MapAsked<'_>,
     files: &mut F,
 ) -> Result<Printed, Status>
-    requires talk { verb_asked (asked request) ≢ Verb.Talk }
-    requires serve { verb_asked (asked request) ≢ Verb.Serve }
-    requires ask { verb_asked (asked request) ≢ Verb.Ask }
-    requires verify { verb_asked (asked request) ≢ Verb.Verify }
-    requires limits { HasLimits (asked request) }
-    requires workers { AreWorkers (build_of (asked request)).workers }
-    ensures done { IfOk result (AnswersRequest (file_over F.content F.faults files.old files.new)
-        (asked request.entry)) }
-    ensures refused { IfErr result (FailsRequest (file_over F.content F.faults files.old files.new)
-        (asked request.entry)) }
+    requires sides { HasSides (source_of asked.source) }
+    requires workers { AreWorkers asked.build.workers }
+    ensures done { IfOk result (λ printed. AnswersOfMap
+        (file_over F.content F.faults files.old files.new) (source_of asked.entry.source)
+        (aim_of asked.entry.aim) asked.entry.build.order (bytes_of printed)) }
+    ensures refused { IfErr result (FailsOfMap
+        (file_over F.content F.faults files.old files.new) (source_of asked.entry.source)
+        (aim_of asked.entry.aim) asked.entry.build.order) }
 {
-    let grid = grid_for(means.alloc, files, request)?;
-    let task = task_for(means.alloc, files, request)?;
-    printed_for(means, grid, request.build(), task)
+    let grid = grid_for(means.alloc, files, asked.source)?;
+    let task = task_for(means.alloc, files, asked.aim)?;
+    printed_for(means, grid, asked.build, task)
 }
 
 /// What answers what was asked of the first version of a map: the file of that version, or a text.
@@ -324,31 +306,20 @@ fn near_path_for<B: Bell, G: Watch, R: Threads + Sync>(
     Ok(as_text(text))
 }
 
-/// The map that was asked about.
-fn grid_for<F: Files>(alloc: Global, files: &mut F, request: Request) -> Result<Grid, Status>
-    requires limits { HasLimits (asked request) }
-    requires ask { verb_asked (asked request) ≢ Verb.Ask }
-    requires verify { verb_asked (asked request) ≢ Verb.Verify }
+/// The map that a source gives.
+fn grid_for<F: Files>(alloc: Global, files: &mut F, source: MapSource<'_>) -> Result<Grid, Status>
+    requires { HasSides (source_of source) }
     ensures grid { IfOk result
-        (GivesMap (file_over F.content F.faults files.old files.new) (asked request.entry)) }
+        (GivesMap (file_over F.content F.faults files.old files.new) (source_of source.entry)) }
     ensures small { IfOk result IsSearchable }
     ensures kept { TellsTheSame (F.content files.old) (F.content files.new) }
     ensures later { NoneFell (F.faults files.old) (F.faults files.new) }
     ensures refused { IfErr result
-        (GivesNoMap (file_over F.content F.faults files.old files.new) (asked request.entry)) }
+        (GivesNoMap (file_over F.content F.faults files.old files.new) (source_of source.entry)) }
 {
-    match request {
-        Request::Path { map, .. } => read_grid(alloc, files, map),
-        Request::Check { map, .. } => read_grid(alloc, files, map),
-        Request::Near { map, .. } => read_grid(alloc, files, map),
-        Request::NearPath { map, .. } => read_grid(alloc, files, map),
-        Request::Scen { map, .. } => read_grid(alloc, files, map),
-        Request::Made { sides, seed, .. } => made_grid(alloc, sides, seed),
-        Request::Replay { map, .. } => read_grid(alloc, files, map),
-        Request::Talk { map, .. } => read_grid(alloc, files, map),
-        Request::Serve { map, .. } => read_grid(alloc, files, map),
-        Request::Export { map, .. } => read_grid(alloc, files, map),
-        Request::Ask { .. } | Request::Verify { .. } => unreachable!(),
+    match source {
+        MapSource::File(name) => read_grid(alloc, files, name),
+        MapSource::Formula { sides, seed } => made_grid(alloc, sides, seed),
     }
 }
 

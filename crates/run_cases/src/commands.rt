@@ -1,12 +1,13 @@
 //! What the words of a command line ask for, and what a person is told of how they ended.
 
-ghost use Rattle.path_commands.specs.Requests.{HasLimits, asked};
+ghost use Rattle.path_commands.specs.Requests.{HasLimits, HasSides, asked, source_of};
 
 use crate::refusal::Refusal;
 use crate::words::words_of;
 use case_kit::escaped;
 use path_commands::{
-    Request, RequestError, Seen, Status, advice, is_ask, is_serve, is_talk, made_grid, read_request,
+    MapSource, Request, RequestError, Seen, Status, Verb, advice, first_verb, made_grid,
+    read_request,
 };
 use std::alloc::Global;
 
@@ -15,8 +16,10 @@ pub fn command_said(alloc: Global, input: &str) -> Result<String, Refusal> {
     let words = words_of(alloc, input)?;
     match read_request(alloc, words.as_slice()) {
         Ok(request) => Ok(format!(in alloc; "{request:?}")?),
-        Err(RequestError::Usage) => Ok(String::from_str(alloc, "usage")?),
-        Err(RequestError::NoMemory) => Err(Refusal::NoMemory),
+        Err(refusal) => match refusal.error {
+            RequestError::Usage => Ok(String::from_str(alloc, "usage")?),
+            RequestError::NoMemory => Err(Refusal::NoMemory),
+        },
     }
 }
 
@@ -24,7 +27,10 @@ pub fn command_said(alloc: Global, input: &str) -> Result<String, Refusal> {
 pub fn verb_said(alloc: Global, input: &str) -> Result<String, Refusal> {
     let words = words_of(alloc, input)?;
     let words = words.as_slice();
-    let (talk, serve, ask) = (is_talk(words), is_serve(words), is_ask(words));
+    let verb = first_verb(words);
+    let talk = verb == Some(Verb::Talk);
+    let serve = verb == Some(Verb::Serve);
+    let ask = verb == Some(Verb::Ask);
     Ok(format!(in alloc; "talk {talk} serve {serve} ask {ask}")?)
 }
 
@@ -49,6 +55,7 @@ fn status_named(name: &str) -> Option<Status> {
         "WriteFault" => Some(Status::WriteFault),
         "NoMemory" => Some(Status::NoMemory),
         "BadAnswer" => Some(Status::BadAnswer),
+        "LeaderMemory" => Some(Status::LeaderMemory),
         _ => None,
     }
 }
@@ -58,8 +65,10 @@ pub fn sides_said(alloc: Global, input: &str) -> Result<String, Refusal> {
     let words = words_of(alloc, input)?;
     match read_request(alloc, words.as_slice()) {
         Ok(request) => made_sides(alloc, request),
-        Err(RequestError::Usage) => Err(Refusal::OutOfForm),
-        Err(RequestError::NoMemory) => Err(Refusal::NoMemory),
+        Err(refusal) => match refusal.error {
+            RequestError::Usage => Err(Refusal::OutOfForm),
+            RequestError::NoMemory => Err(Refusal::NoMemory),
+        },
     }
 }
 
@@ -68,13 +77,23 @@ fn made_sides(alloc: Global, request: Request) -> Result<String, Refusal>
     requires { HasLimits (asked request) }
 {
     match request {
-        Request::Made { sides, seed, .. } => match made_grid(alloc, sides, seed) {
+        Request::OfMap(asked) => sides_of(alloc, asked.source),
+        _ => Err(Refusal::OutOfForm),
+    }
+}
+
+/// The sides of the map of a source, where that makes it.
+fn sides_of(alloc: Global, source: MapSource) -> Result<String, Refusal>
+    requires { HasSides (source_of source) }
+{
+    match source {
+        MapSource::Formula { sides, seed } => match made_grid(alloc, sides, seed) {
             Ok(grid) => {
                 let (width, height) = (grid.width(), grid.height());
                 Ok(format!(in alloc; "{width} {height}")?)
             }
             Err(_) => Err(Refusal::OutOfForm),
         },
-        _ => Err(Refusal::OutOfForm),
+        MapSource::File(_) => Err(Refusal::OutOfForm),
     }
 }

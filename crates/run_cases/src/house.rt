@@ -1,17 +1,24 @@
-//! The house of a run: its doors and its link at one port.
+//! The house of a run: its doors and its link, each at one of two ports.
 
 ghost use Rattle.std.specs.Prelude.{◌≡◌, [], IfOk, IfSome, None};
 ghost use Rattle.wire.specs.DoorInMemory.{AreNewLinks, IsNewLink};
 ghost use Rattle.wire.specs.HouseInMemory.{AreNewDoors, IsNewDoor, IsNewLinkAt};
+ghost use Rattle.wire.specs.LinkInMemory.{CutsGiveSome};
 ghost use Rattle.wire.specs.Houses.{no_lendings};
 
 use crate::refusal::Refusal;
-use crate::settings::{bytes, numbers, value};
+use crate::settings::{bytes, number, numbers, value};
 use std::alloc::{AllocError, Global};
 use wire::{MemDoor, MemHouse, MemLink};
 
-/// The port at which the house has its doors and its link.
+/// The port at which the house has doors for sessions, and the link to a server.
 const PORT: u16 = 4000;
+
+/// The port at which it has the door for a feed, and the link to a leader.
+const FEED: u16 = 4001;
+
+/// How many recvs are cut where what comes in at once is told, more than any input here has bytes.
+const CUTS: usize = 64;
 
 /// How many bytes may be sent on a link.
 const ROOM: usize = 400;
@@ -32,8 +39,11 @@ pub fn house_of(alloc: Global, settings: &str) -> Result<MemHouse, Refusal>
 fn called_link(alloc: Global, settings: &str) -> Result<Option<(u16, MemLink)>, Refusal>
     ensures { IfOk result IsNewLinkAt }
 {
-    match value(settings, "link") {
-        Some(pairs) => Ok(Some((PORT, link_of(alloc, settings, pairs)?))),
+    if let Some(pairs) = value(settings, "link") {
+        return Ok(Some((PORT, link_of(alloc, settings, pairs)?)));
+    }
+    match value(settings, "leader") {
+        Some(pairs) => Ok(Some((FEED, link_of(alloc, settings, pairs)?))),
         None => Ok(None),
     }
 }
@@ -45,11 +55,46 @@ pub fn link_of(alloc: Global, settings: &str, pairs: &str) -> Result<MemLink, Re
     let input = bytes(alloc, pairs)?;
     let recv_fails = numbers(alloc, settings, "recv-fails")?;
     let send_fails = numbers(alloc, settings, "send-fails")?;
-    Ok(MemLink::new(alloc, input, Vec::new(alloc), ROOM, recv_fails, send_fails)?)
+    let cuts = cuts_of(alloc, settings)?;
+    Ok(MemLink::new(alloc, input, cuts, ROOM, recv_fails, send_fails)?)
 }
 
-/// The doors of the house, each with its port.
+/// How much of an input comes in at once: all of it, where that is not told.
+fn cuts_of(alloc: Global, settings: &str) -> Result<Vec<usize>, Refusal>
+    ensures { IfOk result (λ cuts. CutsGiveSome cuts.items) }
+{
+    match value(settings, "piece") {
+        Some(text) => {
+            let piece = number(text)? as usize;
+            Ok(some_cuts(alloc, vec![in alloc; piece; CUTS]?))
+        }
+        None => Ok(Vec::new(alloc)),
+    }
+}
+
+/// These cuts, if each lets a byte through; else none.
+fn some_cuts(alloc: Global, cuts: Vec<usize>) -> Vec<usize>
+    ensures { CutsGiveSome result.items }
+{
+    match cuts.iter().all(|most| *most > 0) {
+        true => cuts,
+        false => Vec::new(alloc),
+    }
+}
+
+/// The doors of the house, each with its port; that for a feed is the last.
 fn doors_of(alloc: Global, settings: &str) -> Result<Vec<(u16, MemDoor)>, Refusal>
+    ensures { IfOk result (λ doors. AreNewDoors doors.items) }
+{
+    let doors = session_doors(alloc, settings)?;
+    match value(settings, "feed") {
+        Some(pairs) => Ok(with_door(doors, FEED, door_of(alloc, settings, pairs)?)?),
+        None => Ok(doors),
+    }
+}
+
+/// The doors for sessions.
+fn session_doors(alloc: Global, settings: &str) -> Result<Vec<(u16, MemDoor)>, Refusal>
     ensures { IfOk result (λ doors. AreNewDoors doors.items) }
 {
     match value(settings, "doors") {
@@ -58,26 +103,36 @@ fn doors_of(alloc: Global, settings: &str) -> Result<Vec<(u16, MemDoor)>, Refusa
             None => one_door(alloc, settings, inputs),
             Some((first, second)) => {
                 let doors = one_door(alloc, settings, first)?;
-                Ok(with_door(doors, door_of(alloc, settings, second)?)?)
+                Ok(with_door(doors, PORT, door_of(alloc, settings, second)?)?)
             }
         },
     }
 }
 
-/// One door alone, with one connection, on which these bytes come in.
+/// One door alone.
 fn one_door(alloc: Global, settings: &str, pairs: &str) -> Result<Vec<(u16, MemDoor)>, Refusal>
     ensures { IfOk result (λ doors. AreNewDoors doors.items) }
 {
-    Ok(with_door(Vec::new(alloc), door_of(alloc, settings, pairs)?)?)
+    Ok(with_door(Vec::new(alloc), PORT, door_of(alloc, settings, pairs)?)?)
 }
 
-/// A door with one connection, on which these bytes come in.
+/// A door with one connection, on which these bytes come in; behind `closed` there is none.
 fn door_of(alloc: Global, settings: &str, pairs: &str) -> Result<MemDoor, Refusal>
     ensures { IfOk result IsNewDoor }
 {
     let fails = numbers(alloc, settings, "knock-fails")?;
-    let conns = with_link(Vec::new(alloc), link_of(alloc, settings, pairs)?)?;
+    let conns = conns_of(alloc, settings, pairs)?;
     Ok(MemDoor::new(alloc, conns, Vec::new(alloc), fails)?)
+}
+
+/// The connections of a door.
+fn conns_of(alloc: Global, settings: &str, pairs: &str) -> Result<Vec<MemLink>, Refusal>
+    ensures { IfOk result (λ conns. AreNewLinks conns.items) }
+{
+    if pairs == "closed" {
+        return Ok(Vec::new(alloc));
+    }
+    Ok(with_link(Vec::new(alloc), link_of(alloc, settings, pairs)?)?)
 }
 
 /// The links and one more.
@@ -95,12 +150,13 @@ fn with_link(mut links: Vec<MemLink>, link: MemLink) -> Result<Vec<MemLink>, All
 #[tactic(auto, using(wire::proofs::Making::new_doors_push))]
 fn with_door(
     mut doors: Vec<(u16, MemDoor)>,
+    port: u16,
     door: MemDoor,
 ) -> Result<Vec<(u16, MemDoor)>, AllocError>
     requires doors { AreNewDoors doors.items }
     requires door { IsNewDoor door }
     ensures { IfOk result (λ all. AreNewDoors all.items) }
 {
-    doors.push((PORT, door))?;
+    doors.push((port, door))?;
     Ok(doors)
 }

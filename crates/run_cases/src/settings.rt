@@ -15,7 +15,10 @@ use std::alloc::{AllocError, Global};
 /// - `M-size N`, `S-size N`: as many line feeds follow in the file as it takes to have so many bytes;
 /// - `input HEX`: the bytes that come in on the input; `held TEXT`: what was put on the output before;
 /// - `doors HEX`, `doors HEX, HEX`: the house has one or two doors at port 4000, with one connection each, on which these
-///   bytes come in; `link HEX`: it has a link at port 4000, on which these bytes come in;
+///   bytes come in; `feed HEX`: it has such a door at port 4001; behind `closed` in place of the bytes there is no
+///   connection;
+/// - `link HEX`, `leader HEX`: it has a link at port 4000, or at port 4001, on which these bytes come in;
+/// - `piece N`: of the input, and of links and connections, so many bytes come in at once at most;
 /// - `read-fails N ..`, `put-fails N ..`, `recv-fails N ..`, `send-fails N ..`, `knock-fails N ..`, `house-fails N ..`:
 ///   which reads of files, puts, recvs and sends of the input and of the link, knocks and calls of the house fail.
 pub fn check_names(settings: &str) -> Result<(), Refusal> {
@@ -32,6 +35,7 @@ fn is_name(name: &str) -> bool {
     match name {
         "" | "rows" | "tiled" | "M" | "S" | "M-bytes" | "M-size" | "S-size" => true,
         "input" | "held" | "doors" | "link" => true,
+        "feed" | "leader" | "piece" => true,
         "read-fails" | "put-fails" | "recv-fails" => true,
         "send-fails" | "knock-fails" | "house-fails" => true,
         _ => false,

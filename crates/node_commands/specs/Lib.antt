@@ -1,0 +1,2 @@
+pub mod Followings
+pub mod Leadings

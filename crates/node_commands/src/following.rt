@@ -1,0 +1,212 @@
+//! `follow PORT ROUNDS`: a leader's edits over a link, and then a session over the input, on the board that they make.
+
+ghost use Rattle.std.specs.Prelude.{◌≡◌, ◌⊎◌, None, Some, IfErr, IfOk, IsErrOf, IsSome, OnErr, string_bytes};
+ghost use Rattle.wire.specs.Causes.{Rose};
+ghost use Rattle.path_core.specs.Histories.{published_prefix, IsVersionAt};
+ghost use Rattle.follow_node.specs.Following.{followed_of};
+ghost use Rattle.follow_node.specs.Streams.{new_following};
+ghost use Rattle.path_commands.specs.declared.status.Status.{Status};
+ghost use Rattle.path_commands.specs.Asks.{CallsInVain, HasGivenNone, house_over};
+ghost use Rattle.path_commands.specs.Talks.{input_over};
+ghost use Rattle.node_commands.specs.Followings.{CallsLeader, EndsByLink, EndsOn, ReadFails, WriteFails, Follows, FollowsBoard, IsBadFeed};
+ghost use Rattle.node_commands.specs.Followings.{IsFollowCause, IsLeaderMemory, TellsCause};
+ghost use Rattle.node_commands.specs.Followings.{following_text, status_followed};
+
+use build_pool::Gate;
+use follow_node::{FollowFault, Follower, LinkFault, follow_link};
+use path_commands::serving::{put_cause, put_no_memory};
+use path_commands::talk::hold;
+use path_commands::{FollowAsked, Means, Status, Watch};
+use path_core::Board;
+use std::alloc::{AllocError, Global};
+use std::fmt::Write;
+use std::sync::Wait;
+use std::thread::Threads;
+use wire::{Bell, Failed, House, Link, Sink, put_all};
+
+/// How many threads build a version in the session.
+const WORKERS: u32 = 1;
+
+/// Follows the leader at a port, tells how many edits were accepted, and holds a session over the input on the board that
+/// they make. The link is hung up before anything is put, and from the session on nothing is put. Where there is no such
+/// board, the line of the cause is put.
+///
+/// # Errors
+///
+/// - `BadAnswer` exactly where what came in may not come there, ended before a whole message, or says that the leader has
+///   fewer edits.
+/// - `LeaderMemory` exactly where it says that the leader had no memory.
+/// - `ReadFault` where nobody answers at the port, or the link, or the input in the session, failed to receive.
+/// - `WriteFault` where the output did not take the line, or the link, or the input in the session, failed to send.
+/// - `NoMemory` for want of memory before the session.
+/// - `Broken` where the input of the session is torn or a frame of it is too long.
+pub fn follow<L: Link, H: House, O: Sink, B: Bell, G: Watch, R: Threads + Wait + Sync>(
+    means: &Means<R, B, G>,
+    asked: FollowAsked,
+    input: &mut L,
+    house: &mut H,
+    out: &mut O,
+) -> Status
+    requires uncalled { H.called house.old ≡ None }
+    requires unlent { HasGivenNone (H.lent house.old) }
+    ensures ends { Follows H.Door H.Conn
+        (house_over H.Conn.talk H.lent H.called H.read_faults H.write_faults house.old house.new)
+        asked (input_over L.talk L.read_faults L.write_faults input.old input.new)
+        (O.bytes out.old) (O.bytes out.new) result }
+    ensures read { result ≡ Status.ReadFault → ReadFails H.Door H.Conn
+        (house_over H.Conn.talk H.lent H.called H.read_faults H.write_faults house.old house.new)
+        (input_over L.talk L.read_faults L.write_faults input.old input.new) }
+    ensures write { result ≡ Status.WriteFault → WriteFails H.Door H.Conn (O.faults out.old)
+        (O.faults out.new)
+        (house_over H.Conn.talk H.lent H.called H.read_faults H.write_faults house.old house.new)
+        (input_over L.talk L.read_faults L.write_faults input.old input.new) }
+    ensures bad_answer { result ≡ Status.BadAnswer → EndsByLink H.Door H.Conn
+        (house_over H.Conn.talk H.lent H.called H.read_faults H.write_faults house.old house.new)
+        asked (input_over L.talk L.read_faults L.write_faults input.old input.new) IsBadFeed }
+    ensures leader_memory { result ≡ Status.LeaderMemory → EndsByLink H.Door H.Conn
+        (house_over H.Conn.talk H.lent H.called H.read_faults H.write_faults house.old house.new)
+        asked (input_over L.talk L.read_faults L.write_faults input.old input.new) IsLeaderMemory }
+    ensures called { H.called house.new ≡ Some asked.port }
+    ensures doors { H.asked house.new ≡ H.asked house.old }
+    ensures door_faults { H.door_faults house.new ≡ H.door_faults house.old }
+{
+    match follow_leader(means.alloc, asked, house) {
+        Ok(board) => hold_told(means, board, input, out),
+        Err(cause) => tell_cause(means.alloc, out, cause),
+    }
+}
+
+/// The board of a new follower behind all rounds. The link is hung up by then.
+///
+/// # Errors
+///
+/// Why there is none.
+fn follow_leader<H: House>(
+    alloc: Global,
+    asked: FollowAsked,
+    house: &mut H,
+) -> Result<Board, Status>
+    requires uncalled { H.called house.old ≡ None }
+    requires unlent { HasGivenNone (H.lent house.old) }
+    ensures followed { IfOk result (FollowsBoard H.Door H.Conn
+        (house_over H.Conn.talk H.lent H.called H.read_faults H.write_faults house.old house.new)
+        asked) }
+    ensures refused { IfErr result (IsFollowCause H.Door H.Conn
+        (house_over H.Conn.talk H.lent H.called H.read_faults H.write_faults house.old house.new)
+        asked) }
+    ensures called { H.called house.new ≡ Some asked.port }
+    ensures doors { H.asked house.new ≡ H.asked house.old }
+    ensures door_faults { H.door_faults house.new ≡ H.door_faults house.old }
+{
+    let mut follower = Follower::new(alloc, asked.order);
+    match call_leader(&mut follower, asked, house) {
+        Ok(Ok(())) => Ok(board_of(follower)),
+        Ok(Err(fault)) => Err(status_followed(fault)),
+        Err(Failed) => Err(Status::ReadFault),
+    }
+}
+
+/// Calls at the port, follows over the link, and hangs it up.
+///
+/// # Errors
+///
+/// `Failed` where nobody answers at the port.
+fn call_leader<H: House>(
+    follower: &mut Follower,
+    asked: FollowAsked,
+    house: &mut H,
+) -> Result<Result<(), LinkFault>, Failed>
+    requires new { follower.old ≡ new_following asked.order }
+    requires uncalled { H.called house.old ≡ None }
+    requires unlent { HasGivenNone (H.lent house.old) }
+    ensures calls { IfOk result (λ followed. CallsLeader H.Door H.Conn
+        (house_over H.Conn.talk H.lent H.called H.read_faults H.write_faults house.old house.new)
+        asked followed follower.new) }
+    ensures vain { OnErr result (CallsInVain H.Door H.Conn
+        (house_over H.Conn.talk H.lent H.called H.read_faults H.write_faults house.old house.new)
+        asked.port) }
+    ensures refused { OnErr result (Rose (H.read_faults house.old) (H.read_faults house.new)) }
+    ensures reads { IfOk result (λ followed. IsErrOf followed LinkFault.ReadFault
+        → Rose (H.read_faults house.old) (H.read_faults house.new)) }
+    ensures writes { IfOk result (λ followed. IsErrOf followed LinkFault.WriteFault
+        → Rose (H.write_faults house.old) (H.write_faults house.new)) }
+    ensures called { H.called house.new ≡ Some asked.port }
+    ensures doors { H.asked house.new ≡ H.asked house.old }
+    ensures door_faults { H.door_faults house.new ≡ H.door_faults house.old }
+{
+    let mut link = house.call(asked.port)?;
+    let followed = follow_link(follower, &mut link, asked.rounds);
+    house.hang_up(link);
+    Ok(followed)
+}
+
+/// The board of a follower that was fed.
+fn board_of(follower: Follower) -> Board
+    requires { IsSome follower.board }
+    ensures board { follower.board ≡ Some (followed_of result) }
+    ensures version { IsVersionAt result.start result.order result.history
+        (published_prefix result.history) result.version }
+{
+    let Some(board) = follower.into_board() else {
+        unreachable!()
+    };
+    // That its version is the published one is known from here.
+    board.version();
+    board
+}
+
+/// The status with which a run ends where a link was followed no further.
+fn status_followed(fault: LinkFault) -> Status
+    ensures { result ≡ status_followed fault }
+{
+    match fault {
+        LinkFault::Follow(FollowFault::Bad { .. } | FollowFault::Ahead { .. }) => Status::BadAnswer,
+        LinkFault::Follow(FollowFault::LeaderMemory) => Status::LeaderMemory,
+        LinkFault::Follow(FollowFault::NoMemory) => Status::NoMemory,
+        LinkFault::Closed { .. } => Status::BadAnswer,
+        LinkFault::ReadFault => Status::ReadFault,
+        LinkFault::WriteFault => Status::WriteFault,
+    }
+}
+
+/// Puts the line of the cause, but for a link that failed to send.
+fn tell_cause<O: Sink>(alloc: Global, out: &mut O, cause: Status) -> Status
+    ensures put { TellsCause (O.bytes out.old) (O.bytes out.new) cause result }
+    ensures write { result ≡ Status.WriteFault
+        → (cause ≡ Status.WriteFault) ⊎ Rose (O.faults out.old) (O.faults out.new) }
+{
+    if cause == Status::WriteFault {
+        return cause;
+    }
+    put_cause(alloc, out, cause)
+}
+
+/// Puts how many edits a board has, and holds a session on it over the input.
+fn hold_told<L: Link, O: Sink, B: Bell, G: Gate, R: Threads + Wait + Sync>(
+    means: &Means<R, B, G>,
+    board: Board,
+    input: &mut L,
+    out: &mut O,
+) -> Status
+    ensures ends { EndsOn board (input_over L.talk L.read_faults L.write_faults input.old input.new)
+        (O.bytes out.old) (O.bytes out.new) result }
+    ensures write { result ≡ Status.WriteFault → Rose (O.faults out.old) (O.faults out.new)
+        ⊎ Rose (L.write_faults input.old) (L.write_faults input.new) }
+{
+    let Ok(line) = following_text(means.alloc, board.accepted()) else {
+        return put_no_memory(out);
+    };
+    match put_all(out, line.as_bytes()) {
+        Ok(()) => hold(means, board, WORKERS, input),
+        Err(Failed) => Status::WriteFault,
+    }
+}
+
+/// The line that tells how many edits were accepted.
+fn following_text(alloc: Global, accepted: u32) -> Result<String, AllocError>
+    ensures { IfOk result (λ text. string_bytes text ≡ following_text accepted) }
+{
+    let mut text = String::new(alloc);
+    write!(text, "following {accepted}\n")?;
+    Ok(text)
+}

@@ -1,0 +1,366 @@
+//! `lead MAP PORT DOORS FEED`: sessions at the doors of a port, on a board that begins with a map, and feeds of its edits
+//! at a door of another port.
+
+ghost use Rattle.std.specs.Prelude.{◌≡◌, ◌≢◌, ◌≤◌, ◌<◌, ◌+◌, ◌++◌, ◌∷◌, [], false, true, IfErr, IfOk, IsErrOf, OnOk, length, string_bytes, vec_capacity};
+ghost use Rattle.std.specs.Arc.{arc_value};
+ghost use Rattle.std.specs.Io.KnownBytes.{Appends};
+ghost use Rattle.wire.specs.Causes.{Rose};
+ghost use Rattle.wire.specs.Houses.{HasLentDoors, rose_once, with_doors_back, with_doors_given};
+ghost use Rattle.path_core.specs.declared.TheConstants.{MAX_ENTRIES};
+ghost use Rattle.path_commands.specs.declared.status.Status.{Status};
+ghost use Rattle.path_commands.specs.Requests.{AreDoors};
+ghost use Rattle.path_commands.specs.Runs.{IsMapFileCause, file_over};
+ghost use Rattle.path_commands.specs.Serving.{FailsToBegin, FailsToRead, doors_over, ear_over};
+ghost use Rattle.path_commands.specs.Talks.{IsFirstBoard};
+ghost use Rattle.path_commands.specs.Words.{AreWorkers};
+ghost use Rattle.node_commands.specs.Leadings.{AreBothOpened, CanBeLed, IsRefused, LeadEnds, Leads, LeadsAt, LeadsBegun};
+ghost use Rattle.node_commands.specs.Leadings.{feed_asked, leading_text};
+
+use build_pool::Gate;
+use lead_node::lead_board;
+use path_commands::serving::{put_cause, put_closing, put_no_memory, serving_text};
+use path_commands::{LeadAsked, Means, Status, Watch, first_board};
+use path_core::Board;
+use std::alloc::{AllocError, Global};
+use std::fmt::Write;
+use std::sync::{Arc, Wait};
+use std::thread::Threads;
+use versions::Version;
+use wire::{Bell, Door, DoorsAsked, Ear, Files, House, HouseError, Sink, put_all};
+
+/// A board to lead, its first version, and the doors at which that is asked for.
+#[derive(Drop)]
+struct Leading {
+    board: Board,
+    start: Arc<Version>,
+    doors: DoorsAsked,
+    feed: u16,
+    workers: u32,
+}
+
+/// The doors that a house gave for sessions, the one that it gave for the feed, and a list without elements that has
+/// the memory for one.
+#[derive(Drop)]
+struct Opened<D: Door> {
+    doors: Vec<D>,
+    feed: D,
+    spare: Vec<D>,
+}
+
+/// Serves the board that begins with the map in a file at doors of the house, and feeds its edits at one door more. What
+/// is put is two lines before the first knock, and lines that tell the board's history when all is over. All doors are
+/// handed back by then. Where there is no such board, the line of the cause is put, and the house is left alone.
+///
+/// # Errors
+///
+/// - `ReadFault` where the file could not be read, the house could not open the doors, or a knock at one failed.
+/// - `WriteFault` where the output did not take all. Without the first lines no door is served.
+/// - `Map` and `TooLong` where the file has no map.
+/// - `NoMemory` for want of memory.
+pub fn lead<F: Files, H: House, O: Sink, B: Bell, E: Ear, G: Watch, R: Threads + Wait + Sync>(
+    means: &Means<R, B, G>,
+    asked: LeadAsked<'_>,
+    files: &mut F,
+    house: &mut H,
+    out: &mut O,
+    ear: &mut E,
+) -> Status
+    requires room { asked.room ≤ MAX_ENTRIES }
+    requires doors { AreDoors asked.doors.count }
+    requires feed { asked.feed ≢ asked.doors.port }
+    requires workers { AreWorkers asked.build.workers }
+    requires unasked { H.asked house.old ≡ [] }
+    requires unlent { HasLentDoors (H.lent house.old) 0 }
+    requires waiting { E.over ear.old ≡ false }
+    ensures ends { Leads H.Door H.Conn asked.entry
+        (file_over F.content F.faults files.old files.new asked.entry.map.now)
+        (doors_over H.Door.talks H.Door.closed H.Door.faults H.Door.port H.lent H.door_faults
+        house.old house.new)
+        (ear_over E.rung E.over ear.old ear.new) (H.asked house.new) (O.bytes out.old)
+        (O.bytes out.new) result }
+    ensures fault { result ≡ Status.ReadFault → FailsToRead H.Door H.Conn
+        (file_over F.content F.faults files.old files.new asked.entry.map.now)
+        (doors_over H.Door.talks H.Door.closed H.Door.faults H.Door.port H.lent H.door_faults
+        house.old house.new) }
+    ensures write { result ≡ Status.WriteFault → Rose (O.faults out.old) (O.faults out.new) }
+    ensures called { H.called house.new ≡ H.called house.old }
+    ensures reads { H.read_faults house.new ≡ H.read_faults house.old }
+    ensures writes { H.write_faults house.new ≡ H.write_faults house.old }
+{
+    match leading_of(means, files, asked) {
+        Ok(leading) => lead_on(means, leading, house, out, ear),
+        Err(cause) => put_cause(means.alloc, out, cause),
+    }
+}
+
+/// The board that begins with the map in the file, and its first version.
+///
+/// # Errors
+///
+/// Why there is none.
+fn leading_of<F: Files, B: Bell, G: Watch, R: Threads + Sync>(
+    means: &Means<R, B, G>,
+    files: &mut F,
+    asked: LeadAsked<'_>,
+) -> Result<Leading, Status>
+    requires room { asked.room ≤ MAX_ENTRIES }
+    requires workers { AreWorkers asked.build.workers }
+    ensures board { IfOk result (λ leading. IsFirstBoard
+        (file_over F.content F.faults files.old files.new asked.entry.map.now)
+        asked.entry.build.order asked.entry.room leading.board) }
+    ensures start { IfOk result (λ leading. (arc_value leading.start).map ≡ leading.board.start) }
+    ensures unedited { IfOk result (λ leading. leading.board.history ≡ []) }
+    ensures doors { IfOk result (λ leading. leading.doors ≡ asked.entry.doors) }
+    ensures feed { IfOk result (λ leading. leading.feed ≡ asked.entry.feed) }
+    ensures workers { IfOk result (λ leading. leading.workers ≡ asked.entry.build.workers) }
+    ensures refused { IfErr result (IsMapFileCause
+        (file_over F.content F.faults files.old files.new asked.entry.map.now)) }
+{
+    let board = first_board(means, files, asked.map, asked.room, asked.build)?;
+    Ok(Leading {
+        start: board.copy_version()?,
+        board,
+        doors: asked.doors,
+        feed: asked.feed,
+        workers: asked.build.workers,
+    })
+}
+
+/// Leads a board at doors of the house.
+fn lead_on<H: House, O: Sink, B: Bell, E: Ear, G: Gate, R: Threads + Wait + Sync>(
+    means: &Means<R, B, G>,
+    leading: Leading,
+    house: &mut H,
+    out: &mut O,
+    ear: &mut E,
+) -> Status
+    requires start { (arc_value leading.start).map ≡ leading.board.start }
+    requires unedited { leading.board.history ≡ [] }
+    requires doors { AreDoors leading.doors.count }
+    requires feed { leading.feed ≢ leading.doors.port }
+    requires workers { AreWorkers leading.workers }
+    requires unasked { H.asked house.old ≡ [] }
+    requires unlent { HasLentDoors (H.lent house.old) 0 }
+    requires waiting { E.over ear.old ≡ false }
+    ensures ends { LeadEnds H.Door H.Conn
+        (doors_over H.Door.talks H.Door.closed H.Door.faults H.Door.port H.lent H.door_faults
+        house.old house.new)
+        (ear_over E.rung E.over ear.old ear.new) leading.board leading.doors leading.feed
+        (H.asked house.new) (O.bytes out.old) (O.bytes out.new) result }
+    ensures fault { result ≡ Status.ReadFault →
+        Rose (H.door_faults house.old) (H.door_faults house.new) }
+    ensures write { result ≡ Status.WriteFault → Rose (O.faults out.old) (O.faults out.new) }
+    ensures called { H.called house.new ≡ H.called house.old }
+    ensures reads { H.read_faults house.new ≡ H.read_faults house.old }
+    ensures writes { H.write_faults house.new ≡ H.write_faults house.old }
+{
+    match open(means.alloc, leading.doors, leading.feed, house) {
+        Ok(opened) => lead_at(means, leading, opened, house, out, ear),
+        Err(error) => put_cause(means.alloc, out, Status::from(error)),
+    }
+}
+
+/// The doors, and the one for the feed. Where that is refused, the doors are handed back.
+///
+/// # Errors
+///
+/// Those of `House::doors`.
+fn open<H: House>(
+    alloc: Global,
+    asked: DoorsAsked,
+    feed: u16,
+    house: &mut H,
+) -> Result<Opened<H::Door>, HouseError>
+    requires feed { feed ≢ asked.port }
+    requires unasked { H.asked house.old ≡ [] }
+    requires unlent { HasLentDoors (H.lent house.old) 0 }
+    ensures opened { IfOk result (λ opened. AreBothOpened H.Door H.Conn
+        (doors_over H.Door.talks H.Door.closed H.Door.faults H.Door.port H.lent H.door_faults
+        house.old house.new) asked feed opened.doors.items opened.feed) }
+    ensures spare { IfOk result (λ opened. opened.spare.items ≡ []) }
+    ensures room { IfOk result (λ opened. 0 < vec_capacity opened.spare) }
+    ensures given { OnOk result (H.lent house.new
+        ≡ with_doors_given (with_doors_given (H.lent house.old) asked.count) 1) }
+    ensures asked { OnOk result (H.asked house.new ≡ asked ∷ feed_asked feed ∷ []) }
+    ensures quiet { OnOk result (H.door_faults house.new ≡ H.door_faults house.old) }
+    ensures refused { IfErr result (λ _. IsRefused H.Door H.Conn
+        (doors_over H.Door.talks H.Door.closed H.Door.faults H.Door.port H.lent H.door_faults
+        house.old house.new) asked feed (H.asked house.new)) }
+    ensures cause { IsErrOf result HouseError.Failed
+        → Rose (H.door_faults house.old) (H.door_faults house.new) }
+    ensures called { H.called house.new ≡ H.called house.old }
+    ensures reads { H.read_faults house.new ≡ H.read_faults house.old }
+    ensures writes { H.write_faults house.new ≡ H.write_faults house.old }
+{
+    let doors = house.doors(alloc, asked.port, asked.count)?;
+    match house.doors(alloc, feed, 1) {
+        Ok(mut spare) => {
+            let Some(feed) = spare.pop() else {
+                unreachable!()
+            };
+            Ok(Opened { doors, feed, spare })
+        }
+        Err(error) => {
+            house.shut(doors);
+            Err(error)
+        }
+    }
+}
+
+/// Leads a board at doors that a house gave, and hands them back.
+fn lead_at<H: House, O: Sink, B: Bell, E: Ear, G: Gate, R: Threads + Wait + Sync>(
+    means: &Means<R, B, G>,
+    leading: Leading,
+    opened: Opened<H::Door>,
+    house: &mut H,
+    out: &mut O,
+    ear: &mut E,
+) -> Status
+    requires can { CanBeLed H.Door H.Conn H.Door.closed H.Door.faults leading.board
+        (arc_value leading.start).map opened.doors.items opened.feed leading.workers
+        (H.lent house.old) (E.over ear.old) }
+    requires spare { opened.spare.items ≡ [] }
+    requires room { 0 < vec_capacity opened.spare }
+    ensures ends { LeadsAt H.Door H.Conn
+        (doors_over H.Door.talks H.Door.closed H.Door.faults H.Door.port H.lent H.door_faults
+        house.old house.new)
+        (ear_over E.rung E.over ear.old ear.new) leading.board opened.doors.items opened.feed
+        leading.doors.port leading.feed (O.bytes out.old) (O.bytes out.new) result }
+    ensures fault { result ≡ Status.ReadFault →
+        Rose (H.door_faults house.old) (H.door_faults house.new) }
+    ensures write { result ≡ Status.WriteFault → Rose (O.faults out.old) (O.faults out.new) }
+    ensures asked { H.asked house.new ≡ H.asked house.old }
+    ensures called { H.called house.new ≡ H.called house.old }
+    ensures reads { H.read_faults house.new ≡ H.read_faults house.old }
+    ensures writes { H.write_faults house.new ≡ H.write_faults house.old }
+{
+    match begin(means.alloc, out, leading.doors.port, leading.feed) {
+        Ok(()) => lead_begun(means, leading, opened, house, out, ear),
+        Err(ended) => {
+            hand_back(house, opened);
+            ended
+        }
+    }
+}
+
+/// The same, where the first lines have been put.
+fn lead_begun<H: House, O: Sink, B: Bell, E: Ear, G: Gate, R: Threads + Wait + Sync>(
+    means: &Means<R, B, G>,
+    leading: Leading,
+    opened: Opened<H::Door>,
+    house: &mut H,
+    out: &mut O,
+    ear: &mut E,
+) -> Status
+    requires can { CanBeLed H.Door H.Conn H.Door.closed H.Door.faults leading.board
+        (arc_value leading.start).map opened.doors.items opened.feed leading.workers
+        (H.lent house.old) (E.over ear.old) }
+    requires spare { opened.spare.items ≡ [] }
+    requires room { 0 < vec_capacity opened.spare }
+    ensures ends { LeadsBegun H.Door H.Conn
+        (doors_over H.Door.talks H.Door.closed H.Door.faults H.Door.port H.lent H.door_faults
+        house.old house.new)
+        (ear_over E.rung E.over ear.old ear.new) leading.board opened.doors.items opened.feed
+        (O.bytes out.old) (O.bytes out.new) result }
+    ensures fault { result ≡ Status.ReadFault →
+        Rose (H.door_faults house.old) (H.door_faults house.new) }
+    ensures write { result ≡ Status.WriteFault → Rose (O.faults out.old) (O.faults out.new) }
+    ensures asked { H.asked house.new ≡ H.asked house.old }
+    ensures called { H.called house.new ≡ H.called house.old }
+    ensures reads { H.read_faults house.new ≡ H.read_faults house.old }
+    ensures writes { H.write_faults house.new ≡ H.write_faults house.old }
+{
+    let Opened { doors, feed, spare } = opened;
+    match lead_board(
+        means.rt,
+        means.alloc,
+        leading.board,
+        &leading.start,
+        doors,
+        feed,
+        means.bell,
+        ear,
+        leading.workers,
+        means.gate,
+    ) {
+        Ok(led) => {
+            hand_back(
+                house,
+                Opened {
+                    doors: led.doors,
+                    feed: led.feed,
+                    spare,
+                },
+            );
+            put_closing(means.alloc, out, &led.board, led.failed)
+        }
+        Err(refused) => {
+            hand_back(
+                house,
+                Opened {
+                    doors: refused.doors,
+                    feed: refused.feed,
+                    spare,
+                },
+            );
+            put_no_memory(out)
+        }
+    }
+}
+
+/// Hands the doors back, and then that of the feed.
+fn hand_back<H: House>(house: &mut H, opened: Opened<H::Door>)
+    requires lent { HasLentDoors (H.lent house.old) (length opened.doors.items + 1) }
+    requires spare { opened.spare.items ≡ [] }
+    requires room { 0 < vec_capacity opened.spare }
+    ensures back { H.lent house.new
+        ≡ with_doors_back (H.lent house.old) (opened.doors.items ++ opened.feed ∷ []) }
+    ensures rose { rose_once H.Door.faults (opened.doors.items ++ opened.feed ∷ []) ≡ true
+        → Rose (H.door_faults house.old) (H.door_faults house.new) }
+    ensures asked { H.asked house.new ≡ H.asked house.old }
+    ensures called { H.called house.new ≡ H.called house.old }
+    ensures reads { H.read_faults house.new ≡ H.read_faults house.old }
+    ensures writes { H.write_faults house.new ≡ H.write_faults house.old }
+{
+    let Opened {
+        doors,
+        feed,
+        mut spare,
+    } = opened;
+    spare.push_reserved(feed);
+    house.shut(doors);
+    house.shut(spare);
+}
+
+/// Puts the lines that stand before all else.
+///
+/// # Errors
+///
+/// The status with which the run ends without them: `WriteFault`, or `NoMemory`, whose line was put.
+fn begin<O: Sink>(alloc: Global, out: &mut O, port: u16, feed: u16) -> Result<(), Status>
+    ensures first { OnOk result
+        (Appends (O.bytes out.old) (O.bytes out.new) (leading_text port feed)) }
+    ensures failed { IfErr result
+        (FailsToBegin (O.bytes out.old) (O.bytes out.new) (leading_text port feed)) }
+    ensures no_read { IfErr result (λ ended. ended ≢ Status.ReadFault) }
+    ensures write { IfErr result (λ ended. ended ≡ Status.WriteFault →
+        Rose (O.faults out.old) (O.faults out.new)) }
+    ensures later { O.faults out.old ≤ O.faults out.new }
+{
+    let Ok(lines) = leading_text(alloc, port, feed) else {
+        return Err(put_no_memory(out));
+    };
+    match put_all(out, lines.as_bytes()) {
+        Ok(()) => Ok(()),
+        Err(_) => Err(Status::WriteFault),
+    }
+}
+
+/// The lines that stand before all else.
+fn leading_text(alloc: Global, port: u16, feed: u16) -> Result<String, AllocError>
+    ensures { IfOk result (λ text. string_bytes text ≡ leading_text port feed) }
+{
+    let mut text = serving_text(alloc, port)?;
+    write!(text, "feeding {feed}\n")?;
+    Ok(text)
+}
