@@ -1,5 +1,5 @@
 """Want of memory: one request for memory after the other is refused, in sessions of `talk` and of `serve`, in `export` and
-in `verify` (allocs.sh says what is right then, and runs it).
+in `verify`, and in `follow` (allocs.sh says what is right then, and runs it).
 
 allocs.py PROGRAM LIBRARY MAP OPEN_MAP DATABASE, where LIBRARY is made of allocs.c, MAP is `.@.` and OPEN_MAP `...`.
 DATABASE is where the file of MAP's database may lie.
@@ -7,6 +7,7 @@ DATABASE is where the file of MAP's database may lie.
 import os, subprocess, sys, time
 
 import judging  # the way to the client
+from nodes import ONE_EDIT, ROW_START, FakeLeader
 from path_server import (Accepted, AskStatus, BadReply, Build, Bye, Change, ConnectionLost, Done, Move, NotConnected,
                          NothingNew, OutOfMemory, Path, Published, Query, Status, Stop, TcpLink, Terrain, Unreachable, free_port)
 from path_server.frames import decoded, encoded, split_replies
@@ -114,6 +115,30 @@ def serve(number, lasting, room):
     wrong = status not in (0, 7) or text != whole or replies != right
     return told, felt, wrong and f"status {status}, {text!r} and {replies}"
 
+FOLLOW = [Query((1, 0), (2, 0)), Change((0, 0), Terrain.LAND), Build(), AskStatus(), Bye()]
+
+def follow(number, lasting, room):
+    """What came of it in a follower of a leader with one edit, and in its session."""
+    leader = FakeLeader(ROW_START + ONE_EDIT)
+    run = Run(number, lasting, "follow", str(leader.port), "1", *room)
+    text, status, told = run.end(b"".join(map(encoded, FOLLOW)))
+    if status == 7:
+        return told, ["status 7"], text not in (b"", b"out of memory\n") and f"status 7 behind {text.hex()}"
+    frames, rest = split_replies(text.removeprefix(b"following 1\n"))
+    replies = [decoded(frame) for frame in frames]
+    felt = [NAMES[type(asked)] for asked, reply in zip(FOLLOW, replies) if reply == OutOfMemory()]
+    edits = 1 if "change" in felt else 2
+    version = 1 if felt else 2
+    right = [
+        Path(1, 1, 0, (Move.E,)),
+        OutOfMemory() if "change" in felt else Accepted(2),
+        OutOfMemory() if "build" in felt else NothingNew(1) if edits == 1 else Published(2, 3, 0),
+        Status(2, 2, 3, 1, 4) if version == 2 else Status(1, edits, 2, 1, 2),
+        Done(),
+    ]
+    wrong = status != 0 or rest or replies != right or not text.startswith(b"following 1\n")
+    return told, felt, wrong and f"status {status}, {text!r} and {replies}"
+
 def prints(number, lasting, words):
     """The same, in a command that prints: it prints all that it has to, or the line of status 7 alone."""
     text, status, told = Run(number, lasting, *words).end()
@@ -169,6 +194,7 @@ for lasting in (False, True):
     try_all(serve, lasting, [], {"status 7"})
     try_all(prints, lasting, ["export", row], {"status 7"})
     try_all(prints, lasting, ["verify", database], {"status 7"})
+    try_all(follow, lasting, [], {"status 7", "change", "build"})
 # nothing but its end would end a server that has no memory for a stop
 try_all(serve, False, ["--room", "0"], {"status 7", "stop"})
 sys.exit(failed)

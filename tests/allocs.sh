@@ -1,7 +1,7 @@
 #!/usr/bin/env bash
 # Want of memory in the program: the N-th request for memory is refused, for N from 1 until a run meets no refusal,
-# in a session of `talk` and in one of `serve`, with the room that they have and with none, in `export` and in `verify`;
-# and then all requests from the N-th on.
+# in a session of `talk` and in one of `serve`, with the room that they have and with none, in `export` and in `verify`,
+# and in `follow` and its session; and then all requests from the N-th on.
 #
 # Each run ends with status 7, or one reply tells of want of memory: that to a build or, without room, to an edit or a
 # stop. All other replies are right for a board on which nothing came of it. A run that feels nothing of a single refusal

@@ -7,7 +7,15 @@ import time
 from types import TracebackType
 from typing import Deque, Generic, Iterable, Iterator, Optional, Tuple, Type, TypeVar, Union, cast
 
-from .faults import BadReply, PathServerError, RequestRefused, ServerOutOfMemory, SessionOver, TimedOut
+from .faults import (
+    BadReply,
+    PathServerError,
+    ProgramEnded,
+    RequestRefused,
+    ServerOutOfMemory,
+    SessionOver,
+    TimedOut,
+)
 from .frames import (
     Accepted,
     AskStatus,
@@ -126,6 +134,28 @@ class Client:
         NotConnected: there is no such program. A map that is refused is told by the first reply: ProgramEnded.
         """
         return cls(ChildLink([program or find_program(), "talk", map_file, *options]), timeout)
+
+    @classmethod
+    def follow(
+        cls, feed: int, rounds: int, *options: str, program: Optional[str] = None, timeout: float = TIMEOUT
+    ) -> Client:
+        """A session with a follower of one's own, `path_server follow FEED ROUNDS OPTIONS`, as a child process. It asks the
+        leader so many times for up to 1,024 edits that it does not know yet, and answers then from its own board, whose
+        edits are the leader's first: `status` tells how many. It waits `timeout` seconds until it has followed.
+
+        NotConnected: there is no such program. ProgramEnded: nobody feeds at the port, or something else than a feed
+        came. TimedOut: it did not follow in time.
+        """
+        link = ChildLink([program or find_program(), "follow", str(feed), str(rounds), *options])
+        try:
+            line = link.first_line(time.monotonic() + timeout)
+            if not line.startswith(b"following "):
+                link.end(time.monotonic() + timeout)
+                raise ProgramEnded(link.process.wait(timeout), link.told(), line)
+        except PathServerError:
+            link.close()
+            raise
+        return cls(link, timeout)
 
     # ---- one request
 

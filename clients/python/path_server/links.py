@@ -168,6 +168,25 @@ class ChildLink(Link):
         self.process = self._program.process
         super().__init__(self._program.output.fileno(), self._program.input.fileno())
 
+    def first_line(self, deadline: float) -> bytes:
+        """The line that the program puts before the first reply, without its end.
+
+        TimedOut: it did not come in time. ProgramEnded: the program ended before it was whole.
+        """
+        began, line = time.monotonic(), b""
+        poll = select.poll()
+        poll.register(self._read_end, select.POLLIN)
+        while not line.endswith(b"\n"):
+            left = max(0.0, deadline - time.monotonic())
+            if not poll.poll(None if math.isinf(left) else math.ceil(left * 1000)):
+                raise TimedOut("the program's first line", max(0.0, deadline - began))
+            byte = os.read(self._read_end, 1)
+            if not byte:
+                self._held = line
+                self._lost(None)
+            line += byte
+        return line[:-1]
+
     def told(self) -> str:
         """What the program has said on standard error so far, or up to its end."""
         return self._program.told()

@@ -35,7 +35,8 @@ class Totals:
 
 
 class Server:
-    """A `path_server serve` of one's own. It is stopped by `stop`, or killed where a `with` block ends."""
+    """A `path_server serve` of one's own, or a `path_server lead` where it has a port for followers. It is stopped by
+    `stop`, or killed where a `with` block ends."""
 
     def __init__(
         self,
@@ -43,18 +44,22 @@ class Server:
         *options: str,
         port: int = 0,
         doors: int = 8,
+        feed: Optional[int] = None,
         program: Optional[str] = None,
         timeout: float = 60.0,
     ) -> None:
-        """Starts it at a port, or at a free one, and waits up to `timeout` seconds until it serves.
+        """Starts it at a port, or at a free one, and waits up to `timeout` seconds until it serves. With `feed` it leads:
+        it feeds followers at that port, or at a free one where it is 0.
 
         NotConnected: there is no such program. ProgramEnded: it refuses the map, the port or the options. TimedOut: the
         map's database was not built in time.
         """
-        command = [program or find_program(), "serve", map_file]
-        for left in reversed(range(1 if port else _TRIES)):
+        command = [program or find_program(), "serve" if feed is None else "lead", map_file]
+        for left in reversed(range(1 if port and feed != 0 else _TRIES)):
             self.port = port or free_port()
-            self._program = Program([*command, str(self.port), str(doors), *options], has_input=False)
+            self.feed = feed if feed != 0 else free_port()
+            words = [str(word) for word in (self.port, doors, self.feed) if word is not None]
+            self._program = Program([*command, *words, *options], has_input=False)
             self.process = self._program.process
             try:
                 self._hear_first_line(timeout)
@@ -66,13 +71,17 @@ class Server:
     def _hear_first_line(self, timeout: float) -> None:
         poll = select.poll()
         poll.register(self._program.output.fileno(), select.POLLIN)
-        if not poll.poll(timeout * 1000):
-            self.kill()
-            raise TimedOut("the server", timeout)
-        line = self._program.output.readline()
-        if line != b"serving %d\n" % self.port:
-            self._program.end(timeout)
-            raise ProgramEnded(self.process.returncode, self.told(), line)
+        wanted = [b"serving %d\n" % self.port]
+        if self.feed is not None:
+            wanted.append(b"feeding %d\n" % self.feed)
+        for each in wanted:
+            if not poll.poll(timeout * 1000):
+                self.kill()
+                raise TimedOut("the server", timeout)
+            line = self._program.output.readline()
+            if line != each:
+                self._program.end(timeout)
+                raise ProgramEnded(self.process.returncode, self.told(), line)
 
     def told(self) -> str:
         """What the program has said on standard error so far, or up to its end."""
@@ -81,6 +90,12 @@ class Server:
     def connect(self, timeout: float = 10.0) -> Client:
         """A session with it."""
         return Client.connect(self.port, timeout=timeout)
+
+    def follow(self, rounds: int, *options: str, program: Optional[str] = None, timeout: float = 60.0) -> Client:
+        """A session with a follower of it, which asks so many times. It needs a `feed`."""
+        if self.feed is None:
+            raise ValueError("the server has no port for followers")
+        return Client.follow(self.feed, rounds, *options, program=program, timeout=timeout)
 
     def stop(self, timeout: float = 10.0) -> Totals:
         """Stops it, waits until its last session has ended, and reads what it says then.
