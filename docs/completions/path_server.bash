@@ -2,7 +2,7 @@
 _path_server() {
     local word=${COMP_WORDS[COMP_CWORD]} before=${COMP_WORDS[COMP_CWORD - 1]} options=
     if ((COMP_CWORD == 1)); then
-        COMPREPLY=($(compgen -W 'path check scen made replay talk serve ask export verify near nearpath' -- "$word"))
+        COMPREPLY=($(compgen -W 'path check scen made replay talk serve ask export verify near nearpath lead follow' -- "$word"))
         return
     fi
     case ${COMP_WORDS[1]} in
@@ -18,6 +18,8 @@ _path_server() {
         verify) options='' ;;
         near) options='--order --workers' ;;
         nearpath) options='--order --workers' ;;
+        lead) options='--order --workers --room' ;;
+        follow) options='--order' ;;
     esac
     case $before in
         --order) COMPREPLY=($(compgen -W 'rows dfs' -- "$word")) ;;

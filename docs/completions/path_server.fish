@@ -43,3 +43,10 @@ complete -c path_server -f -n __fish_use_subcommand -a nearpath -d 'prints an op
 complete -c path_server -x -n '__fish_seen_subcommand_from nearpath' -l order -a 'rows dfs'
 complete -c path_server -x -n '__fish_seen_subcommand_from nearpath' -l workers
 complete -c path_server -F -n '__fish_seen_subcommand_from nearpath'
+complete -c path_server -f -n __fish_use_subcommand -a lead -d 'serves as serve does, and feeds followers its accepted edits at a port of their own'
+complete -c path_server -x -n '__fish_seen_subcommand_from lead' -l order -a 'rows dfs'
+complete -c path_server -x -n '__fish_seen_subcommand_from lead' -l workers
+complete -c path_server -x -n '__fish_seen_subcommand_from lead' -l room
+complete -c path_server -F -n '__fish_seen_subcommand_from lead'
+complete -c path_server -f -n __fish_use_subcommand -a follow -d 'takes the accepted edits of a leader, and then answers requests as talk does'
+complete -c path_server -x -n '__fish_seen_subcommand_from follow' -l order -a 'rows dfs'
