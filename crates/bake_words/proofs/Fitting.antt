@@ -6,7 +6,7 @@ use Rattle.std.proofs.lemmas.List.FromFn.{get_or-map-range_with_len, length-map-
 use Rattle.moves.specs.Maps.{IsWithinLimits, cell_at, passable_count}
 use Rattle.moves.proofs.RowMajor.{place_of_cell_at, row_inside}
 use Rattle.cell_order.specs.Orders.{kind_of}
-use Rattle.build_pool.proofs.Connecting.{kind_small}
+use Rattle.cell_order.proofs.Numbers.{kind_small}
 use Rattle.run_pack.specs.Runs.{word_of}
 use Rattle.row_store.specs.Rows.{row_at}
 use Rattle.row_store.specs.Comps.{Comp, IsComp}

@@ -3,7 +3,7 @@
 ghost use Rattle.std.specs.Prelude.{◌≡◌, ◌<◌, map, true, false, IfOk, OnOk, length, slice_index_or};
 ghost use Rattle.std.specs.Arc.{arc_value};
 ghost use Rattle.moves.specs.Maps.{IsSearchable};
-ghost use Rattle.cell_order.specs.Orders.{kind_of, ordered};
+ghost use Rattle.cell_order.specs.Orders.{ordered};
 ghost use Rattle.row_store.specs.Rows.{AreRows};
 ghost use Rattle.build_pool.specs.Places.{AreWithNear, CanBeBuilt};
 ghost use Rattle.build_pool.specs.Pieces.{AreSome};
@@ -74,7 +74,7 @@ fn comp_of(alloc: Global, kind: OrderKind, cells: &[Cell]) -> Result<Arc<CompDat
 /// The cells in their order, with a row for each.
 fn with_rows(alloc: Global, kind: OrderKind, cells: &[Cell]) -> Result<CompData, AllocError>
     requires { CanBeBuilt cells.now }
-    ensures kind { IfOk result (λ comp. comp.kind ≡ kind_of kind) }
+    ensures kind { IfOk result (λ comp. comp.kind ≡ kind) }
     ensures cells { IfOk result (λ comp. comp.cells ≡ ordered kind cells.now) }
     ensures rows { IfOk result (λ comp. AreRows (ordered kind cells.now) comp.rows) }
 {
@@ -82,7 +82,7 @@ fn with_rows(alloc: Global, kind: OrderKind, cells: &[Cell]) -> Result<CompData,
     let near = Near::of(alloc, &order)?;
     let mut rows = tiled_rows(alloc, &order, &near)?;
     put_rest(alloc, &order, &mut rows)?;
-    CompData::of_pool(alloc, kind.number(), order, rows)
+    CompData::of_pool(alloc, kind, order, rows)
 }
 
 /// The rows of tiles of near sources, a tile after the other. Of a source whose tile was given up the row is blank.

@@ -6,3 +6,4 @@ pub mod DepthBound
 pub mod Permuted
 pub mod Ending
 pub mod LongRow
+pub mod Numbers

@@ -54,7 +54,7 @@ impl Near {
     }
 
     /// The neighbours of each place, by the numbers of the moves; the number of places stands for none.
-    pub(crate) fn table(&self) -> &[[u16; 8]]
+    pub fn table(&self) -> &[[u16; 8]]
         ensures table { result.now ≡ self.now }
         ensures near { IsMutual self.now }
         ensures few { length self.now ≤ 32768 }

@@ -171,7 +171,8 @@ impl Tiles {
 
     /// The keys of all lanes by places, as they stand.
     pub fn keys(&self) -> &[u32x16]
-        ensures { result.now ≡ take self.now.count self.now.keys }
+        ensures keys { result.now ≡ take self.now.count self.now.keys }
+        ensures len { length result.now ≡ self.now.count }
     {
         &self.keys[..self.count]
     }

@@ -16,6 +16,7 @@ use Rattle.run_pack.specs.Runs.{Fits, IsRow, IsTight, end_at, start_at, move_at}
 use Rattle.run_pack.proofs.Fewest.{Fits-from_tight, HasFewest-from_tight}
 use Rattle.run_pack.proofs.SetLemmas.{Has-from_bit, bit_from_Has, Has-all}
 use Rattle.run_pack.proofs.RowLemmas.{length-row, border-le}
+use Rattle.cell_order.specs.declared.OrderKind.TheVariants.{Rows}
 use Rattle.row_store.specs.Rows.{row_at, IsRowFrom}
 use Rattle.row_store.proofs.RowLaws.{components_keep_rows}
 use Rattle.versions.specs.Databases.{comp_at}
@@ -100,7 +101,7 @@ sum_le f g (a ∷ xs) (b ∷ ys) x y same each =
 
 pub near_runs_are_at_most_the_versions : NearRunsAreAtMostTheVersions
 near_runs_are_at_most_the_versions near is =
-    sum_le runs_in (λ comp. sum_by length comp.rows) near.nearby near.version.comps (record { radii = []; rows = [] }) (record { kind = 0; cells = []; rows = [] })
+    sum_le runs_in (λ comp. sum_by length comp.rows) near.nearby near.version.comps (record { radii = []; rows = [] }) (record { kind = Rows; cells = []; rows = [] })
     is.whole (λ label inside. in_comp label (let size = is.whole in omega arith))
   where
     in_comp : (label : ℕ) → label < length near.version.comps → runs_in (nearby_at near.nearby label) ≤ sum_by length (comp_at near.version.comps label).rows

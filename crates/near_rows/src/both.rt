@@ -83,6 +83,6 @@ fn part_of<R: Threads + Sync, G: Gate>(
     let mut near = near.into_near();
     put_rest(crew.alloc, grid, &order, &mut near)?;
     near.shrink();
-    let comp = CompData::of_pool(crew.alloc, kind.number(), order, rows)?;
+    let comp = CompData::of_pool(crew.alloc, kind, order, rows)?;
     Ok((Arc::new(crew.alloc, comp)?, near))
 }

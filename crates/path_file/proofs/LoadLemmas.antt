@@ -7,8 +7,7 @@ use Rattle.moves.specs.declared.TheConstants.{MAX_PASSABLE}
 use Rattle.moves.specs.Maps.{Map, IsWithinLimits}
 use Rattle.moves.specs.Components.{IsComponentList}
 use Rattle.cell_order.specs.declared.OrderKind.{OrderKind}
-use Rattle.cell_order.specs.declared.OrderKind.TheVariants.{Rows, Dfs}
-use Rattle.cell_order.specs.Orders.{kind_of, ordered}
+use Rattle.cell_order.specs.Orders.{ordered}
 use Rattle.row_store.specs.Comps.{Comp, IsComp}
 use Rattle.row_store.specs.Rows.{AreRows}
 use Rattle.row_check.specs.declared.RowFault.{RowFault}
@@ -29,14 +28,9 @@ use Rattle.path_file.proofs.CheckLemmas.{HasRightRows}
 use Rattle.path_file.proofs.Opening.{field_here}
 use Rattle.path_file.proofs.PartReading.{comps_known, rows_in, rows_in_at}
 
-kind_small : (kind : OrderKind) → kind_of kind ≤ 1
-kind_small Rows = omega arith
-kind_small Dfs = omega arith
-
 -- a part whose rows are right is a component
 comp_is : (order : OrderKind) (part : Parted) → IsReady part → HasRightRows part → IsComp (comp_of order part)
 comp_is order part ready right = record {
-  kind = kind_small order;
   some = ready.cells.some;
   few = ready.cells.few;
   on_map = ready.cells.on_map;

@@ -14,6 +14,7 @@ use Rattle.moves.specs.Maps.{Map, IsWithinLimits, is_passable}
 use Rattle.cell_order.specs.declared.OrderKind.{OrderKind}
 use Rattle.cell_order.specs.declared.OrderKind.TheVariants.{Rows, Dfs}
 use Rattle.cell_order.specs.Orders.{kind_of, ordered}
+use Rattle.cell_order.proofs.Numbers.{kind_small}
 use Rattle.row_store.specs.Comps.{Comp}
 use Rattle.row_store.specs.Rows.{AreRows}
 use Rattle.row_check.specs.declared.RowFault.{RowFault}
@@ -63,10 +64,6 @@ record IsOwnRun (cells : ℕ) (runs : List Run) (rest : List ℕ) : Type 0 where
   move : run.mv < 8
   shaped : IsFileRow cells (runs ++ run ∷ [])
   is : rest ≡ run_bytes run ++ more
-
-kind_small : (kind : OrderKind) → kind_of kind ≤ 1
-kind_small Rows = omega arith
-kind_small Dfs = omega arith
 
 terrain_small : (t : Terrain) → terrain_byte t ≤ 2
 terrain_small Blocked = omega arith

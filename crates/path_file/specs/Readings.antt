@@ -7,7 +7,7 @@ use Rattle.moves.specs.Maps.{Map, ComesBefore}
 use Rattle.moves.specs.Rectangles.{IsOnMap}
 use Rattle.moves.specs.StraightPaths.{IsConnected}
 use Rattle.cell_order.specs.declared.OrderKind.{OrderKind}
-use Rattle.cell_order.specs.Orders.{kind_of, ordered}
+use Rattle.cell_order.specs.Orders.{ordered}
 use Rattle.row_store.specs.Comps.{Comp, comp_with}
 use Rattle.row_store.specs.Rows.{AreRows}
 use Rattle.row_check.specs.declared.RowFault.{RowFault}
@@ -111,7 +111,7 @@ no_part = record { cells = []; rows = [] }
 
 -- the component of these
 abbrev pub comp_of : OrderKind → Parted → Comp
-comp_of order part = comp_with (kind_of order) part.cells part.rows
+comp_of order part = comp_with order part.cells part.rows
 
 -- a component whose rows can be checked
 pub record IsReady (part : Parted) : Type 0 where

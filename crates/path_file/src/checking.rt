@@ -77,6 +77,6 @@ fn comp_from(alloc: Global, order: OrderKind, part: Part) -> Result<Arc<CompData
     ensures { IfOk result (λ comp. arc_value comp ≡ comp_of order part) }
 {
     let Part { cells, rows } = part;
-    let comp = CompData::of_pool(alloc, order.number(), cells, rows)?;
+    let comp = CompData::of_pool(alloc, order, cells, rows)?;
     Ok(Arc::new(alloc, comp)?)
 }

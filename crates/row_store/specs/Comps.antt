@@ -12,21 +12,21 @@ use Rattle.moves.specs.StraightPaths.{IsConnected}
 use Rattle.moves.specs.ComponentLaws.{HasJust}
 use Rattle.moves.specs.FirstSetLists.{cell_of}
 use Rattle.moves.specs.Rectangles.{IsOnMap}
+use Rattle.cell_order.specs.declared.OrderKind.{OrderKind}
 use Rattle.row_store.specs.Rows.{row_at, AreRows}
 
--- a component: the number of its order, its cells in this order, and a row for each of them
+-- a component: how its cells are ordered, the cells in this order, and a row for each of them
 pub record Comp : Type 0 where
-  pub kind : ℕ
+  pub kind : OrderKind
   pub cells : List Cell
   pub rows : List (List Run)
 
 -- the component with these
-abbrev pub comp_with : ℕ → List Cell → List (List Run) → Comp
+abbrev pub comp_with : OrderKind → List Cell → List (List Run) → Comp
 comp_with kind cells rows = record { kind = kind; cells = cells; rows = rows }
 
 -- what each stored component is: cells of a map that are connected among themselves, each once, and their rows
 pub record IsComp (comp : Comp) : Type 0 where
-  pub kind : comp.kind ≤ 1
   pub some : 0 < length comp.cells
   pub few : length comp.cells ≤ MAX_PASSABLE
   pub on_map : All IsOnMap comp.cells

@@ -5,7 +5,7 @@
 #![tactic(auto)]
 
 ghost use Rattle.std.specs.Prelude.{◌≡◌, ◌≢◌, ◌+◌, ◌-◌, ◌*◌, ◌^◌, ◌<◌, ◌≤◌, [], map, length, sum_by, slice_index_or, All, AllPairs, Contains, IfOk, IfSome, IfNone};
-ghost use Rattle.run_pack.specs.Runs.{no_run, IsLastUpTo};
+ghost use Rattle.run_pack.specs.Runs.{no_run, IsLastUpTo, run_of_word};
 ghost use Rattle.moves.specs.Rectangles.{IsWithin};
 ghost use Rattle.row_store.specs.Rows.{row_at};
 ghost use Rattle.row_store.specs.Comps.{IsComp, comp_with, IsPlaceOf, IsMoveOfRow, BeginsBestPath};
@@ -14,6 +14,7 @@ ghost use Rattle.row_store.specs.Layout.{ArePlaces};
 pub mod laws;
 pub mod pool;
 
+use cell_order::OrderKind;
 use moves::{Bounds, Cell, MAX_PASSABLE, Move};
 pub use pool::RowPool;
 use run_pack::steps::Steps;
@@ -28,7 +29,7 @@ const NO_PLACE: u16 = u16::MAX;
 /// One component: its cells in an order, and a row of first moves from each of them.
 #[derive(Drop)]
 pub struct CompData {
-    kind: u8,
+    kind: OrderKind,
     cells: Vec<Cell>,
     rows: RowPool,
     bounds: Bounds,
@@ -49,14 +50,14 @@ impl Model for CompData {
 }
 
 impl CompData {
-    /// The component with these rows, one for each cell. The kind of order is 0 for row by row and 1 for depth first.
+    /// The component with these rows, one for each cell. The cells are in the order of that kind.
     ///
     /// # Errors
     ///
     /// `AllocError` where memory runs out. The lists are dropped then.
     pub fn make(
         alloc: Global,
-        kind: u8,
+        kind: OrderKind,
         cells: Vec<Cell>,
         rows: Vec<Vec<Run>>,
     ) -> Result<CompData, AllocError>
@@ -80,7 +81,7 @@ impl CompData {
     /// `AllocError` where memory runs out. The lists are dropped then.
     pub fn of_pool(
         alloc: Global,
-        kind: u8,
+        kind: OrderKind,
         cells: Vec<Cell>,
         pool: RowPool,
     ) -> Result<CompData, AllocError>
@@ -174,8 +175,8 @@ impl CompData {
         &self.cells
     }
 
-    /// The kind of order: 0 for row by row and 1 for depth first.
-    pub fn kind(&self) -> u8
+    /// How the cells are ordered.
+    pub fn kind(&self) -> OrderKind
         ensures { result ≡ self.now.kind }
     {
         self.kind
@@ -187,6 +188,14 @@ impl CompData {
         ensures { result ≡ length (row_at self.now.rows from) }
     {
         self.rows.row(from as usize).len() as u32
+    }
+
+    /// The words of a row, one a run.
+    pub fn row(&self, from: u32) -> &[u32]
+        requires { from < length self.now.cells }
+        ensures row { map run_of_word result.now ≡ row_at self.now.rows from }
+    {
+        self.rows.row(from as usize)
     }
 
     /// The run at a place of a row.

@@ -187,7 +187,6 @@ cells_rise = pairs_of_three ComesBefore (cell 0) (cell 1) (cell 2) (inr (refl, o
 
 pub line_is_comp : IsComp line
 line_is_comp = record {
-  kind = omega arith;
   some = omega arith;
   few = omega arith;
   on_map = all_three IsOnMap (cell 0) (cell 1) (cell 2) (record { column = omega arith; row = omega arith })
@@ -313,7 +312,6 @@ lone_contains x = has_cell-from_contains (cell x ∷ []) (cell x) (0, omega arit
 
 pub lone_is_comp : (x : ℕ) → x < 3 → IsComp (lone x)
 lone_is_comp x less = record {
-  kind = omega arith;
   some = omega arith;
   few = omega arith;
   on_map = λ k d within. (let e : 0 ≡ k = omega arith in

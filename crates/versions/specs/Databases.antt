@@ -5,12 +5,13 @@ use Rattle.moves.specs.declared.Cell.{Cell}
 use Rattle.moves.specs.Maps.{Map, IsSearchable}
 use Rattle.moves.specs.Components.{IsComponentList}
 use Rattle.cell_order.specs.declared.OrderKind.{OrderKind}
-use Rattle.cell_order.specs.Orders.{kind_of, ordered}
+use Rattle.cell_order.specs.declared.OrderKind.TheVariants.{Rows}
+use Rattle.cell_order.specs.Orders.{ordered}
 use Rattle.row_store.specs.Comps.{Comp, IsComp}
 
 -- a component as the database keeps it: its cells in the named order, and the rows of these
 pub record IsKeptAs (order : OrderKind) (component : List Cell) (comp : Comp) : Type 0 where
-  pub kind : comp.kind ≡ kind_of order
+  pub kind : comp.kind ≡ order
   pub cells : comp.cells ≡ ordered order component
   pub whole : IsComp comp
 
@@ -19,7 +20,7 @@ abbrev pub component_at : List (List Cell) → ℕ → List Cell
 component_at components label = slice_index_or components label []
 
 abbrev pub no_comp : Comp
-no_comp = record { kind = 0; cells = []; rows = [] }
+no_comp = record { kind = Rows; cells = []; rows = [] }
 
 abbrev pub comp_at : List Comp → ℕ → Comp
 comp_at comps label = slice_index_or comps label no_comp

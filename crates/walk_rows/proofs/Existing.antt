@@ -11,12 +11,12 @@ use Rattle.moves.specs.Components.{IsComponent}
 use Rattle.moves.specs.ComponentLaws.{HasJust}
 use Rattle.moves.specs.FirstSetLists.{cell_of}
 use Rattle.cell_order.specs.declared.OrderKind.{OrderKind}
-use Rattle.cell_order.specs.Orders.{kind_of, ordered}
+use Rattle.cell_order.specs.Orders.{ordered}
 use Rattle.cell_order.proofs.Permuted.{orders_are_permutations}
 use Rattle.row_store.specs.Rows.{AreRows, IsRowFrom}
 use Rattle.row_store.specs.Comps.{Comp}
 use Rattle.build_pool.specs.Places.{AreComponent, AreSources, CanBeBuilt}
-use Rattle.build_pool.proofs.Connecting.{IsReady, comp_in_order, component_in_order, kind_small, packable}
+use Rattle.build_pool.proofs.Connecting.{IsReady, comp_in_order, component_in_order, packable}
 use Rattle.versions.specs.Databases.{IsKeptAs, component_at, no_comp}
 use Rattle.version_build.proofs.Assembling.{database_from}
 use Rattle.version_build.proofs.Counted.{can_be_built}
@@ -59,8 +59,8 @@ kept_exists map order component is can =
     let ready : IsReady part component cells = record { given = record { same = same; can = can }; just = just } in
     let few : length cells ≤ MAX_PASSABLE = (let size = length_permutation cells component same in let few = can.few in omega arith) in
     let rows = rows_listed part cells (component_in_order part component cells ready) few in (
-      record { kind = kind_of order; cells = cells; rows = rows.items },
-      record { kind = refl; cells = refl; whole = comp_in_order part component cells ready (kind_of order) rows.items (kind_small order) rows.whole rows.each },
+      record { kind = order; cells = cells; rows = rows.items },
+      record { kind = refl; cells = refl; whole = comp_in_order part component cells ready order rows.items rows.whole rows.each },
     )
 
 pub databases_exist : DatabasesExist

@@ -1,4 +1,4 @@
-use Rattle.build_pool.proofs.Connecting.{AreGiven, ready, sources_in_order, comp_in_order, kind_small}
+use Rattle.build_pool.proofs.Connecting.{AreGiven, ready, sources_in_order, comp_in_order}
 use Rattle.bake_words.proofs.alone.with_rows.Goals as goal
 use Rattle.bake_words.proofs.alone.with_rows.Goals.{In_ok-order}
 
@@ -27,4 +27,4 @@ of_pool-requires c =
     let from = sources_in_order _ _ is in
     let some = rw c.deref-2.ensures.value at c.in_ok-rows.ensures in
     let all = rw (c.deref-3.ensures.value, some.size) at c.in_ok-put_rest.ensures.whole in
-    comp_in_order _ _ _ (ready _ _ is from.board from.just) _ _ (rw c.number.ensures (kind_small c.args.kind)) all.size (λ place within. (all.each place within).over from.board from.just)
+    comp_in_order _ _ _ (ready _ _ is from.board from.just) _ _ all.size (λ place within. (all.each place within).over from.board from.just)
