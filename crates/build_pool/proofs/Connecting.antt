@@ -30,8 +30,6 @@ use Rattle.moves.proofs.LawsOfPaths.{leads_to}
 use Rattle.moves.proofs.MovesInSets.{Has-none}
 use Rattle.moves.proofs.StraightPaths.{straight_is_legal}
 use Rattle.cell_order.specs.declared.OrderKind.{OrderKind}
-use Rattle.cell_order.specs.declared.OrderKind.TheVariants.{Rows, Dfs}
-use Rattle.cell_order.specs.Orders.{kind_of}
 use Rattle.row_store.specs.Rows.{row_at, IsRowFrom}
 use Rattle.row_store.specs.Comps.{IsComp}
 use Rattle.row_store.proofs.RowLaws.{HasJust-permuted}
@@ -109,10 +107,6 @@ module _ (map : Map) (cells : List Cell) (p : AreComponent map cells) where
 
 -- ---- the cells in another order
 
-pub kind_small : (kind : OrderKind) → kind_of kind ≤ 1
-kind_small Rows = omega arith
-kind_small Dfs = omega arith
-
 cells_decide : (a b : Cell) → Decides (is_cell a b) (a ≡ b)
 cells_decide a b = (λ yes_it_is. sym (is_cell-true a b yes_it_is), λ same. is_cell-same a b (sym same))
 
@@ -169,15 +163,14 @@ module _ (map : Map) (cells order : List Cell) (is : IsReady map cells order) wh
         (way.0, goes_through_more cells order (λ c inside. Contains-permutation cells order c back inside) from way.0 to way.1));
   }
 
-  pub comp_in_order : (kind : ℕ) (rows : List (List Run)) → kind ≤ 1 → length rows ≡ length order
+  pub comp_in_order : (kind : OrderKind) (rows : List (List Run)) → length rows ≡ length order
       → ((place : ℕ) → place < length order → IsRowFrom map order (cell_of order place) (row_at rows place))
       → IsComp (record { kind = kind; cells = order; rows = rows })
-  comp_in_order kind rows small long each =
+  comp_in_order kind rows long each =
       let size = given_size cells order is.given in
       let some = can.some in
       let few = can.few in
       record {
-        kind = small;
         some = omega arith;
         few = omega arith;
         on_map = All-permutation IsOnMap cells order back (on_map_all cells can.on_map);

@@ -8,13 +8,14 @@
 ghost use Rattle.std.specs.Prelude.{◌≡◌, ◌+◌, ◌*◌, ◌/◌, ◌<◌, ◌≤◌, length, IfOk};
 ghost use Rattle.moves.specs.Maps.{IsSearchable};
 ghost use Rattle.moves.specs.FirstSetLists.{cell_of, AreFirstSets};
-ghost use Rattle.cell_order.specs.Orders.{kind_of, ordered};
+ghost use Rattle.cell_order.specs.Orders.{ordered};
 ghost use Rattle.row_store.specs.Rows.{IsRowFrom, AreRows};
 ghost use Rattle.build_pool.specs.Places.{CanBeBuilt, AreComponent, AreWithNear};
-ghost use Rattle.build_pool.specs.Pieces.{CanBuild};
+ghost use Rattle.build_pool.specs.Pieces.{AreSome, CanBuild};
 
 mod board;
 mod harvest;
+mod known;
 mod pending;
 mod piece;
 mod plain;
@@ -24,12 +25,14 @@ use cell_order::{OrderKind, order_of};
 use first_sets::FirstSets;
 use grid_search::Search;
 pub use harvest::Harvest;
+pub use known::{KnownRows, NoneKnown};
 use lane_rows::Near;
 use moves::{Cell, Grid, MAX_PASSABLE};
 use pending::Pending;
 use piece::{Share, build_share};
 pub use plain::{put_rest, write_sets};
 use row_store::{CompData, RowPool};
+use rows::count_rows;
 use run_pack::{Run, pack};
 use std::alloc::{AllocError, Global};
 use std::thread;
@@ -38,16 +41,14 @@ use std::thread::Threads;
 /// The most workers that build side by side.
 pub const MAX_WORKERS: u32 = 64;
 
-/// How often at most the places of a tile are gone over back and forth. Tiles of maps that were met take a few.
-const SWEEPS: u32 = 64;
-
 /// What each piece of a build passes before its first row. A test's gate may hold it there.
 pub trait Gate: Sync {
     /// The piece with that number begins.
     fn enter(&self, piece: u32);
 
-    /// A worker has just built so many rows more, whosever piece they are of. It is told once a tile, so that progress can
-    /// be shown, and nothing is promised of it: rows that are built in another way than by tiles are not told.
+    /// A worker has just built so many rows more, whosever piece they are of. It is told once a tile, and before all
+    /// tiles once of the rows that are known, so that progress can be shown. Nothing is promised of it: rows that are
+    /// built in another way than by tiles are not told.
     fn built(&self, _rows: u32) {}
 }
 
@@ -57,6 +58,17 @@ pub struct FreeGate;
 
 impl Gate for FreeGate {
     fn enter(&self, _piece: u32) {}
+}
+
+/// Who builds.
+#[derive(Drop)]
+pub struct Crew<'a, R, G> {
+    /// What starts the threads of the workers.
+    pub rt: &'a R,
+    /// How many workers there are, from 1 to 64.
+    pub workers: u32,
+    /// What each piece passes.
+    pub gate: &'a G,
 }
 
 /// A component with the rows of its cells in the named order, built by so many workers, from 1 to 64. The cells are
@@ -79,64 +91,84 @@ pub fn build_rows<R: Threads + Sync, G: Gate>(
     requires cells { CanBeBuilt cells.now }
     requires worker { 0 < workers }
     requires workers { workers ≤ MAX_WORKERS }
-    ensures kind { IfOk result (λ comp. comp.kind ≡ kind_of kind) }
+    ensures kind { IfOk result (λ comp. comp.kind ≡ kind) }
     ensures cells { IfOk result (λ comp. comp.cells ≡ ordered kind cells.now) }
     ensures rows { IfOk result (λ comp. AreRows (ordered kind cells.now) comp.rows) }
 {
-    let effort = Effort {
-        workers,
-        sweeps: Some(SWEEPS),
-    };
-    build_with(rt, alloc, kind, cells, effort, gate)
+    let crew = Crew { rt, workers, gate };
+    build_rows_knowing(&crew, alloc, kind, cells, &NoneKnown)
 }
 
-/// How many workers build, and how often each goes over a tile's places back and forth before it gives up the tile.
-/// With `None` it builds no tile at all, and each row by a plain search.
-#[derive(Clone, Copy)]
-struct Effort {
-    workers: u32,
-    sweeps: Option<u32>,
-}
-
-impl Effort {
-    /// What one piece is built with.
-    fn share(self, piece: u32) -> Share
-        ensures workers { result.workers ≡ self.workers }
-        ensures piece { result.piece ≡ piece }
-    {
-        Share {
-            workers: self.workers,
-            piece,
-            sweeps: self.sweeps,
-        }
-    }
-}
-
-/// `build_rows` with so much effort. The rows are the same for any.
-fn build_with<R: Threads + Sync, G: Gate>(
-    rt: &R,
+/// `build_rows`, where some rows may be known before. These are taken as they are, and all others are built. The rows
+/// are the same whatever is known.
+///
+/// # Errors
+///
+/// `AllocError` where memory runs out.
+pub fn build_rows_knowing<R: Threads + Sync, G: Gate, K: KnownRows>(
+    crew: &Crew<'_, R, G>,
     alloc: Global,
     kind: OrderKind,
     cells: &[Cell],
-    effort: Effort,
-    gate: &G,
+    known: &K,
 ) -> Result<CompData, AllocError>
     requires cells { CanBeBuilt cells.now }
-    requires worker { 0 < effort.workers }
-    requires workers { effort.workers ≤ MAX_WORKERS }
-    ensures kind { IfOk result (λ comp. comp.kind ≡ kind_of kind) }
+    requires worker { 0 < crew.now.workers }
+    requires workers { crew.now.workers ≤ MAX_WORKERS }
+    ensures kind { IfOk result (λ comp. comp.kind ≡ kind) }
     ensures cells { IfOk result (λ comp. comp.cells ≡ ordered kind cells.now) }
     ensures rows { IfOk result (λ comp. AreRows (ordered kind cells.now) comp.rows) }
 {
     let order = order_of(alloc, kind, cells)?;
     let near = Near::of(alloc, &order)?;
-    let mut rows: RowPool = gather_with(rt, alloc, &order, &near, effort, gate)?;
+    let mut rows = gather_knowing(crew, alloc, &order, &near, known)?;
     put_rest(alloc, &order, &mut rows)?;
-    CompData::of_pool(alloc, kind.number(), order, rows)
+    CompData::of_pool(alloc, kind, order, rows)
 }
 
-/// What is kept of the tiles of a component, whose cells stand in some order, by so many workers, from 1 to 64. Pieces are
-/// cut and pass the gate as in `build_rows`. Of a cell whose tile was not solved it has nothing.
+/// The rows that are known, and those of the tiles of the other sources. Where a tile was not solved they are blank.
+fn gather_knowing<R: Threads + Sync, G: Gate, K: KnownRows>(
+    crew: &Crew<'_, R, G>,
+    alloc: Global,
+    cells: &[Cell],
+    near: &Near,
+    known: &K,
+) -> Result<RowPool, AllocError>
+    requires table { AreWithNear cells.now near.now }
+    requires worker { 0 < crew.now.workers }
+    requires workers { crew.now.workers ≤ MAX_WORKERS }
+    ensures { IfOk result (AreSome cells.now) }
+{
+    match known.known(alloc, cells, near)? {
+        Some(rows) => gather_beside(crew, alloc, cells, near, rows),
+        None => gather(crew.rt, alloc, cells, near, crew.workers, crew.gate),
+    }
+}
+
+/// These rows, and those of the tiles of the sources whose rows are blank among them.
+fn gather_beside<R: Threads + Sync, G: Gate>(
+    crew: &Crew<'_, R, G>,
+    alloc: Global,
+    cells: &[Cell],
+    near: &Near,
+    rows: RowPool,
+) -> Result<RowPool, AllocError>
+    requires table { AreWithNear cells.now near.now }
+    requires worker { 0 < crew.now.workers }
+    requires workers { crew.now.workers ≤ MAX_WORKERS }
+    requires rows { AreSome cells.now rows }
+    ensures { IfOk result (AreSome cells.now) }
+{
+    crew.gate.built(count_rows(&rows));
+    let pending = Pending::beside(alloc, &rows)?;
+    let built: RowPool = gather_pending(crew, alloc, cells, near, &pending)?;
+    let mut rows = rows;
+    rows.take_over(cells, built)?;
+    Ok(rows)
+}
+
+/// What is kept of the tiles of a component, whose cells stand in some order, by so many workers, from 1 to 64. Pieces
+/// are cut and pass the gate as in `build_rows`. Of a cell whose tile was not solved it has nothing.
 ///
 /// # Errors
 ///
@@ -154,38 +186,39 @@ pub fn gather<R: Threads + Sync, G: Gate, H: Harvest>(
     requires workers { workers ≤ MAX_WORKERS }
     ensures { IfOk result (H.gathered cells.now) }
 {
-    let effort = Effort {
-        workers,
-        sweeps: Some(SWEEPS),
-    };
-    gather_with(rt, alloc, cells, near, effort, gate)
+    let crew = Crew { rt, workers, gate };
+    let pending = Pending::new(alloc, cells.len())?;
+    gather_pending(&crew, alloc, cells, near, &pending)
 }
 
-/// `gather` with so much effort.
-fn gather_with<R: Threads + Sync, G: Gate, H: Harvest>(
-    rt: &R,
+/// `gather` of the tiles of those sources that are pending once their pieces have passed the gate.
+fn gather_pending<R: Threads + Sync, G: Gate, H: Harvest>(
+    crew: &Crew<'_, R, G>,
     alloc: Global,
     cells: &[Cell],
     near: &Near,
-    effort: Effort,
-    gate: &G,
+    pending: &Pending,
 ) -> Result<H, AllocError>
     requires table { AreWithNear cells.now near.now }
-    requires worker { 0 < effort.workers }
-    requires workers { effort.workers ≤ MAX_WORKERS }
+    requires worker { 0 < crew.now.workers }
+    requires workers { crew.now.workers ≤ MAX_WORKERS }
     ensures { IfOk result (H.gathered cells.now) }
 {
-    let pending = Pending::new(alloc, cells.len())?;
+    let workers = crew.workers;
+    let gate = crew.gate;
     let shares = thread::map_indices(
-        rt,
+        crew.rt,
         alloc,
-        effort.workers as usize,
+        workers as usize,
         &|piece: usize| -> Result<H, AllocError>
-            requires { CanBuild cells.now near.now effort.workers piece }
+            requires { CanBuild cells.now near.now workers piece }
             ensures { IfOk result (H.gathered cells.entry.now) }
         {
-            let share = effort.share(piece as u32);
-            build_share(alloc, cells, near, &pending, share, gate)
+            let share = Share {
+                workers,
+                piece: piece as u32,
+            };
+            build_share(alloc, cells, near, pending, share, gate)
         },
     )?;
     let mut all = H::begin(alloc, cells)?;
@@ -204,12 +237,12 @@ pub fn gather_alone<H: Harvest>(alloc: Global, cells: &[Cell], near: &Near) -> R
     requires table { AreWithNear cells.now near.now }
     ensures { IfOk result (H.gathered cells.now) }
 {
-    let effort = Effort {
-        workers: 1,
-        sweeps: Some(SWEEPS),
-    };
     let pending = Pending::new(alloc, cells.len())?;
-    build_share(alloc, cells, near, &pending, effort.share(0), &FreeGate)
+    let share = Share {
+        workers: 1,
+        piece: 0,
+    };
+    build_share(alloc, cells, near, &pending, share, &FreeGate)
 }
 
 /// The row of one source: the tight row of its first sets to the cells, which are a whole component of the grid in some

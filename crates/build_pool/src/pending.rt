@@ -5,6 +5,8 @@
 
 ghost use Rattle.std.specs.Prelude.{◌≡◌, length};
 
+use crate::rows::is_blank;
+use row_store::RowPool;
 use std::alloc::{AllocError, Global};
 use std::sync::atomic::{AtomicBool, AtomicU64, Ordering};
 use std::sync::{Mutex, MutexGuard};
@@ -20,6 +22,8 @@ const PATIENCE: u32 = 1_000;
 #[derive(Drop)]
 pub(crate) struct Pending {
     marks: Vec<AtomicBool>,
+    /// Whether the row at a place is known, which then is never offered; empty where none is.
+    known: Vec<bool>,
     /// How often a mark of each block has changed.
     changes: Vec<AtomicU64>,
     /// Whoever chooses has it.
@@ -40,9 +44,19 @@ impl Pending {
         }
         Ok(Pending {
             marks,
+            known: Vec::new(alloc),
             changes,
             turn: Mutex::new(()),
         })
+    }
+
+    /// No row may be taken yet, and those that are not blank among these never.
+    pub(crate) fn beside(alloc: Global, rows: &RowPool) -> Result<Pending, AllocError> {
+        let mut pending = Pending::new(alloc, rows.len())?;
+        for place in 0..rows.len() {
+            pending.known.push(!is_blank(rows, place))?;
+        }
+        Ok(pending)
     }
 
     /// Waits until nobody else chooses: each takes what is best of what the one before has left. Who has made way often
@@ -62,13 +76,21 @@ impl Pending {
         self.changes.len()
     }
 
-    /// The rows from one place to before another may be taken.
+    /// The rows from one place to before another may be taken, where they are not known.
     pub(crate) fn offer(&self, from: usize, upto: usize) {
         for place in from..upto {
             if let Some(mark) = self.marks.get(place) {
-                mark.store(true, Ordering::Relaxed);
+                mark.store(!self.is_known(place), Ordering::Relaxed);
                 self.count_change(place);
             }
+        }
+    }
+
+    /// Whether the row at a place is known.
+    fn is_known(&self, place: usize) -> bool {
+        match self.known.get(place) {
+            Some(is_known) => *is_known,
+            None => false,
         }
     }
 

@@ -17,17 +17,19 @@ use lane_rows::{LANES, Near, Tiles};
 use moves::{Cell, MAX_PASSABLE};
 use std::alloc::{AllocError, Global};
 
-/// One worker of so many, and how often the places of a tile are gone over back and forth before it is given up, where
-/// tiles are built at all.
+/// How often at most the places of a tile are gone over back and forth before the tile is given up. Tiles of maps that
+/// were met take a few.
+const SWEEPS: u32 = 64;
+
+/// One worker of so many.
 #[derive(Clone, Copy)]
 pub(crate) struct Share {
     pub workers: u32,
     pub piece: u32,
-    pub sweeps: Option<u32>,
 }
 
 /// What one worker gathers, after its piece has passed the gate; it has nothing of what others build. All that a row
-/// needs to be built is taken once. Without sweeps it builds none.
+/// needs to be built is taken once.
 pub(crate) fn build_share<G: Gate, H: Harvest>(
     alloc: Global,
     cells: &[Cell],
@@ -45,10 +47,7 @@ pub(crate) fn build_share<G: Gate, H: Harvest>(
         cut_of(cells.len(), share.workers, share.piece + 1),
     );
     let mut harvest = H::begin(alloc, cells)?;
-    let Some(sweeps) = share.sweeps else {
-        return Ok(harvest);
-    };
-    let mut bench = Workbench::new(alloc, near.len(), pending.blocks(), sweeps)?;
+    let mut bench = Workbench::new(alloc, near.len(), pending.blocks())?;
     for first in 0..near.len() {
         if pending.may_be_taken(first) {
             let built = build_tile(near, cells, pending, first as u16, &mut bench, &mut harvest)?;
@@ -77,17 +76,11 @@ struct Workbench {
     wanted: Vec<bool>,
     /// How many changes of each block of places it has seen.
     seen: Vec<u64>,
-    sweeps: u32,
 }
 
 impl Workbench {
     /// For a component of so many cells, in so many blocks.
-    fn new(
-        alloc: Global,
-        places: usize,
-        blocks: usize,
-        sweeps: u32,
-    ) -> Result<Workbench, AllocError>
+    fn new(alloc: Global, places: usize, blocks: usize) -> Result<Workbench, AllocError>
         requires { places ≤ MAX_PASSABLE }
         ensures count { IfOk result (λ bench. bench.tiles.count ≡ places) }
         ensures marks { IfOk result (λ bench. length bench.wanted.items ≡ places) }
@@ -96,7 +89,6 @@ impl Workbench {
             tiles: Tiles::new(alloc, places)?,
             wanted: vec![in alloc; false; places]?,
             seen: vec![in alloc; 0; blocks]?,
-            sweeps,
         })
     }
 }
@@ -122,7 +114,7 @@ fn build_tile<H: Harvest>(
     let Some(taken) = choose_tile(near, pending, first, bench) else {
         return Ok(0);
     };
-    if !bench.tiles.run(near, bench.sweeps) {
+    if !bench.tiles.run(near, SWEEPS) {
         return Ok(0);
     }
     harvest.gather(cells, near, &mut bench.tiles, taken)?;

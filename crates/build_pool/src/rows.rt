@@ -1,10 +1,10 @@
 //! The rows of a component while they are built, in whatever order they are found.
 
-ghost use Rattle.std.specs.Prelude.{◌≡◌, ◌<◌, ◌↔◌, [], length, OnOk, IsTrue};
+ghost use Rattle.std.specs.Prelude.{◌≡◌, ◌<◌, ◌≤◌, ◌↔◌, [], length, OnOk, IsTrue};
 ghost use Rattle.row_store.specs.Rows.{row_at};
 ghost use Rattle.build_pool.specs.Pieces.{ArePartly, AreWordsOver, HasBlank};
 
-use moves::Cell;
+use moves::{Cell, MAX_PASSABLE};
 use row_store::RowPool;
 use std::alloc::AllocError;
 
@@ -51,4 +51,17 @@ pub(crate) fn has_blank(rows: &RowPool) -> bool
         }
     }
     false
+}
+
+/// How many rows are not blank.
+pub(crate) fn count_rows(rows: &RowPool) -> u32
+    requires { length rows.now ≤ MAX_PASSABLE }
+{
+    let mut count = 0;
+    for place in 0..rows.len() {
+        if !is_blank(rows, place) {
+            count += 1;
+        }
+    }
+    count
 }

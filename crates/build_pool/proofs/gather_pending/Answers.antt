@@ -2,11 +2,11 @@ use Rattle.std.proofs.Common.{◌≡◌, ◌∷◌, suc, get_or, All, IfOk, arit
 use Rattle.std.specs.Vec.Iter.{into_iter_items}
 use Rattle.build_pool.specs.Pieces.{CanBuild}
 use Rattle.build_pool.proofs.Filling.{share_is}
-use Rattle.build_pool.proofs.gather_with.Goals as goal
+use Rattle.build_pool.proofs.gather_pending.Goals as goal
 
 pub map_indices-requires-after_bounds : goal.map_indices-requires-after_bounds
 map_indices-requires-after_bounds g c κs longer i within =
-    let can : CanBuild c.args.cells.now c.args.near.now c.args.effort.workers i = record {
+    let can : CanBuild c.args.cells.now c.args.near.now c.args.crew.now.workers i = record {
       table = c.requires.table;
       few = c.requires.table.sources.few;
       pieces = c.requires.workers;

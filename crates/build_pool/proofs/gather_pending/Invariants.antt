@@ -1,6 +1,6 @@
 use Rattle.std.proofs.Common.{All, IfOk}
 use Rattle.std.specs.Vec.Iter.{into_iter_items}
-use Rattle.build_pool.proofs.gather_with.Given as goal
+use Rattle.build_pool.proofs.gather_pending.Given as goal
 
 abbrev pub invariant-loop-share : goal.invariant-loop-share
 invariant-loop-share g l =
