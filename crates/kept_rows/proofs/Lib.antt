@@ -1,10 +1,14 @@
 pub mod Gaps
-pub mod Finding
 pub mod ByKeys
 pub mod Reading
 pub mod Leading
 pub mod Balls
+pub mod Bits
+pub mod Pairs
 pub mod Keeping
-pub mod Deciding
+pub mod Judging
+pub mod Surveying
 pub mod NewRows
-pub mod Beginning
+pub mod GateLanes
+pub mod GateKeeping
+pub mod GateLoops

@@ -1,12 +1,12 @@
 -- The row of a source whose first sets stay, over the list of cells with one less or one more.
-use Rattle.std.proofs.Common.{◌≡◌, ℕ, ◌+◌, ◌<◌, ◌≤◌, ◌↔◌, Bool, List, [], ◌∷◌, ◌++◌, length, map, take, set, get_or, slice_index, All, inl, inr, sym, ap, subst, ◌∙◌, arith, insert, remove}
+use Rattle.std.proofs.Common.{◌≡◌, ℕ, ◌<◌, ◌≤◌, ◌↔◌, List, [], ◌∷◌, length, map, set, get_or, slice_index, All, inl, inr, sym, ap, subst, ◌∙◌, arith, insert, remove}
 use Rattle.std.proofs.lemmas.Bool.{cases_lt, cases_eq}
-use Rattle.std.proofs.lemmas.List.{length-map, map-append, take_more}
+use Rattle.std.proofs.lemmas.List.{length-map}
 use Rattle.std.proofs.lemmas.List.Elements.{All-cons, All-from_get_or}
 use Rattle.std.proofs.lemmas.List.Edits.{length-insert, get_or-insert_below, get_or-insert_at, get_or-insert_above, length-remove, get_or-remove_below, get_or-remove_above}
 use Rattle.run_pack.specs.declared.Run.{Run}
 use Rattle.run_pack.specs.declared.TheConstants.{MAX_PLACES}
-use Rattle.run_pack.specs.Runs.{IsPacked, no_run, run_of_word}
+use Rattle.run_pack.specs.Runs.{IsPacked, run_of_word}
 use Rattle.run_pack.proofs.Fewest.{IsPacked-from_tight}
 use Rattle.run_pack.proofs.RowLemmas.{length-row}
 use Rattle.row_edit.specs.declared.PlaceSet.{PlaceSet}
@@ -25,9 +25,12 @@ use Rattle.row_store.specs.Comps.{Comp, IsComp}
 use Rattle.build_pool.specs.Pieces.{IsRowOver, AreWordsOver, AreSome}
 use Rattle.build_pool.proofs.Filling.{first_over, row_over, put_size, part_put}
 use Rattle.kept_rows.specs.Gaps.{past, IsPart}
-use Rattle.kept_rows.specs.Kept.{Searched, AreFound, AreKept, IsOfLane}
-use Rattle.kept_rows.proofs.Gaps.{past_before, past_behind, gap_inside, past_inside, place_back}
-use Rattle.kept_rows.proofs.Keeping.{just_part, here_inside, there_inside, source_is, first_over_whole, first_over_part, keeps_first}
+use Rattle.kept_rows.specs.declared.verdict.Verdict.{Verdict}
+use Rattle.kept_rows.specs.Targets.{AreMoved}
+use Rattle.kept_rows.specs.Staying.{AllStay, AreFirstSetsTo}
+use Rattle.kept_rows.specs.Verdicts.{AreSurveyed, IsOfLane}
+use Rattle.lane_rows.specs.Tables.{IsNumbered}
+use Rattle.kept_rows.proofs.Gaps.{past_before, past_behind, gap_inside, past_inside, place_back, just_without}
 
 -- the row whose runs these words keep
 abbrev pub map_words : List ℕ → List Run
@@ -119,117 +122,131 @@ words_over map cells place words just few over = record {
   row = over;
 }
 
-module _ (whole part : Searched) (gap : ℕ) (marks : List Bool) (found : AreFound whole part gap marks) (map : Map) (just : HasJust map whole.cells)
-    (place : ℕ) (sets : List ℕ) (inside : place < length part.cells) (kept : AreKept whole part gap marks place sets) where
+module _ (whole part : List Cell) (gap : ℕ) (is : IsPart whole part gap) (numbered : IsNumbered whole) (map : Map) (just : HasJust map whole) (place : ℕ) (sources sets : List ℕ) (inside : place < length part)
+    (all : AllStay whole part gap place) (first_sets : AreFirstSetsTo whole part gap place sources sets) (within : (lane : ℕ) → lane < 16 → slice_index sources lane < length part) where
   abbrev hole_of : Cell
-  hole_of = cell_of whole.cells gap
+  hole_of = cell_of whole gap
 
   abbrev from : Cell
-  from = cell_of part.cells place
+  from = cell_of part place
 
-  same : (to : ℕ) → to < length part.cells → HaveSameFirst map (without map hole_of) from (cell_of part.cells to)
-  same to l = keeps_first whole part gap marks found map just place sets inside kept to l
+  source_is : from ≡ cell_of whole (past gap place)
+  source_is = is.same place inside
+
+  just_part : HasJust (without map hole_of) part
+  just_part = just_without whole part gap is numbered.once map just
+
+  same : (to : ℕ) → to < length part → HaveSameFirst map (without map hole_of) from (cell_of part to)
+  same to l = (all.each to l).over map just
 
   own : (move : Move) → Has (slice_index sets 15) move ↔ IsFirstMove map from hole_of move
-  own move = subst (λ p. Has (slice_index sets 15) move ↔ IsFirstMove map from (cell_of whole.cells p) move) found.moved.last (first_over_whole whole part gap marks found map just place sets inside kept 15 (omega arith) move)
+  own = first_sets.last.over map just
+
+  shared : (lane : ℕ) → lane < 15 → (move : Move) → Has (slice_index sets lane) move ↔ IsFirstMove map from (cell_of part (slice_index sources lane)) move
+  shared lane l = (first_sets.shared lane l).over map just
+
+  short : (lane : ℕ) → lane < 15 → slice_index sources lane < length part
+  short lane l = within lane (omega arith)
 
   -- a known set over the longer list
-  known_whole : (first : List ℕ) → AreFirstSets map from whole.cells first → (one : PlaceSet) → IsOfLane whole.tile.sources sets one → IsSetOf first one
-  known_whole first are one of =
-      let at : one.place < length whole.cells = subst (λ p. p < length whole.cells) (sym of.place) (there_inside whole part gap marks found map just of.lane (let e = of.early in omega arith)) in
+  known_whole : (moved first : List ℕ) → AreMoved gap sources moved → AreFirstSets map from whole first → (one : PlaceSet) → IsOfLane moved sets one → IsSetOf first one
+  known_whole moved first are_moved are one of =
+      let place_is : one.place ≡ past gap (slice_index sources of.lane) = of.place ∙ are_moved.same of.lane of.early in
+      let at : past gap (slice_index sources of.lane) < length whole = past_inside whole part gap is (slice_index sources of.lane) (short of.lane of.early) in
+      let cell : cell_of part (slice_index sources of.lane) ≡ cell_of whole (past gap (slice_index sources of.lane)) = is.same (slice_index sources of.lane) (short of.lane of.early) in
       record {
         inside = omega (arith, are.whole);
-        is = ap (slice_index first) of.place
-            ∙ set_there map from whole.cells first (slice_index whole.tile.sources of.lane) (slice_index sets of.lane) are (there_inside whole part gap marks found map just of.lane (let e = of.early in omega arith)) (kept.bytes of.lane)
-            (λ move. first_over_whole whole part gap marks found map just place sets inside kept of.lane (let e = of.early in omega arith) move) ∙ sym of.set;
+        is = ap (slice_index first) place_is
+            ∙ set_there map from whole first (past gap (slice_index sources of.lane)) (slice_index sets of.lane) are at (first_sets.shared of.lane of.early).byte
+            (λ move. subst (λ c. Has (slice_index sets of.lane) move ↔ IsFirstMove map from c move) cell (shared of.lane of.early move)) ∙ sym of.set;
       }
 
   -- a known set over the shorter list
-  known_part : (first : List ℕ) → AreFirstSets (without map hole_of) from part.cells first → (one : PlaceSet) → IsOfLane part.tile.sources sets one → IsSetOf first one
+  known_part : (first : List ℕ) → AreFirstSets (without map hole_of) from part first → (one : PlaceSet) → IsOfLane sources sets one → IsSetOf first one
   known_part first are one of =
-      let at : one.place < length part.cells = subst (λ p. p < length part.cells) (sym of.place) (here_inside whole part gap marks found map just of.lane of.early) in
+      let at : one.place < length part = subst (λ p. p < length part) (sym of.place) (short of.lane of.early) in
       record {
         inside = omega (arith, are.whole);
         is = ap (slice_index first) of.place
-            ∙ set_there (without map hole_of) from part.cells first (slice_index part.tile.sources of.lane) (slice_index sets of.lane) are (here_inside whole part gap marks found map just of.lane of.early) (kept.bytes of.lane)
-            (λ move. first_over_part whole part gap marks found map just place sets inside kept of.lane of.early move) ∙ sym of.set;
+            ∙ set_there (without map hole_of) from part first (slice_index sources of.lane) (slice_index sets of.lane) are (short of.lane of.early) (first_sets.shared of.lane of.early).byte
+            (λ move.
+            let whole_map = shared of.lane of.early move in
+            let stays = same (slice_index sources of.lane) (short of.lane of.early) move in
+            (λ h. stays.0 (whole_map.0 h), λ h. whole_map.1 (stays.1 h))) ∙ sym of.set;
       }
 
   module _ (words new : List ℕ) (known : List PlaceSet) where
     -- the row without the cell
-    pub row_without : IsRowOver whole.cells (past gap place) (map_words words) → All (IsOfLane whole.tile.sources sets) known
-        → TakesOut words (length whole.cells) (record { place = gap; set = slice_index sets 15 }) known [] new → IsRowOver part.cells place (map_words new)
-    row_without former lanes takes =
+    pub row_without : (moved : List ℕ) → AreMoved gap sources moved → IsRowOver whole (past gap place) (map_words words) → All (IsOfLane moved sets) known
+        → TakesOut words (length whole) (record { place = gap; set = slice_index sets 15 }) known [] new → IsRowOver part place (map_words new)
+    row_without moved are_moved former lanes takes =
         let old = former.over map just in
-        let first : AreFirstSets map from whole.cells old.sets = subst (λ c. AreFirstSets map c whole.cells old.sets) (sym (source_is whole part gap marks found map just place sets inside kept)) old.first in
+        let first : AreFirstSets map from whole old.sets = subst (λ c. AreFirstSets map c whole old.sets) (sym source_is) old.first in
         let out : PlaceSet = record { place = gap; set = slice_index sets 15 } in
         let hole_set : IsSetOf old.sets out = record {
-          inside = omega (arith, first.whole, gap_inside whole.cells part.cells gap found.cells);
-          is = set_there map from whole.cells old.sets gap (slice_index sets 15) first (gap_inside whole.cells part.cells gap found.cells) (kept.bytes 15) own;
+          inside = omega (arith, first.whole, gap_inside whole part gap is);
+          is = set_there map from whole old.sets gap (slice_index sets 15) first (gap_inside whole part gap is) first_sets.last.byte own;
         } in
-        let given : IsKnownRow words (length whole.cells) (out ∷ known) old.sets = record {
+        let given : IsKnownRow words (length whole) (out ∷ known) old.sets = record {
           packed = IsPacked-from_tight (map_words words) old.sets old.tight;
           count = first.whole;
-          agree = All-cons (λ one. IsSetOf old.sets one) out known hole_set (λ k d l. known_whole old.sets first (get_or known k d) (lanes k d l));
+          agree = All-cons (λ one. IsSetOf old.sets one) out known hole_set (λ k d l. known_whole moved old.sets are_moved first (get_or known k d) (lanes k d l));
         } in
         let taken = takes old.sets given in
-        row_over part.cells place (remove old.sets gap) (map_words new)
-        (first_over (without map hole_of) part.cells place (remove old.sets gap) (just_part whole part gap marks found map just)
-        (sets_without whole.cells part.cells gap found.cells map (without map hole_of) from same old.sets first))
+        row_over part place (remove old.sets gap) (map_words new)
+        (first_over (without map hole_of) part place (remove old.sets gap) just_part (sets_without whole part gap is map (without map hole_of) from same old.sets first))
         (subst (λ ws. IsPacked (map_words ws) (remove old.sets gap)) (sym taken.behind) taken.packed).tight
 
     -- the row with the cell
-    pub row_with : IsRowOver part.cells place (map_words words) → All (IsOfLane part.tile.sources sets) known
-        → PutsIn words (length part.cells) (record { place = gap; set = slice_index sets 15 }) known [] new → IsRowOver whole.cells (past gap place) (map_words new)
+    pub row_with : IsRowOver part place (map_words words) → All (IsOfLane sources sets) known
+        → PutsIn words (length part) (record { place = gap; set = slice_index sets 15 }) known [] new → IsRowOver whole (past gap place) (map_words new)
     row_with former lanes puts =
-        let old = former.over (without map hole_of) (just_part whole part gap marks found map just) in
-        let given : IsKnownRow words (length part.cells) known old.sets = record {
+        let old = former.over (without map hole_of) just_part in
+        let given : IsKnownRow words (length part) known old.sets = record {
           packed = IsPacked-from_tight (map_words words) old.sets old.tight;
           count = old.first.whole;
           agree = λ k d l. known_part old.sets old.first (get_or known k d) (lanes k d l);
         } in
         let put = puts old.sets given in
-        let first : AreFirstSets map from whole.cells (insert old.sets gap (slice_index sets 15)) =
-        sets_with whole.cells part.cells gap found.cells map (without map hole_of) from same old.sets (slice_index sets 15) (kept.bytes 15) own old.first in
-        row_over whole.cells (past gap place) (insert old.sets gap (slice_index sets 15)) (map_words new)
-        (first_over map whole.cells (past gap place) (insert old.sets gap (slice_index sets 15)) just
-        (subst (λ c. AreFirstSets map c whole.cells (insert old.sets gap (slice_index sets 15))) (source_is whole part gap marks found map just place sets inside kept) first))
+        let first : AreFirstSets map from whole (insert old.sets gap (slice_index sets 15)) =
+        sets_with whole part gap is map (without map hole_of) from same old.sets (slice_index sets 15) first_sets.last.byte own old.first in
+        row_over whole (past gap place) (insert old.sets gap (slice_index sets 15)) (map_words new)
+        (first_over map whole (past gap place) (insert old.sets gap (slice_index sets 15)) just (subst (λ c. AreFirstSets map c whole (insert old.sets gap (slice_index sets 15))) source_is first))
         (subst (λ ws. IsPacked (map_words ws) (insert old.sets gap (slice_index sets 15))) (sym put.behind) put.packed).tight
 
 -- ---- what the code has
 
-module _ (former : Comp) (comp : IsComp former) (whole part : Searched) (gap : ℕ) (marks : List Bool) (found : AreFound whole part gap marks) (place : ℕ) (sets : List ℕ)
-    (inside : place < length part.cells) (kept : AreKept whole part gap marks place sets) (words known_at : List ℕ) (known : List PlaceSet) (new : List ℕ) where
+same_one : (one : PlaceSet) (place set : ℕ) → one.place ≡ place → one.set ≡ set → one ≡ record { place = place; set = set }
+same_one one place set p q = λ i. record { place = p i; set = q i }
+
+module _ (former : Comp) (comp : IsComp former) (whole part : List Cell) (gap : ℕ) (sources : List ℕ) (set_lists : List (List ℕ)) (ball : List ℕ) (verdicts : List Verdict)
+    (found : AreSurveyed whole part gap sources set_lists ball verdicts) (place : ℕ) (sets : List ℕ) (inside : place < length part) (all : AllStay whole part gap place)
+    (first_sets : AreFirstSetsTo whole part gap place sources sets) (words : List ℕ) (known : List PlaceSet) (new : List ℕ) where
   -- the new row over the shorter list
-  pub kept_without : former.cells ≡ whole.cells → (there count : ℕ) → there ≡ past gap place → map_words words ≡ row_at former.rows there → whole.tile.sources ≡ known_at → All (IsOfLane known_at sets) known
-      → count ≡ length whole.cells → TakesOut words count (record { place = gap; set = slice_index sets 15 }) known [] new → AreWordsOver part.cells place new
-  kept_without cells there count past_is read sources lanes size takes =
-      let just : HasJust comp.rows.map whole.cells = subst (HasJust comp.rows.map) cells comp.rows.just in
-      let short : past gap place < length whole.cells = past_inside whole.cells part.cells gap found.cells place inside in
-      let few : length part.cells ≤ MAX_PLACES = omega (arith, comp.few, ap length cells, found.cells.size) in
-      let old : IsRowOver whole.cells (past gap place) (map_words words) =
-      subst (λ row. IsRowOver whole.cells (past gap place) row) (sym (read ∙ ap (row_at former.rows) past_is))
+  pub kept_without : former.cells ≡ whole → (there count : ℕ) → there ≡ past gap place → map_words words ≡ row_at former.rows there → (moved : List ℕ) → AreMoved gap sources moved → All (IsOfLane moved sets) known
+      → count ≡ length whole → (one : PlaceSet) → one.place ≡ gap → one.set ≡ slice_index sets 15 → TakesOut words count one known [] new → AreWordsOver part place new
+  kept_without cells there count past_is read moved are_moved lanes size one place_is set_is takes =
+      let just : HasJust comp.rows.map whole = subst (HasJust comp.rows.map) cells comp.rows.just in
+      let short : past gap place < length whole = past_inside whole part gap found.cells place inside in
+      let few : length part ≤ MAX_PLACES = omega (arith, comp.few, ap length cells, found.cells.size) in
+      let old : IsRowOver whole (past gap place) (map_words words) =
+      subst (λ row. IsRowOver whole (past gap place) row) (sym (read ∙ ap (row_at former.rows) past_is))
       (subst (λ list. IsRowOver list (past gap place) (row_at former.rows (past gap place))) cells (rows_over former.cells former.rows comp.rows (past gap place) (omega (arith, ap length cells)))) in
-      words_over (without comp.rows.map (cell_of whole.cells gap)) part.cells place new (just_part whole part gap marks found comp.rows.map just) few
-      (row_without whole part gap marks found comp.rows.map just place sets inside kept words new known old (subst (λ at. All (IsOfLane at sets) known) (sym sources) lanes)
-      (subst (λ n. TakesOut words n (record { place = gap; set = slice_index sets 15 }) known [] new) size takes))
+      words_over (without comp.rows.map (cell_of whole gap)) part place new (just_without whole part gap found.cells found.numbered.once comp.rows.map just) few
+      (row_without whole part gap found.cells found.numbered comp.rows.map just place sources sets inside all first_sets found.inside words new known moved are_moved old lanes
+      (subst (λ n. TakesOut words n (record { place = gap; set = slice_index sets 15 }) known [] new) size (subst (λ out. TakesOut words count out known [] new) (same_one one gap (slice_index sets 15) place_is set_is) takes)))
 
   -- the new row over the longer list
-  pub kept_with : former.cells ≡ part.cells → (board : Map) × HasJust board whole.cells → length whole.cells ≤ MAX_PLACES → (there count : ℕ) → there ≡ past gap place → map_words words ≡ row_at former.rows place
-      → part.tile.sources ≡ known_at → All (IsOfLane known_at sets) known → count ≡ length part.cells → PutsIn words count (record { place = gap; set = slice_index sets 15 }) known [] new → AreWordsOver whole.cells there new
-  kept_with cells board few there count past_is read sources lanes size puts =
-      let old : IsRowOver part.cells place (map_words words) =
-      subst (λ row. IsRowOver part.cells place row) (sym read)
+  pub kept_with : former.cells ≡ part → (board : Map) × HasJust board whole → length whole ≤ MAX_PLACES → (there count : ℕ) → there ≡ past gap place → map_words words ≡ row_at former.rows place
+      → All (IsOfLane sources sets) known → count ≡ length part → (one : PlaceSet) → one.place ≡ gap → one.set ≡ slice_index sets 15 → PutsIn words count one known [] new → AreWordsOver whole there new
+  kept_with cells board few there count past_is read lanes size one place_is set_is puts =
+      let old : IsRowOver part place (map_words words) =
+      subst (λ row. IsRowOver part place row) (sym read)
       (subst (λ list. IsRowOver list place (row_at former.rows place)) cells (rows_over former.cells former.rows comp.rows place (omega (arith, ap length cells)))) in
-      subst (λ at. AreWordsOver whole.cells at new) (sym past_is)
-      (words_over board.0 whole.cells (past gap place) new board.1 few
-      (row_with whole part gap marks found board.0 board.1 place sets inside kept words new known old (subst (λ at. All (IsOfLane at sets) known) (sym sources) lanes)
-      (subst (λ n. PutsIn words n (record { place = gap; set = slice_index sets 15 }) known [] new) size puts)))
-
--- one run more of a row that is read
-pub read_more : (words : List ℕ) (row : List Run) (number word : ℕ) → map_words words ≡ take number row → number < length row → run_of_word word ≡ get_or row number no_run
-    → map_words (words ++ word ∷ []) ≡ take (number + 1) row
-read_more words row number word read l is = map-append run_of_word words (word ∷ []) ∙ ap (λ runs. runs ++ run_of_word word ∷ []) read ∙ ap (λ run. take number row ++ run ∷ []) is ∙ sym (take_more row number no_run l)
+      subst (λ at. AreWordsOver whole at new) (sym past_is)
+      (words_over board.0 whole (past gap place) new board.1 few
+      (row_with whole part gap found.cells found.numbered board.0 board.1 place sources sets inside all first_sets found.inside words new known old lanes
+      (subst (λ n. PutsIn words n (record { place = gap; set = slice_index sets 15 }) known [] new) size (subst (λ put. PutsIn words count put known [] new) (same_one one gap (slice_index sets 15) place_is set_is) puts))))
 
 -- rows that are some, and one more
 pub some_put : (cells : List Cell) (rows new : List (List Run)) (place : ℕ) (words : List ℕ) → AreSome cells rows → place < length rows → AreWordsOver cells place words → new ≡ set rows place (map_words words)

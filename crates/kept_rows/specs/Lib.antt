@@ -1,4 +1,7 @@
 pub mod Gaps
 pub mod Changes
 pub mod Targets
-pub mod Kept
+pub mod Pairs
+pub mod Staying
+pub mod Verdicts
+pub mod Gates

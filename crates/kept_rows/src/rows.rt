@@ -1,6 +1,6 @@
 //! New rows from former ones, and from the few sets that were found.
 
-ghost use Rattle.std.specs.Prelude.{◌≡◌, ℕ, ◌+◌, ◌<◌, ◌≤◌, [], true, All, IfOk, OnOk, IsTrue, length, map, slice_index};
+ghost use Rattle.std.specs.Prelude.{◌≡◌, ℕ, ◌+◌, ◌<◌, ◌≤◌, [], true, All, IfOk, IfSome, OnOk, IsTrue, length, map, slice_index, slice_index_or};
 ghost use Rattle.run_pack.specs.Runs.{run_of_word};
 ghost use Rattle.row_edit.specs.Edits.{PutsIn, TakesOut};
 ghost use Rattle.moves.specs.Maps.{Map};
@@ -8,25 +8,33 @@ ghost use Rattle.moves.specs.ComponentLaws.{HasJust};
 ghost use Rattle.row_store.specs.Rows.{row_at};
 ghost use Rattle.row_store.specs.Comps.{IsComp};
 ghost use Rattle.build_pool.specs.Pieces.{AreSome, AreWordsOver};
-ghost use Rattle.kept_rows.specs.Kept.{AreFound, IsOfLane};
+ghost use Rattle.kept_rows.specs.Staying.{AllStay, AreFirstSetsTo};
+ghost use Rattle.kept_rows.specs.Verdicts.{AreSurveyed, IsOfLane};
 
+use crate::ball::is_among;
 use crate::gap::place_past;
-use crate::kept::{Found, kept_sets};
-use crate::side::Side;
+use crate::pair::moved;
+use crate::survey::Survey;
 use crate::targets::SHARED_LANES;
+use crate::verdict::{is_kept, verdict_at};
 use lane_rows::LANES;
-use moves::MAX_PASSABLE;
+use moves::{Cell, MAX_PASSABLE};
 use row_edit::{PlaceSet, put_in, take_out};
 use row_store::{CompData, RowPool};
-use run_pack::word;
 use std::alloc::{AllocError, Global};
+
+/// A component, the cells of the new rows, and the place of the one cell that only the longer of the two lists has.
+#[derive(Drop)]
+pub(crate) struct Lists<'a> {
+    pub former: &'a CompData,
+    pub cells: &'a [Cell],
+    pub gap: usize,
+}
 
 /// Memory for one row after the other, taken once.
 #[derive(Drop)]
-pub(crate) struct Desk {
-    /// The words of the former row.
-    words: Vec<u32>,
-    /// The sets that are known of it.
+struct Desk {
+    /// The sets that are known of the former row.
     known: Vec<PlaceSet>,
     /// The words of the new row.
     row: Vec<u32>,
@@ -36,28 +44,27 @@ impl Desk {
     /// Memory that grows as it is used.
     fn new(alloc: Global) -> Desk {
         Desk {
-            words: Vec::new(alloc),
             known: Vec::new(alloc),
             row: Vec::new(alloc),
         }
     }
 
     /// Makes the row without a place, over so many, and says whether what is known decides it.
-    fn take_out(&mut self, count: u32, out: PlaceSet) -> Result<bool, AllocError>
-        ensures { IfOk result (λ done. done ≡ true → TakesOut self.old.words.items count out
+    fn take_out(&mut self, words: &[u32], count: u32, out: PlaceSet) -> Result<bool, AllocError>
+        ensures { IfOk result (λ done. done ≡ true → TakesOut words.now count out
             self.old.known.items [] self.new.row.items) }
     {
         self.row.clear();
-        take_out(&self.words, count, out, &self.known, &mut self.row)
+        take_out(words, count, out, &self.known, &mut self.row)
     }
 
     /// Makes the row with a place more, over so many, and says whether what is known decides it.
-    fn put_in(&mut self, count: u32, put: PlaceSet) -> Result<bool, AllocError>
-        ensures { IfOk result (λ done. done ≡ true → PutsIn self.old.words.items count put
+    fn put_in(&mut self, words: &[u32], count: u32, put: PlaceSet) -> Result<bool, AllocError>
+        ensures { IfOk result (λ done. done ≡ true → PutsIn words.now count put
             self.old.known.items [] self.new.row.items) }
     {
         self.row.clear();
-        put_in(&self.words, count, put, &self.known, &mut self.row)
+        put_in(words, count, put, &self.known, &mut self.row)
     }
 }
 
@@ -68,21 +75,19 @@ impl Desk {
 /// `AllocError` where memory runs out.
 pub(crate) fn rows_of_part(
     alloc: Global,
-    former: &CompData,
-    found: &Found,
+    lists: &Lists,
+    survey: &Survey,
 ) -> Result<RowPool, AllocError>
-    requires found { AreFound found.now.whole found.now.part found.now.gap found.now.marks }
-    requires sources { found.now.part.tile.sources ≡ found.now.sources }
-    requires moved { found.now.whole.tile.sources ≡ found.now.moved }
-    requires comp { IsComp former.now }
-    requires former { former.now.cells ≡ found.now.whole.cells }
-    requires few { length found.now.whole.cells ≤ MAX_PASSABLE }
-    ensures { IfOk result (AreSome found.now.part.cells) }
+    requires surveyed { AreSurveyed lists.now.former.now.cells lists.now.cells.now lists.now.gap
+        survey.now.sources survey.now.sets.items survey.now.ball.items survey.now.verdicts.items }
+    requires comp { IsComp lists.now.former.now }
+    ensures { IfOk result (AreSome lists.now.cells.now) }
 {
-    let mut rows = RowPool::blank(alloc, found.part.len())?;
+    let count = lists.cells.len();
+    let mut rows = RowPool::blank(alloc, count)?;
     let mut desk = Desk::new(alloc);
-    for place in 0..found.part.len() {
-        keep_without(former, found, place, &mut desk, &mut rows)?;
+    for place in 0..count {
+        keep_without(lists, survey, place, &mut desk, &mut rows)?;
     }
     Ok(rows)
 }
@@ -94,56 +99,49 @@ pub(crate) fn rows_of_part(
 /// `AllocError` where memory runs out.
 pub(crate) fn rows_of_whole(
     alloc: Global,
-    former: &CompData,
-    found: &Found,
+    lists: &Lists,
+    survey: &Survey,
 ) -> Result<RowPool, AllocError>
-    requires found { AreFound found.now.whole found.now.part found.now.gap found.now.marks }
-    requires sources { found.now.part.tile.sources ≡ found.now.sources }
-    requires comp { IsComp former.now }
-    requires former { former.now.cells ≡ found.now.part.cells }
-    requires few { length found.now.whole.cells ≤ MAX_PASSABLE }
-    requires board { (board : Map) × HasJust board found.now.whole.cells }
-    ensures { IfOk result (AreSome found.now.whole.cells) }
+    requires surveyed { AreSurveyed lists.now.cells.now lists.now.former.now.cells lists.now.gap
+        survey.now.sources survey.now.sets.items survey.now.ball.items survey.now.verdicts.items }
+    requires comp { IsComp lists.now.former.now }
+    requires few { length lists.now.cells.now ≤ MAX_PASSABLE }
+    requires board { (board : Map) × HasJust board lists.now.cells.now }
+    ensures { IfOk result (AreSome lists.now.cells.now) }
 {
-    let mut rows = RowPool::blank(alloc, found.whole.len())?;
+    let mut rows = RowPool::blank(alloc, lists.cells.len())?;
     let mut desk = Desk::new(alloc);
-    for place in 0..found.part.len() {
-        keep_with(former, found, place, &mut desk, &mut rows)?;
+    let count = lists.former.cells().len();
+    for place in 0..count {
+        keep_with(lists, survey, place, &mut desk, &mut rows)?;
     }
     Ok(rows)
 }
 
 /// Puts the row of a place of the shorter list, where it follows from that of the longer one.
 fn keep_without(
-    former: &CompData,
-    found: &Found,
+    lists: &Lists,
+    survey: &Survey,
     place: usize,
     desk: &mut Desk,
     rows: &mut RowPool,
 ) -> Result<(), AllocError>
-    requires found { AreFound found.now.whole found.now.part found.now.gap found.now.marks }
-    requires sources { found.now.part.tile.sources ≡ found.now.sources }
-    requires moved { found.now.whole.tile.sources ≡ found.now.moved }
-    requires comp { IsComp former.now }
-    requires former { former.now.cells ≡ found.now.whole.cells }
-    requires few { length found.now.whole.cells ≤ MAX_PASSABLE }
-    requires place { place < length found.now.part.cells }
-    requires part { AreSome found.now.part.cells rows.old }
-    ensures { OnOk result (AreSome found.now.part.cells rows.new) }
+    requires surveyed { AreSurveyed lists.now.former.now.cells lists.now.cells.now lists.now.gap
+        survey.now.sources survey.now.sets.items survey.now.ball.items survey.now.verdicts.items }
+    requires comp { IsComp lists.now.former.now }
+    requires place { place < length lists.now.cells.now }
+    requires part { AreSome lists.now.cells.now rows.old }
+    ensures { OnOk result (AreSome lists.now.cells.now rows.new) }
 {
-    let Some(sets) = kept_sets(found, place) else {
+    let Some(sets) = kept_sets(lists.former.cells(), lists.cells, lists.gap, survey, place) else {
         return Ok(());
     };
-    let there = place_past(found.gap, place);
-    read_row(former, there as u32, &mut desk.words)?;
-    note_known(found.moved, sets, &mut desk.known)?;
-    let out = PlaceSet {
-        place: found.gap as u32,
-        set: sets[SHARED_LANES],
-    };
-    let done = desk.take_out(found.whole.len() as u32, out)?;
-    if done {
-        put_row(rows, &found.part, place, &desk.row)
+    note_known(moved(survey.sources, lists.gap), sets, &mut desk.known)?;
+    let there = place_past(lists.gap, place);
+    let words = lists.former.row(there as u32);
+    let count = lists.former.cells().len();
+    if desk.take_out(words, count as u32, set_of_gap(lists.gap, sets))? {
+        put_row(rows, lists.cells, place, &desk.row)
     } else {
         Ok(())
     }
@@ -151,51 +149,84 @@ fn keep_without(
 
 /// Puts the row of a place of the shorter list over the longer one, where it follows from that over the shorter.
 fn keep_with(
-    former: &CompData,
-    found: &Found,
+    lists: &Lists,
+    survey: &Survey,
     place: usize,
     desk: &mut Desk,
     rows: &mut RowPool,
 ) -> Result<(), AllocError>
-    requires found { AreFound found.now.whole found.now.part found.now.gap found.now.marks }
-    requires sources { found.now.part.tile.sources ≡ found.now.sources }
-    requires comp { IsComp former.now }
-    requires former { former.now.cells ≡ found.now.part.cells }
-    requires few { length found.now.whole.cells ≤ MAX_PASSABLE }
-    requires board { (board : Map) × HasJust board found.now.whole.cells }
-    requires place { place < length found.now.part.cells }
-    requires part { AreSome found.now.whole.cells rows.old }
-    ensures { OnOk result (AreSome found.now.whole.cells rows.new) }
+    requires surveyed { AreSurveyed lists.now.cells.now lists.now.former.now.cells lists.now.gap
+        survey.now.sources survey.now.sets.items survey.now.ball.items survey.now.verdicts.items }
+    requires comp { IsComp lists.now.former.now }
+    requires few { length lists.now.cells.now ≤ MAX_PASSABLE }
+    requires board { (board : Map) × HasJust board lists.now.cells.now }
+    requires place { place < length lists.now.former.now.cells }
+    requires part { AreSome lists.now.cells.now rows.old }
+    ensures { OnOk result (AreSome lists.now.cells.now rows.new) }
 {
-    let Some(sets) = kept_sets(found, place) else {
+    let Some(sets) = kept_sets(lists.cells, lists.former.cells(), lists.gap, survey, place) else {
         return Ok(());
     };
-    read_row(former, place as u32, &mut desk.words)?;
-    note_known(found.sources, sets, &mut desk.known)?;
-    let put = PlaceSet {
-        place: found.gap as u32,
-        set: sets[SHARED_LANES],
-    };
-    let done = desk.put_in(found.part.len() as u32, put)?;
-    if done {
-        let there = place_past(found.gap, place);
-        put_row(rows, &found.whole, there, &desk.row)
+    note_known(survey.sources, sets, &mut desk.known)?;
+    let words = lists.former.row(place as u32);
+    let count = lists.former.cells().len();
+    if desk.put_in(words, count as u32, set_of_gap(lists.gap, sets))? {
+        let there = place_past(lists.gap, place);
+        put_row(rows, lists.cells, there, &desk.row)
     } else {
         Ok(())
     }
 }
 
-/// Reads the words of a row.
-fn read_row(former: &CompData, place: u32, words: &mut Vec<u32>) -> Result<(), AllocError>
-    requires comp { IsComp former.now }
-    requires place { place < length former.now.cells }
-    ensures { OnOk result (map run_of_word words.new.items ≡ row_at former.now.rows place) }
+/// The first sets from a place of the shorter list to those of the first pair's lanes, where all first sets from there
+/// stay and it is none of these.
+#[tactic(auto, using(crate::proofs::Surveying::kept_stays, crate::proofs::Surveying::kept_known))]
+fn kept_sets(
+    whole: &[Cell],
+    part: &[Cell],
+    gap: usize,
+    survey: &Survey,
+    place: usize,
+) -> Option<[u8; LANES]>
+    requires surveyed { AreSurveyed whole.now part.now gap survey.now.sources
+        survey.now.sets.items survey.now.ball.items survey.now.verdicts.items }
+    requires place { place < length part.now }
+    ensures stay { IfSome result (λ sets. AllStay whole.now part.now gap place) }
+    ensures sets { IfSome result (AreFirstSetsTo whole.now part.now gap place survey.now.sources) }
 {
-    words.clear();
-    for number in 0..former.row_len(place) {
-        words.push(word(former.row_run(place, number)))?;
+    // The lists are here for the contract alone.
+    let _ = whole;
+    let _ = part;
+    let _ = gap;
+    let sources = survey.sources;
+    let verdict = verdict_at(&survey.verdicts, place);
+    if !is_kept(verdict) || is_among(&sources, SHARED_LANES, place) {
+        return None;
     }
-    Ok(())
+    sets_at(&survey.sets, place)
+}
+
+/// The sets of a place, where there are some.
+fn sets_at(sets: &[[u8; LANES]], place: usize) -> Option<[u8; LANES]>
+    ensures { IfSome result (λ found. found ≡ slice_index_or sets.now place []) }
+{
+    if place < sets.len() {
+        Some(sets[place])
+    } else {
+        None
+    }
+}
+
+/// The set of the gap's own lane.
+fn set_of_gap(gap: usize, sets: [u8; LANES]) -> PlaceSet
+    requires { gap ≤ MAX_PASSABLE }
+    ensures place { result.place ≡ gap }
+    ensures set { result.set ≡ slice_index sets 15 }
+{
+    PlaceSet {
+        place: gap as u32,
+        set: sets[SHARED_LANES],
+    }
 }
 
 /// The sets of the lanes that both lists have, at their places.
@@ -217,13 +248,18 @@ fn note_known(
 }
 
 /// Puts the row that these words keep where its source has no row yet.
-fn put_row(rows: &mut RowPool, side: &Side, place: usize, words: &[u32]) -> Result<(), AllocError>
-    requires part { AreSome side.now.cells rows.old }
-    requires words { AreWordsOver side.now.cells place words.now }
-    ensures { OnOk result (AreSome side.now.cells rows.new) }
+fn put_row(
+    rows: &mut RowPool,
+    cells: &[Cell],
+    place: usize,
+    words: &[u32],
+) -> Result<(), AllocError>
+    requires part { AreSome cells.now rows.old }
+    requires words { AreWordsOver cells.now place words.now }
+    ensures { OnOk result (AreSome cells.now rows.new) }
 {
-    // The side is here for the contract alone.
-    let _ = side;
+    // The cells are here for the contract alone.
+    let _ = cells;
     if place < rows.len() && is_blank(rows, place) {
         rows.put_words(place, words)?;
     }

@@ -1,16 +1,16 @@
 //! A list of cells with a tile that is solved over it.
 
-ghost use Rattle.std.specs.Prelude.{◌≡◌, ℕ, ◌<◌, IsTrue, length, take, slice_index};
-ghost use Rattle.moves.specs.declared.Move.{Move};
+ghost use Rattle.std.specs.Prelude.{◌≡◌, ℕ, ◌<◌, IsTrue, IfOk, length, take, slice_index};
 ghost use Rattle.moves.specs.FirstSetLists.{cell_of};
-ghost use Rattle.lane_rows.specs.Tables.{end_of, IsEdge};
+ghost use Rattle.lane_rows.specs.Tables.{edges_of, AreNear, IsMutual, IsNumbered};
 ghost use Rattle.lane_rows.specs.Equations.{lane_of};
 ghost use Rattle.lane_rows.specs.Tiles.{IsSolved};
-ghost use Rattle.kept_rows.specs.Kept.{AreFirstByKeys, CanBeSearched, IsSearched, Searched};
+ghost use Rattle.kept_rows.specs.Pairs.{AreFirstByKeys, CanBeSearched, IsSearched, Searched};
 
 use crate::kernel::{bytes_in, first_sets};
-use crate::lookup::Lookup;
 use lane_rows::{LANES, Near, Tiles};
+use moves::Cell;
+use std::alloc::{AllocError, Global};
 use std::marker::Model;
 use std::simd::prelude::*;
 
@@ -20,29 +20,38 @@ const SWEEPS: u32 = 64;
 /// A list of cells, and a tile over it.
 #[derive(Drop)]
 pub(crate) struct Side<'a> {
-    lookup: Lookup<'a>,
+    cells: &'a [Cell],
     near: &'a Near,
     tiles: Tiles,
 }
 
 impl<'a> Model for Side<'a> {
-    ghost use Rattle.kept_rows.specs.Kept.{Searched};
+    ghost use Rattle.kept_rows.specs.Pairs.{Searched};
 
     ghost Value = { Searched };
 
-    ghost view = { λ s. record { cells = s.lookup; near = s.near.now; tile = s.tiles } };
+    ghost view = { λ s. record { cells = s.cells.now; near = s.near.now; tile = s.tiles } };
 }
 
 impl<'a> Side<'a> {
     /// The list of these cells, with the neighbours of each and room for a tile.
-    pub(crate) fn new(lookup: Lookup<'a>, near: &'a Near, tiles: Tiles) -> Side<'a>
-        ensures { result ≡ record { cells = lookup.entry; near = near.now; tile = tiles } }
+    ///
+    /// # Errors
+    ///
+    /// `AllocError` where memory runs out.
+    pub(crate) fn new(
+        alloc: Global,
+        cells: &'a [Cell],
+        near: &'a Near,
+    ) -> Result<Side<'a>, AllocError>
+        requires numbered { IsNumbered cells.now }
+        requires edges { AreNear cells.now near.now }
+        requires pairs { IsMutual near.now }
+        ensures can { IfOk result (λ side. CanBeSearched side) }
+        ensures cells { IfOk result (λ side. side.cells ≡ cells.now) }
     {
-        Side {
-            lookup,
-            near,
-            tiles,
-        }
+        let tiles = Tiles::new(alloc, cells.len())?;
+        Ok(Side { cells, near, tiles })
     }
 
     /// Solves the tile from these sources, and says whether that was done.
@@ -51,6 +60,8 @@ impl<'a> Side<'a> {
         requires inside { (lane : ℕ) → lane < 16
             → slice_index sources lane < length self.old.cells }
         ensures cells { self.new.cells ≡ self.old.cells }
+        ensures near { self.new.near ≡ self.old.near }
+        ensures can { CanBeSearched self.new }
         ensures sources { self.new.tile.sources ≡ sources }
         ensures searched { IsTrue result → IsSearched self.new }
     {
@@ -66,21 +77,17 @@ impl<'a> Side<'a> {
         ensures count { self.new.tile.count ≡ self.old.tile.count }
         ensures sources { self.new.tile.sources ≡ sources }
         ensures solved { IsTrue result → IsSolved self.new.near self.new.tile }
-        ensures keys { IsTrue result
-            → length (take self.new.tile.count self.new.tile.keys) ≡ self.new.tile.count }
     {
         self.tiles.set_sources(sources);
-        self.tiles.run(self.near, SWEEPS) && self.tiles.keys().len() == self.near.len()
+        self.tiles.run(self.near, SWEEPS)
     }
 
-    /// Where the moves from a place lead.
+    /// Where the moves from a place lead, by their numbers; the number of cells stands for nowhere.
     pub(crate) fn edges(&self, place: usize) -> [u16; 8]
-        requires { place < length self.now.cells }
-        ensures moves { length result ≡ 8 }
-        ensures edges { (move : Move)
-            → IsEdge self.now.cells (cell_of self.now.cells place) move (end_of result move) }
+        requires { place < length self.now.near }
+        ensures { result ≡ edges_of self.now.near place }
     {
-        self.lookup.around(self.lookup.cell(place))
+        self.near.table()[place]
     }
 
     /// The first sets from a place to the sources of all lanes, by keys alone.
@@ -97,7 +104,8 @@ impl<'a> Side<'a> {
 
     /// The keys of all lanes by places.
     fn rows(&self) -> &[u32x16]
-        ensures { result.now ≡ take self.now.tile.count self.now.tile.keys }
+        ensures rows { result.now ≡ take self.now.tile.count self.now.tile.keys }
+        ensures len { length result.now ≡ self.now.tile.count }
     {
         self.tiles.keys()
     }
@@ -108,21 +116,13 @@ impl<'a> Side<'a> {
         requires place { place < length self.now.cells }
         ensures { (lane : ℕ) → slice_index result lane ≡ lane_of self.now.tile.keys lane place }
     {
-        self.tiles.keys()[place].to_array()
+        self.rows()[place].to_array()
     }
 
-    /// The source of a lane.
-    pub(crate) fn source(&self, lane: usize) -> u16
-        requires { lane < 16 }
-        ensures { result ≡ slice_index self.now.tile.sources lane }
+    /// The cells.
+    pub(crate) fn cells(&self) -> &'a [Cell]
+        ensures { result.now ≡ self.now.cells }
     {
-        self.tiles.source(lane)
-    }
-
-    /// How many cells there are.
-    pub(crate) fn len(&self) -> usize
-        ensures { result ≡ length self.now.cells }
-    {
-        self.lookup.len()
+        self.cells
     }
 }

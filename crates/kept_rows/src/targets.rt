@@ -1,85 +1,163 @@
-//! The cells to which first sets are compared: those round the gap, and a few more.
+//! The cells to which first sets are compared: those round the gap first, and then those beside which most cells fail.
+//! Nothing is believed of a choice but what is checked of it.
 
-ghost use Rattle.std.specs.Prelude.{◌≡◌, ℕ, ◌<◌, ◌≤◌, ◌⊎◌, IsTrue, IsFalse, IfSome, length, slice_index};
-ghost use Rattle.moves.specs.declared.Move.{Move};
-ghost use Rattle.moves.specs.FirstSetLists.{cell_of};
-ghost use Rattle.kept_sources.specs.Balls.{IsBeside};
-ghost use Rattle.lane_rows.specs.Tables.{end_of};
-ghost use Rattle.kept_rows.specs.Targets.{AreMoved, AreTargets, IsAmong};
+ghost use Rattle.std.specs.Prelude.{◌≡◌, ℕ, ◌<◌, ◌≤◌, IsTrue, IfSome, length, slice_index};
+ghost use Rattle.kept_rows.specs.Targets.{AreTargets};
+ghost use Rattle.kept_rows.specs.Pairs.{CanBeSearched};
 
-use crate::gap::place_past;
+use crate::ball::{MAX_BALL, is_among};
+use crate::side::Side;
 use lane_rows::LANES;
 use moves::{Cell, MAX_PASSABLE};
 
 /// How many of the lanes have cells of the shorter list. The last one has the cell of the gap.
 pub(crate) const SHARED_LANES: usize = 15;
 
-/// How many cells a ball may have, so that two more find a lane.
-const MAX_BALL: usize = 13;
+/// How many cells the first pair gives to the ball at most, so that two more find a lane.
+const MAX_FIRST: usize = 13;
 
-/// How far from the gap the cells of the ball may be.
-const MAX_REACH: u32 = 2;
+/// How far from the gap the first pair's cells of the ball may be, as far as they find a lane.
+const MAX_REACH: u32 = 1;
 
-/// Places in all lanes, of which the first are the ball.
+/// Places in all lanes, of which so many first ones are for the ball.
 #[derive(Clone, Copy, Debug)]
 pub(crate) struct Targets {
     pub sources: [u16; LANES],
-    pub ball: usize,
+    pub count: usize,
 }
 
 impl Targets {
-    /// Adds a place where it is not there yet and so many lanes are not taken.
+    /// None for the ball.
+    fn none() -> Targets
+        ensures { result.count < 16 }
+    {
+        Targets {
+            sources: [0; LANES],
+            count: 0,
+        }
+    }
+
+    /// Adds a place where it is not there yet and so many lanes are not taken. The lanes behind it have it too.
     fn add(&mut self, place: usize, limit: usize)
         requires place { place < MAX_PASSABLE }
         requires limit { limit < 16 }
-        requires ball { self.old.ball < 16 }
-        ensures { self.new.ball < 16 }
+        requires count { self.old.count < 16 }
+        ensures { self.new.count < 16 }
     {
-        if self.ball < limit && !is_among(self.sources, self.ball, place) {
-            self.sources[self.ball] = place as u16;
-            self.ball += 1;
+        if self.count < limit && !is_among(&self.sources, self.count, place) {
+            for lane in self.count..LANES {
+                self.sources[lane] = place as u16;
+            }
+            self.count += 1;
+        }
+    }
+
+    /// The same, where all lanes have places among so many.
+    fn checked(self, count: usize) -> Option<Targets>
+        requires { self.count < 16 }
+        ensures { IfSome result (λ targets. (targets.count < 16) × ((lane : ℕ) → lane < 16
+            → slice_index targets.sources lane < count)) }
+    {
+        if are_inside(self.sources, count) {
+            Some(self)
+        } else {
+            None
         }
     }
 }
 
-/// The targets among the cells of the shorter list: those beside the cell of the gap, the next ones round it, and those
-/// before and behind the gap. `None` where the cells beside it do not all have a lane.
-pub(crate) fn targets_of(cells: &[Cell], hole: Cell, gap: usize) -> Option<Targets>
+/// The first targets: the cells beside that of the gap for the ball, and those before and behind the gap.
+pub(crate) fn first_targets(cells: &[Cell], hole: Cell, gap: usize) -> Option<Targets>
     requires { length cells.now ≤ MAX_PASSABLE }
-    ensures { IfSome result (λ targets. AreTargets cells.now hole targets.ball targets.sources) }
+    ensures { IfSome result (λ targets. AreTargets cells.now targets.sources targets.count) }
 {
-    let targets = choose(cells, hole, gap);
-    if are_inside(targets.sources, cells.len())
-        && is_ball(cells, hole, targets.sources, targets.ball)
-    {
-        Some(targets)
-    } else {
-        None
-    }
-}
-
-/// The targets, of which nothing is believed.
-fn choose(cells: &[Cell], hole: Cell, gap: usize) -> Targets
-    requires { length cells.now ≤ MAX_PASSABLE }
-    ensures { result.ball < 16 }
-{
-    let mut targets = Targets {
-        sources: [0; LANES],
-        ball: 0,
-    };
+    let mut targets = Targets::none();
     for reach in 1..MAX_REACH + 1 {
         add_near(cells, hole, reach, &mut targets);
     }
-    let ball = targets.ball;
+    let count = targets.count;
     if gap > 0 && gap <= cells.len() {
         targets.add(gap - 1, SHARED_LANES);
     }
     if gap < cells.len() {
         targets.add(gap, SHARED_LANES);
     }
-    Targets {
-        sources: targets.sources,
-        ball,
+    let sources = targets.sources;
+    Targets { sources, count }.checked(cells.len())
+}
+
+/// The next targets for a ball: the cells beside those of it at which most undecided cells fail. `None` where none
+/// fails, or nothing is beside them.
+pub(crate) fn next_targets(part: &Side, ball: &[u16], fails: [u32; MAX_BALL]) -> Option<Targets>
+    requires can { CanBeSearched part.now }
+    ensures { IfSome result (λ targets. AreTargets part.now.cells targets.sources targets.count) }
+{
+    let mut targets = Targets::none();
+    let mut left = fails;
+    for _ in 0..SHARED_LANES {
+        let worst = greatest(left);
+        if left[worst] > 0 && worst < ball.len() {
+            add_beside(part, ball, usize::from(ball[worst]), &mut targets);
+        }
+        left[worst] = 0;
+    }
+    if targets.count == 0 {
+        return None;
+    }
+    fill(part, ball, &mut targets);
+    targets.checked(part.cells().len())
+}
+
+/// Fills the other lanes with cells beside those that have one.
+fn fill(part: &Side, ball: &[u16], targets: &mut Targets)
+    requires can { CanBeSearched part.now }
+    requires count { targets.old.count < 16 }
+    ensures { targets.new.count < 16 }
+{
+    for lane in 0..SHARED_LANES {
+        if lane < targets.count {
+            let place = usize::from(targets.sources[lane]);
+            add_beside(part, ball, place, targets);
+        }
+    }
+}
+
+/// Where the greatest number stands, the first of equal ones.
+fn greatest(numbers: [u32; MAX_BALL]) -> usize
+    ensures { result < 64 }
+{
+    let mut best = 0usize;
+    for index in 0..MAX_BALL {
+        if numbers[index] > numbers[best] {
+            best = index;
+        }
+    }
+    best
+}
+
+/// Adds the cells to which moves lead from a place, and that are not in the ball.
+fn add_beside(part: &Side, ball: &[u16], place: usize, targets: &mut Targets)
+    requires can { CanBeSearched part.now }
+    requires count { targets.old.count < 16 }
+    ensures { targets.new.count < 16 }
+{
+    let count = part.cells().len();
+    if place < count {
+        add_ends(part.edges(place), count, ball, targets);
+    }
+}
+
+/// Adds those of some places, among so many, that are not in the ball.
+fn add_ends(ends: [u16; 8], count: usize, ball: &[u16], targets: &mut Targets)
+    requires few { count ≤ MAX_PASSABLE }
+    requires count { targets.old.count < 16 }
+    ensures { targets.new.count < 16 }
+{
+    for number in 0..8 {
+        let place = usize::from(ends[number]);
+        if place < count && !is_among(ball, ball.len(), place) {
+            targets.add(place, SHARED_LANES);
+        }
     }
 }
 
@@ -87,12 +165,12 @@ fn choose(cells: &[Cell], hole: Cell, gap: usize) -> Targets
 fn add_near(cells: &[Cell], hole: Cell, reach: u32, targets: &mut Targets)
     requires few { length cells.now ≤ MAX_PASSABLE }
     requires reach { reach ≤ MAX_REACH }
-    requires ball { targets.old.ball < 16 }
-    ensures { targets.new.ball < 16 }
+    requires count { targets.old.count < 16 }
+    ensures { targets.new.count < 16 }
 {
     for (place, cell) in cells.iter().enumerate() {
         if is_within(hole, *cell, reach) {
-            targets.add(place, MAX_BALL);
+            targets.add(place, MAX_FIRST);
         }
     }
 }
@@ -105,7 +183,7 @@ fn is_within(a: Cell, b: Cell, reach: u32) -> bool
 }
 
 /// Whether all places are among so many.
-fn are_inside(sources: [u16; LANES], count: usize) -> bool
+pub(crate) fn are_inside(sources: [u16; LANES], count: usize) -> bool
     ensures { IsTrue result → (lane : ℕ) → lane < 16 → slice_index sources lane < count }
 {
     for lane in 0..LANES {
@@ -114,70 +192,4 @@ fn are_inside(sources: [u16; LANES], count: usize) -> bool
         }
     }
     true
-}
-
-/// Whether the first places are those of all cells beside one.
-fn is_ball(cells: &[Cell], hole: Cell, sources: [u16; LANES], ball: usize) -> bool
-    requires { ball < 16 }
-    ensures { IsTrue result → (place : ℕ) → place < length cells.now
-        → IsBeside hole (cell_of cells.now place) → IsAmong sources ball place }
-{
-    for (place, cell) in cells.iter().enumerate() {
-        if is_beside(hole, *cell) && !is_among(sources, ball, place) {
-            return false;
-        }
-    }
-    true
-}
-
-/// Whether the other cell may be one of the eight round a cell.
-fn is_beside(cell: Cell, other: Cell) -> bool
-    ensures { IsFalse result → IsBeside cell other → ⊥ }
-{
-    u32::from(other.x) <= u32::from(cell.x) + 1
-        && u32::from(cell.x) <= u32::from(other.x) + 1
-        && u32::from(other.y) <= u32::from(cell.y) + 1
-        && u32::from(cell.y) <= u32::from(other.y) + 1
-}
-
-/// Whether a place is the source of one of so many first lanes.
-pub(crate) fn is_among(sources: [u16; LANES], count: usize, place: usize) -> bool
-    requires { count ≤ 16 }
-    ensures yes { IsTrue result → IsAmong sources count place }
-    ensures other { IsFalse result → IsAmong sources count place → ⊥ }
-{
-    for lane in 0..count {
-        if usize::from(sources[lane]) == place {
-            return true;
-        }
-    }
-    false
-}
-
-/// Whether some of the moves leads to a place that is none of the ball, among so many places.
-pub(crate) fn leads_out(edges: [u16; 8], count: usize, targets: Targets) -> bool
-    requires { targets.ball ≤ 16 }
-    ensures { IsFalse result → (move : Move) → end_of edges move < count
-        → IsAmong targets.sources targets.ball (end_of edges move) }
-{
-    for number in 0..8 {
-        let to = usize::from(edges[number]);
-        if to < count && !is_among(targets.sources, targets.ball, to) {
-            return true;
-        }
-    }
-    false
-}
-
-/// The sources over the longer list: the same cells, and in the last lane that of the gap.
-pub(crate) fn moved(sources: [u16; LANES], gap: usize) -> [u16; LANES]
-    requires inside { (lane : ℕ) → lane < 16 → slice_index sources lane < MAX_PASSABLE }
-    requires gap { gap ≤ MAX_PASSABLE }
-    ensures { AreMoved gap sources result }
-{
-    let mut places = [gap as u16; LANES];
-    for lane in 0..SHARED_LANES {
-        places[lane] = place_past(gap, usize::from(sources[lane])) as u16;
-    }
-    places
 }

@@ -1,11 +1,10 @@
+use Rattle.std.proofs.Common.{refl, length, ap}
 use Rattle.kept_rows.proofs.NewRows.{kept_with}
 use Rattle.kept_rows.proofs.rows.keep_with.Goals as goal
-
-pub read_row-requires-clause-place : goal.read_row-requires-clause-place
-read_row-requires-clause-place c = rw c.requires.former c.requires.place
 
 pub put_row-requires-clause-words : goal.put_row-requires-clause-words
 put_row-requires-clause-words c =
     rw c.deref.ensures.value
-    (kept_with c.args.former.now c.requires.comp c.args.found.now.whole c.args.found.now.part c.args.found.now.gap c.args.found.now.marks c.requires.found c.args.place c.in-Some.sets c.requires.place c.in-Some.ensures
-    _ _ _ _ c.requires.former c.requires.board c.requires.few _ _ c.place_past-there.ensures.past c.in_ok-read_row.ensures c.requires.sources c.in_ok-note_known.ensures c.len.ensures (c.in_ok-done.ensures c.if-done.true))
+    (kept_with c.args.lists.now.former.now c.requires.comp c.args.lists.now.cells.now c.args.lists.now.former.now.cells c.args.lists.now.gap _ _ _ _ c.requires.surveyed c.args.place c.in-Some.sets c.requires.place
+    (rw c.cells.ensures.cells at c.in-Some.ensures.stay) (rw c.cells.ensures.cells at c.in-Some.ensures.sets) _ _ _ refl c.requires.board c.requires.few _ _ c.place_past-there.ensures.past c.row-words.ensures.row c.in_ok-note_known.ensures
+    (ap length c.cells-count.ensures.cells) c.set_of_gap.result c.set_of_gap.ensures.place c.set_of_gap.ensures.set (c.in_ok-put_in.ensures c.if-branch.true))

@@ -1,5 +1,5 @@
 use Rattle.std.proofs.Common.{All}
-use Rattle.kept_rows.specs.Kept.{IsOfLane}
+use Rattle.kept_rows.specs.Verdicts.{IsOfLane}
 use Rattle.kept_rows.proofs.rows.note_known.Given as goal
 
 abbrev pub invariant-loop-lane : goal.invariant-loop-lane

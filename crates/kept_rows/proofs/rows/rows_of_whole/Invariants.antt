@@ -2,4 +2,4 @@ use Rattle.build_pool.specs.Pieces.{AreSome}
 use Rattle.kept_rows.proofs.rows.rows_of_whole.Given as goal
 
 abbrev pub invariant-loop-place : goal.invariant-loop-place
-invariant-loop-place l = AreSome l.found.whole.cells l.rows
+invariant-loop-place l = AreSome l.lists.cells.now l.rows

@@ -2,4 +2,4 @@ use Rattle.std.proofs.Common.{◌<◌}
 use Rattle.kept_rows.proofs.targets.add_near.Given as goal
 
 abbrev pub invariant-loop-place : goal.invariant-loop-place
-invariant-loop-place l = l.targets.ball < 16
+invariant-loop-place l = l.targets.count < 16
