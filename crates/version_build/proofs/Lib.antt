@@ -7,3 +7,4 @@ pub mod Differences
 pub mod Missing
 pub mod JustThese
 pub mod RowByRow
+pub mod Knowing

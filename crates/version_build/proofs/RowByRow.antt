@@ -20,13 +20,13 @@ use Rattle.moves.specs.FirstSets.{IsFirstMove}
 use Rattle.moves.specs.MoveSets.{Has}
 use Rattle.moves.specs.declared.Move.{Move}
 use Rattle.cell_order.specs.declared.OrderKind.{OrderKind}
-use Rattle.cell_order.specs.Orders.{kind_of, ordered}
+use Rattle.cell_order.specs.Orders.{ordered}
 use Rattle.cell_order.proofs.Permuted.{orders_are_permutations}
 use Rattle.row_store.specs.Rows.{row_at, IsRowFrom}
 use Rattle.row_store.specs.Comps.{Comp, IsComp}
 use Rattle.row_store.proofs.RowLaws.{HasJust-permuted, components_keep_each_row}
 use Rattle.build_pool.specs.Places.{AreComponent, CanBeBuilt}
-use Rattle.build_pool.proofs.Connecting.{IsReady, comp_in_order, kind_small}
+use Rattle.build_pool.proofs.Connecting.{IsReady, comp_in_order}
 use Rattle.versions.specs.Databases.{IsKeptAs, component_at, no_comp}
 use Rattle.version_build.specs.Plans.{ArePrepared, AreComplete, CanAllBeBuilt, cells_missing}
 use Rattle.version_build.specs.Builders.{Parted, no_part, part_at, rows_left, part_from, comp_or, comp_of, AreBegun, AreFirstRows, IsPart, IsPartFrom, IsUnderWay, PushesRow}
@@ -270,7 +270,7 @@ complete_from map order component cells rows None is can p none =
     record {
       kind = refl;
       cells = p.0;
-      whole = comp_in_order part component cells ready (kind_of order) rows (kind_small order) long (rows_alone map part component cells rows is order_of just_cells long p.2);
+      whole = comp_in_order part component cells ready order rows long (rows_alone map part component cells rows is order_of just_cells long p.2);
     }
 complete_from map order component cells rows (Some comp) is can p none = p.2
 

@@ -6,7 +6,7 @@ use Rattle.moves.specs.Maps.{Map, IsSearchable}
 use Rattle.moves.specs.Components.{IsComponentList}
 use Rattle.moves.specs.FirstSetLists.{cell_of}
 use Rattle.cell_order.specs.declared.OrderKind.{OrderKind}
-use Rattle.cell_order.specs.Orders.{kind_of, ordered}
+use Rattle.cell_order.specs.Orders.{ordered}
 use Rattle.row_store.specs.Rows.{row_at, IsRowFrom}
 use Rattle.row_store.specs.Comps.{Comp}
 use Rattle.versions.specs.Databases.{IsKeptAs, component_at}
@@ -41,7 +41,7 @@ part_from order component (Some comp) = record { kept = Some comp; cells = []; r
 
 -- the component with its rows: the one that is kept, or that of the cells and the rows
 abbrev pub comp_or : OrderKind → List Cell → List (List Run) → Option Comp → Comp
-comp_or order cells rows None = record { kind = kind_of order; cells = cells; rows = rows }
+comp_or order cells rows None = record { kind = order; cells = cells; rows = rows }
 comp_or order cells rows (Some comp) = comp
 
 abbrev pub comp_of : OrderKind → Parted → Comp

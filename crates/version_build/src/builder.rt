@@ -3,12 +3,10 @@
 ghost use Rattle.std.specs.Prelude.{◌≡◌, ◌+◌, ◌<◌, IfOk, OnOk, OnErr};
 ghost use Rattle.versions.specs.Databases.{IsVersion};
 
-use crate::parts::{Part, comps_of, first_open, parts_of};
+use crate::parts::{Desk, Part, comps_of, first_open, parts_of};
 use crate::plans::{BuildReport, Plan};
 use cell_order::OrderKind;
 use components::Labels;
-use first_sets::FirstSets;
-use grid_search::Search;
 use moves::Grid;
 use std::alloc::{AllocError, Global};
 use std::marker::Model;
@@ -28,10 +26,7 @@ pub struct Builder {
     at: usize,
     /// How many rows are not yet built.
     left: u32,
-    search: Search,
-    sets: FirstSets,
-    /// The sets of the row under way.
-    bytes: Vec<u8>,
+    desk: Desk,
 }
 
 impl Model for Builder {
@@ -46,11 +41,12 @@ impl Model for Builder {
     } };
 
     ghost invariant = { λ b. IsUnderWay b.grid b.kind b.labels b.parts.items b.at b.left
-        × (b.grid.width * b.grid.height ≤ b.search.room) × (b.grid.width * b.grid.height ≤ b.sets.room) };
+        × (b.grid.width * b.grid.height ≤ b.desk.search.room) × (b.grid.width * b.grid.height ≤ b.desk.sets.room) };
 }
 
 impl Builder {
-    /// Takes the memory for the searches, and orders the cells whose rows are to be built.
+    /// Takes the memory for the searches, orders the cells whose rows are to be built, and finds those rows that stay
+    /// as they were in a former version.
     ///
     /// # Errors
     ///
@@ -64,13 +60,12 @@ impl Builder {
             grid,
             labels,
             prepared,
+            bases,
         } = plan;
         let (kind, report) = (prepared.kind, prepared.report);
         let room = (grid.width() * grid.height()) as usize;
-        let search = Search::new(alloc, room)?;
-        let sets = FirstSets::new(alloc, room)?;
-        let bytes = Vec::with_capacity(alloc, report.built as usize)?;
-        let parts = parts_of(alloc, kind, &labels, prepared.comps)?;
+        let desk = Desk::new(alloc, room, report.built as usize)?;
+        let parts = parts_of(alloc, kind, &labels, prepared.comps, &bases)?;
         Ok(Builder {
             alloc,
             prefix,
@@ -81,9 +76,7 @@ impl Builder {
             parts,
             at: 0,
             left: report.built,
-            search,
-            sets,
-            bytes,
+            desk,
         })
     }
 
@@ -106,12 +99,7 @@ impl Builder {
         ensures refused { OnErr result (self.new ≡ self.old) }
     {
         self.at = first_open(&self.parts, self.at);
-        self.parts[self.at].push_row(
-            &self.grid,
-            &mut self.search,
-            &mut self.sets,
-            &mut self.bytes,
-        )?;
+        self.parts[self.at].push_row(&self.grid, &mut self.desk)?;
         self.left -= 1;
         Ok(())
     }

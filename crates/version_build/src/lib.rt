@@ -1,9 +1,11 @@
 //! Builds versions: the database of a map, with what a former version has of it taken over.
 //!
 //! A component's database depends on its cells alone, and so one that has the same cells in the former version is
-//! shared with it. The rows of all others are built. (Botea 2011; Strasser, Harabor and Botea 2014)
+//! shared with it. The rows of all others are built, but for those that follow from the rows of the component that a
+//! cell was blocked in or freed beside. (Botea 2011; Strasser, Harabor and Botea 2014)
 #![tactic(auto)]
 
+mod bases;
 mod builder;
 mod building;
 mod edited;

@@ -1,26 +1,61 @@
 //! The parts of a version that is built row by row: one for each component of its map.
 
-ghost use Rattle.std.specs.Prelude.{◌≡◌, ℕ, ◌+◌, ◌*◌, ◌<◌, ◌≤◌, ◌↔◌, [], map, length, sum_by, slice_index_or, All};
+ghost use Rattle.std.specs.Prelude.{◌≡◌, ℕ, ◌+◌, ◌*◌, ◌<◌, ◌≤◌, ◌↔◌, [], ◌∷◌, ◌++◌, map, length, sum_by, slice_index_or, All, Some, None};
 ghost use Rattle.std.specs.Prelude.{IfOk, IfSome, IfNone, OnOk, OnErr, IsTrue};
 ghost use Rattle.std.specs.Arc.{arc_value};
 ghost use Rattle.std.specs.Option.{option_map};
+ghost use Rattle.run_pack.specs.Runs.{run_of_word};
 ghost use Rattle.moves.specs.Maps.{IsSearchable};
 ghost use Rattle.moves.specs.FirstSetLists.{cell_of, AreFirstSets};
 ghost use Rattle.row_store.specs.Comps.{IsComp};
+ghost use Rattle.row_store.specs.Pools.{CanBeKept};
 ghost use Rattle.build_pool.specs.Places.{AreComponent, CanBeBuilt};
+ghost use Rattle.build_pool.specs.Pieces.{AreSome, AreWordsOver};
 ghost use Rattle.versions.specs.Databases.{IsKeptAs};
 ghost use Rattle.version_build.specs.Plans.{ArePrepared, CanAllBeBuilt};
 ghost use Rattle.version_build.specs.Builders.{AreBegun, PushesRow, comp_of, part_at, part_from, rows_left};
 
+use crate::bases::{Base, Bases};
 use cell_order::{OrderKind, order_of};
 use components::Labels;
 use first_sets::FirstSets;
 use grid_search::Search;
 use moves::{Cell, Grid, MAX_PASSABLE};
 use row_store::{CompData, RowPool};
+use run_pack::{Run, run_of};
 use std::alloc::{AllocError, Global};
 use std::marker::Model;
 use std::sync::Arc;
+
+/// What a row is made with, taken once.
+#[derive(Drop)]
+pub(crate) struct Desk {
+    search: Search,
+    sets: FirstSets,
+    /// The first sets of a row that is searched.
+    bytes: Vec<u8>,
+    /// The runs of a row that is known.
+    runs: Vec<Run>,
+}
+
+impl Desk {
+    /// For a map of so many cells, of which so many have no row yet.
+    ///
+    /// # Errors
+    ///
+    /// `AllocError` where memory runs out.
+    pub(crate) fn new(alloc: Global, room: usize, left: usize) -> Result<Desk, AllocError>
+        ensures search { IfOk result (λ desk. room ≤ desk.search.room) }
+        ensures sets { IfOk result (λ desk. room ≤ desk.sets.room) }
+    {
+        Ok(Desk {
+            search: Search::new(alloc, room)?,
+            sets: FirstSets::new(alloc, room)?,
+            bytes: Vec::with_capacity(alloc, left)?,
+            runs: Vec::new(alloc),
+        })
+    }
+}
 
 /// One component: the former version's, or its cells in their order and the rows that are built so far.
 #[derive(Drop)]
@@ -31,37 +66,66 @@ pub(crate) struct Part {
     cells: Vec<Cell>,
     /// The rows of the first of these cells.
     rows: RowPool,
+    /// Rows of the cells that are known before they are built. Those that are not known are blank.
+    known: Option<RowPool>,
 }
 
 impl Model for Part {
+    ghost use Rattle.std.specs.Prelude.{IfSome};
     ghost use Rattle.std.specs.Arc.{arc_value};
     ghost use Rattle.std.specs.Option.{option_map};
+    ghost use Rattle.build_pool.specs.Pieces.{AreSome};
     ghost use Rattle.version_build.specs.Builders.{Parted};
 
     ghost Value = { Parted };
 
     ghost view = { λ p. record { kept = option_map arc_value p.kept; cells = p.cells.items; rows = p.rows } };
+
+    ghost invariant = { λ p. IfSome p.known (AreSome p.cells.items) };
 }
 
 impl Part {
-    /// The component before any of its rows is built.
+    /// The component before any of its rows is built, which came of a former one.
     fn of(
         alloc: Global,
         kind: OrderKind,
         cells: &[Cell],
         kept: Option<Arc<CompData>>,
+        base: Base,
     ) -> Result<Part, AllocError>
         requires { CanBeBuilt cells.now }
         ensures { IfOk result (λ part. part ≡ part_from kind cells.now (option_map arc_value kept)) }
     {
-        let cells = match kept {
-            Some(_) => Vec::new(alloc),
-            None => order_of(alloc, kind, cells)?,
-        };
-        Ok(Part {
-            kept,
-            cells,
+        match kept {
+            Some(comp) => Ok(Part::kept(alloc, comp)),
+            None => Part::open(alloc, kind, cells, base),
+        }
+    }
+
+    /// A component that is kept.
+    fn kept(alloc: Global, comp: Arc<CompData>) -> Part
+        ensures { result ≡ record { kept = Some (arc_value comp); cells = []; rows = [] } }
+    {
+        Part {
+            kept: Some(comp),
+            cells: Vec::new(alloc),
             rows: RowPool::new(alloc),
+            known: None,
+        }
+    }
+
+    /// A component whose rows are to be built.
+    fn open(alloc: Global, kind: OrderKind, cells: &[Cell], base: Base) -> Result<Part, AllocError>
+        requires { CanBeBuilt cells.now }
+        ensures { IfOk result (λ part. part ≡ part_from kind cells.now None) }
+    {
+        let order = order_of(alloc, kind, cells)?;
+        let known = base.rows(alloc, &order)?;
+        Ok(Part {
+            kept: None,
+            cells: order,
+            rows: RowPool::new(alloc),
+            known,
         })
     }
 
@@ -72,32 +136,46 @@ impl Part {
         self.rows.len() >= self.cells.len()
     }
 
-    /// Builds the row of the next cell.
-    pub(crate) fn push_row(
-        &mut self,
-        grid: &Grid,
-        search: &mut Search,
-        sets: &mut FirstSets,
-        bytes: &mut Vec<u8>,
-    ) -> Result<(), AllocError>
+    /// Takes over the row of the next cell where it is known, and else builds it.
+    pub(crate) fn push_row(&mut self, grid: &Grid, desk: &mut Desk) -> Result<(), AllocError>
         requires component { AreComponent grid.now self.old.cells }
         requires searchable { IsSearchable grid.now }
         requires few { length self.old.cells ≤ MAX_PASSABLE }
         requires left { length self.old.rows < length self.old.cells }
-        requires search { grid.now.width * grid.now.height ≤ search.old.room }
-        requires sets { grid.now.width * grid.now.height ≤ sets.old.room }
+        requires search { grid.now.width * grid.now.height ≤ desk.old.search.room }
+        requires sets { grid.now.width * grid.now.height ≤ desk.old.sets.room }
         ensures ok { OnOk result (PushesRow grid.now self.old self.new) }
         ensures refused { OnErr result (self.new ≡ self.old) }
-        ensures search { search.new.room ≡ search.old.room }
-        ensures sets { sets.new.room ≡ sets.old.room }
+        ensures search { desk.new.search.room ≡ desk.old.search.room }
+        ensures sets { desk.new.sets.room ≡ desk.old.sets.room }
     {
         let place = self.rows.len();
-        write_sets(grid, &self.cells, place, search, sets, bytes)?;
-        self.rows.push_sets(bytes)?;
-        if place + 1 == self.cells.len() {
-            self.rows.shrink();
+        if let Some(words) = known_words(&self.known, &self.cells, place) {
+            push_words(&mut self.rows, words, &mut desk.runs)?;
+            self.shrink_if_done();
+            return Ok(());
         }
+        write_sets(
+            grid,
+            &self.cells,
+            place,
+            &mut desk.search,
+            &mut desk.sets,
+            &mut desk.bytes,
+        )?;
+        self.rows.push_sets(&desk.bytes)?;
+        self.shrink_if_done();
         Ok(())
+    }
+
+    /// Gives back memory that is not needed once all rows are built.
+    fn shrink_if_done(&mut self)
+        ensures { self.new ≡ self.old }
+    {
+        if self.rows.len() == self.cells.len() {
+            self.rows.shrink();
+            self.known = None;
+        }
     }
 
     /// The component with its rows, all of which are built.
@@ -105,11 +183,16 @@ impl Part {
         requires { IfNone self.kept (IsComp (comp_of kind self)) }
         ensures { IfOk result (λ comp. arc_value comp ≡ comp_of kind self) }
     {
-        let Part { kept, cells, rows } = self;
+        let Part {
+            kept,
+            cells,
+            rows,
+            ..
+        } = self;
         match kept {
             Some(comp) => Ok(comp),
             None => {
-                let comp = CompData::of_pool(alloc, kind.number(), cells, rows)?;
+                let comp = CompData::of_pool(alloc, kind, cells, rows)?;
                 Ok(Arc::new(alloc, comp)?)
             }
         }
@@ -122,6 +205,7 @@ pub(crate) fn parts_of(
     kind: OrderKind,
     labels: &Labels,
     comps: Vec<Option<Arc<CompData>>>,
+    bases: &Bases,
 ) -> Result<Vec<Part>, AllocError>
     requires long { length comps.items ≡ length labels.now }
     requires cells { CanAllBeBuilt labels.now }
@@ -130,8 +214,9 @@ pub(crate) fn parts_of(
 {
     let mut parts = Vec::with_capacity(alloc, labels.count() as usize)?;
     for kept in comps {
-        let cells = labels.cells(parts.len() as u32);
-        parts.push(Part::of(alloc, kind, cells, kept)?)?;
+        let label = parts.len();
+        let cells = labels.cells(label as u32);
+        parts.push(Part::of(alloc, kind, cells, kept, bases.base(label))?)?;
     }
     Ok(parts)
 }
@@ -166,6 +251,37 @@ pub(crate) fn first_open(parts: &[Part], from: usize) -> usize
         }
     }
     parts.len()
+}
+
+/// The words of the row of the cell at a place, where it is known.
+fn known_words<'a>(known: &'a Option<RowPool>, cells: &[Cell], place: usize) -> Option<&'a [u32]>
+    requires { IfSome known.now (AreSome cells.now) }
+    ensures { IfSome result (λ words. AreWordsOver cells.now place words.now) }
+{
+    // The cells are here for the contract alone.
+    let _ = cells;
+    let Some(rows) = known else {
+        return None;
+    };
+    if place >= rows.len() {
+        return None;
+    }
+    let words = rows.row(place);
+    if words.is_empty() { None } else { Some(words) }
+}
+
+/// Adds the row that these words keep. The runs are room for it.
+fn push_words(rows: &mut RowPool, words: &[u32], runs: &mut Vec<Run>) -> Result<(), AllocError>
+    requires rows { length rows.old < MAX_PASSABLE }
+    requires words { CanBeKept (map run_of_word words.now) }
+    ensures ok { OnOk result (rows.new ≡ rows.old ++ map run_of_word words.now ∷ []) }
+    ensures refused { OnErr result (rows.new ≡ rows.old) }
+{
+    runs.clear();
+    for word in words {
+        runs.push(run_of(*word))?;
+    }
+    rows.push_row(runs)
 }
 
 /// Searches from the cell at a place, and writes its first sets to the cells in their order.

@@ -9,6 +9,7 @@ ghost use Rattle.versions.specs.Databases.{IsVersion};
 ghost use Rattle.versions.specs.Counts.{AreCounts};
 ghost use Rattle.version_build.specs.Plans.{IsAllBuilt, Follows, IsShared, ArePrepared, cells_missing};
 
+use crate::bases::Bases;
 use crate::edited::labels_of;
 use crate::plans::{BuildReport, Plan, Prepared};
 use cell_order::OrderKind;
@@ -45,11 +46,13 @@ pub fn plan(
 {
     let labels = labels_of(alloc, former, &grid)?;
     let prepared = prepare(alloc, former, kind, &grid, &labels)?;
+    let bases = Bases::of(alloc, former, kind, &labels, &prepared.comps)?;
     Ok(Plan {
         prefix,
         grid,
         labels,
         prepared,
+        bases,
     })
 }
 

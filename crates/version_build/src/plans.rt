@@ -3,6 +3,7 @@
 ghost use Rattle.std.specs.Prelude.{◌≡◌, ◌+◌};
 ghost use Rattle.moves.specs.Maps.{passable_count};
 
+use crate::bases::Bases;
 use cell_order::OrderKind;
 use components::Labels;
 use moves::Grid;
@@ -35,6 +36,7 @@ pub struct Plan {
     pub(crate) grid: Grid,
     pub(crate) labels: Labels,
     pub(crate) prepared: Prepared,
+    pub(crate) bases: Bases,
 }
 
 impl Model for Plan {

@@ -11,7 +11,7 @@ pub loop-kept-preserved : goal.loop-kept-preserved
 loop-kept-preserved c =
     let steps : into_iter_items c.loop-kept.kept-iterator ≡ c.in-Some.kept ∷ into_iter_items c.next.new.self = c.in-Some.ensures.steps.0 in
     let joined = rw steps at c.loop-kept.invariant.2 in
-    let place : c.len.result ≡ length c.loop-kept.parts.items = omega (arith, c.len.ensures, c.loop-kept.parts.ok.0) in
+    let place : c.len-label.result ≡ length c.loop-kept.parts.items = omega (arith, c.len-label.ensures, c.loop-kept.parts.ok.0) in
     let cells : c.cells-cells.result.now ≡ component_at c.args.labels.now (length c.loop-kept.parts.items) = c.cells-cells.ensures ∙ ap (component_at c.args.labels.now) place in (
       tt,
       tt,
