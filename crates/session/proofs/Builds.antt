@@ -1,12 +1,11 @@
 -- What a build gets.
-use Rattle.std.proofs.Common.{◌≡◌, ◌<◌, ◌≤◌, ℕ, IsFalse, inl, inr, List, refl, sym, subst, ap, ◌∙◌, arith}
+use Rattle.std.proofs.Common.{◌≡◌, ◌<◌, ℕ, IsFalse, inl, inr, [], ◌∷◌, ◌++◌, refl, sym, subst, ap, ◌∙◌, arith}
 use Rattle.std.proofs.lemmas.Bool.{cases_lt}
 use Rattle.moves.specs.Maps.{IsSearchable}
 use Rattle.edit_log.specs.Edits.{EditsInside, map_after}
 use Rattle.versions.specs.Counts.{AreCounts}
 use Rattle.versions.specs.Databases.{Versioned}
 use Rattle.version_build.specs.declared.plans.BuildReport.{BuildReport}
-use Rattle.path_core.specs.declared.entry.Entry.{Entry}
 use Rattle.path_core.specs.declared.entry.Entry.TheVariants.{Publish}
 use Rattle.path_core.specs.declared.board.Job.{Job}
 use Rattle.path_core.specs.declared.board.Look.{Look}
@@ -16,134 +15,126 @@ use Rattle.path_core.specs.Passes.{BeginsWith}
 use Rattle.path_core.proofs.Bounds.{legal_histories_are_bounded}
 use Rattle.path_core.proofs.Growing.{map_at_all, prefix_goes_on}
 use Rattle.path_core.proofs.Passing.{begins_then, count_grows, job_inside, job_leads, map_now_searchable}
+use Rattle.query_proto.specs.declared.replies.Reply.TheVariants as reply
+use Rattle.query_proto.specs.declared.requests.Request.TheVariants as request
+use Rattle.session.specs.Answering.{ServesAt}
 use Rattle.session.specs.Building.{IsBuiltAfter, IsTaken, TakesNone}
-use Rattle.session.specs.Desks.{IsPublished, Looks}
-use Rattle.session.specs.Served.{BuildsVersion, HasNothingNew, IsOvertaken}
-use Rattle.session.specs.Standing.{IsSound, Meanwhile, Place}
+use Rattle.session.specs.Desks.{AddsNone, IsPublished, Looks, MayPublish}
+use Rattle.session.specs.Served.{BuildsVersion, HasNothingNew}
+use Rattle.session.specs.Standing.{AtDesk, IsSound, Meanwhile, Place}
 use Rattle.session.proofs.Meanwhile.{enters_begin, meanwhile_begin, meanwhile_then}
 
--- the edits of a job lie inside the held map, and the map after them may be searched
-pub taken_inside : (place : Place) (before seen : List Entry) (held : Versioned) (job : Job) → IsSound place seen held → IsTaken place before seen held job
-    → EditsInside held.map job.edits.edits
-taken_inside place before seen held job sound taken =
-    rw (sound.is.map, taken.edits.edits) (job_inside place.start seen held.prefix taken.edits.legal)
-
-taken_map : (place : Place) (before seen : List Entry) (held : Versioned) (job : Job) → IsSound place seen held → IsTaken place before seen held job
-    → map_after held.map job.edits.edits ≡ map_now place.start seen
-taken_map place before seen held job sound taken =
-    rw (sound.is.map, taken.edits.edits) (job_leads place.start seen held.prefix)
-
-pub taken_searchable : (place : Place) (before seen : List Entry) (held : Versioned) (job : Job) → IsSound place seen held
-    → IsTaken place before seen held job → IsSearchable (map_after held.map job.edits.edits)
-taken_searchable place before seen held job sound taken =
-    subst IsSearchable (sym (taken_map place before seen held job sound taken))
-    (map_now_searchable place.start seen held.prefix taken.edits.legal sound.within (subst IsSearchable sound.is.map sound.is.whole.searchable))
-
-pub nothing_new : (place : Place) (before seen : List Entry) (held : Versioned) (job : Job) → IsTaken place before seen held job
-    → job.prefix ≡ held.prefix → HasNothingNew place before seen job.prefix
-nothing_new place before seen held job taken same = record {
-  others = meanwhile_then place before taken.looked seen taken.to_look taken.to_job;
+pub nothing_new : (old now : AtDesk) (job : Job) → IsTaken old now job → job.prefix ≡ now.version.prefix
+    → HasNothingNew old.place old.seen now.seen job.prefix
+nothing_new old now job taken same = record {
+  others = meanwhile_then old.place old.seen taken.looked now.seen taken.to_look taken.to_job;
   at = taken.looked;
-  later = meanwhile_begin place before taken.looked taken.to_look;
-  earlier = meanwhile_begin place taken.looked seen taken.to_job;
+  later = meanwhile_begin old.place old.seen taken.looked taken.to_look;
+  earlier = meanwhile_begin old.place taken.looked now.seen taken.to_job;
   published = same ∙ taken.held_is;
   accepted = taken.edits.prefix;
 }
 
--- more edits are accepted than the held version has
-taken_more : (place : Place) (before seen : List Entry) (held : Versioned) (job : Job) → IsSound place seen held → IsTaken place before seen held job
-    → (job.prefix ≡ held.prefix → ⊥) → held.prefix < accepted_count seen
-taken_more place before seen held job sound taken other =
-    let all = taken.edits.prefix in
-    let within = sound.within in
-    elim (cases_lt held.prefix (accepted_count seen)) [
-      | inl lower ↦ lower
-      | inr same ↦ absurd (other (omega (arith, all, within, same)))
-    ]
+module _ (old now : AtDesk) (job : Job) (same : now.place ≡ old.place) (sound : IsSound now) (taken : IsTaken old now job) where
+  -- the version that is held, at the place from before
+  held_is : IsVersionAt old.place.start old.place.order now.seen now.version.prefix now.version
+  held_is = subst (λ (place : Place). IsVersionAt place.start place.order now.seen now.version.prefix now.version) same sound.is
 
-module _ (place : Place) (before seen : List Entry) (held next : Versioned) (job : Job) (report : BuildReport) (sound : IsSound place seen held)
-    (taken : IsTaken place before seen held job) (made : IsBuiltAfter held job report next) where
-  built_prefix : next.prefix ≡ accepted_count seen
-  built_prefix = made.prefix ∙ taken.edits.prefix
+  -- the edits of the job lie inside the held map, and the map after them may be searched
+  pub taken_inside : EditsInside now.version.map job.edits.edits
+  taken_inside = rw (held_is.map, taken.edits.edits) (job_inside old.place.start now.seen now.version.prefix taken.edits.legal)
 
-  built_map : next.map ≡ map_at place.start seen next.prefix
-  built_map =
-      made.map ∙ taken_map place before seen held job sound taken ∙ sym (map_at_all place.start seen) ∙ ap (map_at place.start seen) (sym built_prefix)
+  taken_map : map_after now.version.map job.edits.edits ≡ map_now old.place.start now.seen
+  taken_map = rw (held_is.map, taken.edits.edits) (job_leads old.place.start now.seen now.version.prefix)
 
-  pub may_publish : MayBePublished place.start place.order seen next
-  may_publish = record {
-    accepted = omega (arith, built_prefix);
-    is = record { map = built_map; after = refl; order = made.order ∙ sound.is.order; whole = made.whole };
-  }
+  pub taken_searchable : IsSearchable (map_after now.version.map job.edits.edits)
+  taken_searchable =
+      subst IsSearchable (sym taken_map)
+      (map_now_searchable old.place.start now.seen now.version.prefix taken.edits.legal sound.within
+      (subst IsSearchable held_is.map held_is.whole.searchable))
 
-  pub builds_version : (job.prefix ≡ held.prefix → ⊥) → (after : List Entry) → IsPublished place next.prefix seen after
-      → BuildsVersion place before after next.prefix report.built report.kept
-  builds_version other after published = record {
-    looked = taken.looked;
-    taken = seen;
-    between = published.between;
-    to_look = taken.to_look;
-    to_job = taken.to_job;
-    to_publish = published.others;
-    own = published.own;
-    all = built_prefix;
-    newer = let more = taken_more place before seen held job sound taken other in omega (arith, more, built_prefix, taken.held_is);
-    newest = published.newer;
-    counts = subst (λ m. AreCounts (map_at place.start seen (published_prefix taken.looked)) m report.built report.kept) built_map
-        (subst (λ m. AreCounts m next.map report.built report.kept) (sound.is.map ∙ ap (map_at place.start seen) taken.held_is) made.counts);
-  }
+  -- more edits are accepted than the held version has
+  taken_more : (job.prefix ≡ now.version.prefix → ⊥) → now.version.prefix < accepted_count now.seen
+  taken_more other =
+      let all = taken.edits.prefix in
+      let within = sound.within in
+      elim (cases_lt now.version.prefix (accepted_count now.seen)) [
+        | inl lower ↦ lower
+        | inr same ↦ absurd (other (omega (arith, all, within, same)))
+      ]
 
-  pub is_overtaken : (job.prefix ≡ held.prefix → ⊥) → (after : List Entry) (by : ℕ) → Meanwhile place seen after × (by ≡ published_prefix after) × (next.prefix ≤ by)
-      → IsOvertaken place before after by
-  is_overtaken other after by (others, by_is, enough) = record {
-    looked = taken.looked;
-    taken = seen;
-    to_look = taken.to_look;
-    to_job = taken.to_job;
-    to_publish = others;
-    newer = let more = taken_more place before seen held job sound taken other in omega (arith, more, taken.held_is);
-    published = by_is;
-    enough = omega (arith, built_prefix, enough);
-  }
+  -- no version was built or published
+  pub no_memory : (new : AtDesk) → (job.prefix ≡ now.version.prefix → ⊥) → AddsNone now new → new.version ≡ now.version
+      → ServesAt old request.Build reply.NoMemory new
+  no_memory new other others kept =
+      let more = taken_more other in
+      let then = subst (λ (place : Place). Meanwhile place now.seen new.seen) same others in
+      let grown = count_grows now.seen new.seen (meanwhile_begin old.place now.seen new.seen then) in
+      let first = meanwhile_then old.place old.seen taken.looked now.seen taken.to_look taken.to_job in
+      let lower : now.version.prefix < accepted_count new.seen = omega (arith, more, grown) in
+      ((meanwhile_then old.place old.seen now.seen new.seen first then, subst (λ (v : Versioned). v.prefix < accepted_count new.seen) (sym kept) lower), refl)
 
--- no version was built or published
-pub no_memory : (place : Place) (before seen after : List Entry) (held : Versioned) (job : Job) → IsSound place seen held → IsTaken place before seen held job
-    → (job.prefix ≡ held.prefix → ⊥) → Meanwhile place seen after → Meanwhile place before after × (held.prefix < accepted_count after)
-no_memory place before seen after held job sound taken other others =
-    let more = taken_more place before seen held job sound taken other in
-    let grown = count_grows seen after (meanwhile_begin place seen after others) in
-    (meanwhile_then place before seen after (meanwhile_then place before taken.looked seen taken.to_look taken.to_job) others, omega (arith, more, grown))
+  module _ (next : Versioned) (report : BuildReport) (made : IsBuiltAfter now.version job report next) where
+    built_prefix : next.prefix ≡ accepted_count now.seen
+    built_prefix = made.prefix ∙ taken.edits.prefix
+
+    built_map : next.map ≡ map_at old.place.start now.seen next.prefix
+    built_map = made.map ∙ taken_map ∙ sym (map_at_all old.place.start now.seen) ∙ ap (map_at old.place.start now.seen) (sym built_prefix)
+
+    pub may_publish : MayPublish now next
+    may_publish =
+        let there : MayBePublished old.place.start old.place.order now.seen next = record {
+          accepted = omega (arith, built_prefix);
+          is = record { map = built_map; after = refl; order = made.order ∙ held_is.order; whole = made.whole };
+        } in subst (λ (place : Place). MayBePublished place.start place.order now.seen next) (sym same) there
+
+    pub builds_version : (new : AtDesk) → (job.prefix ≡ now.version.prefix → ⊥) → IsPublished now new next.prefix
+        → BuildsVersion old.place old.seen new.seen next.prefix report.built report.kept
+    builds_version new other published = record {
+      looked = taken.looked;
+      taken = now.seen;
+      between = published.between;
+      to_look = taken.to_look;
+      to_job = taken.to_job;
+      to_publish = subst (λ (place : Place). Meanwhile place now.seen published.between) same published.others;
+      own = published.own ∙ ap (λ (place : Place). published.between ++ Publish place.pass next.prefix ∷ []) same;
+      all = built_prefix;
+      newer = let more = taken_more other in omega (arith, more, built_prefix, taken.held_is);
+      newest = published.newer;
+      counts = subst (λ m. AreCounts (map_at old.place.start now.seen (published_prefix taken.looked)) m report.built report.kept) built_map
+          (subst (λ m. AreCounts m next.map report.built report.kept) (held_is.map ∙ ap (map_at old.place.start now.seen) taken.held_is) made.counts);
+    }
 
 -- the version that was published is the one that is held
-pub published_held : (place : Place) (prefix : ℕ) (before after : List Entry) → IsPublished place prefix before after → prefix ≡ published_prefix after
-published_held place prefix before after p =
-    sym (ap published_prefix p.own ∙ prefix_goes_on p.between (Publish place.pass prefix))
+pub published_held : (old new : AtDesk) (prefix : ℕ) → IsPublished old new prefix → prefix ≡ published_prefix new.seen
+published_held old new prefix p = sym (ap published_prefix p.own ∙ prefix_goes_on p.between (Publish old.place.pass prefix))
 
-pub taken_begins : (place : Place) (before seen : List Entry) (held : Versioned) (job : Job) → IsTaken place before seen held job → BeginsWith seen before
-taken_begins place before seen held job taken =
-    begins_then before taken.looked seen (meanwhile_begin place before taken.looked taken.to_look) (meanwhile_begin place taken.looked seen taken.to_job)
+pub taken_begins : (old now : AtDesk) (job : Job) → IsTaken old now job → BeginsWith now.seen old.seen
+taken_begins old now job taken =
+    begins_then old.seen taken.looked now.seen (meanwhile_begin old.place old.seen taken.looked taken.to_look)
+    (meanwhile_begin old.place taken.looked now.seen taken.to_job)
 
-pub published_begins : (place : Place) (prefix : ℕ) (before after : List Entry) → IsPublished place prefix before after → BeginsWith after before
-published_begins place prefix before after p =
-    enters_begin place (Publish place.pass prefix) before after (record { between = p.between; others = p.others; own = p.own })
+pub published_begins : (old new : AtDesk) (prefix : ℕ) → IsPublished old new prefix → BeginsWith new.seen old.seen
+published_begins old new prefix p =
+    enters_begin old.place (Publish old.place.pass prefix) old.seen new.seen (record { between = p.between; others = p.others; own = p.own })
 
 -- a version that could not be taken
-pub look_none : (place : Place) (before after : List Entry) (old new : Versioned) (look : Look) → Looks place before after old new look
-    → IsFalse look.held → TakesNone place before after new
-look_none place before after old new look p lacks =
-    let bounded = legal_histories_are_bounded place.start after p.legal in
+pub look_none : (old new : AtDesk) (look : Look) → Looks old new look → IsFalse look.held → TakesNone old new
+look_none old new look p lacks =
+    let bounded = legal_histories_are_bounded old.place.start new.seen p.legal in
     let kept = p.kept lacks in
+    let prefix : new.version.prefix ≡ old.version.prefix = ap (λ (v : Versioned). v.prefix) kept.0 in
     record {
       others = p.others;
-      more = rw kept.0 (omega (arith, kept.1, bounded.published));
+      more = omega (arith, prefix, kept.1, bounded.published);
     }
 
 -- what a board knows of its published version
-pub board_sound : (place : Place) (seen : List Entry) (version : Versioned) → IsLegal place.start seen
-    → IsVersionAt place.start place.order seen (published_prefix seen) version → IsSound place seen version
-board_sound place seen version legal is =
-    let bounded = legal_histories_are_bounded place.start seen legal in
+pub board_sound : (desk : AtDesk) → IsLegal desk.place.start desk.seen
+    → IsVersionAt desk.place.start desk.place.order desk.seen (published_prefix desk.seen) desk.version → IsSound desk
+board_sound desk legal is =
+    let bounded = legal_histories_are_bounded desk.place.start desk.seen legal in
     record {
-      is = subst (λ k. IsVersionAt place.start place.order seen k version) (sym is.after) is;
+      is = subst (λ k. IsVersionAt desk.place.start desk.place.order desk.seen k desk.version) (sym is.after) is;
       within = omega (arith, is.after, bounded.published);
     }

@@ -1,5 +1,5 @@
 -- Talks over links that have just come in, at a seat: feeds and sessions.
-use Rattle.std.proofs.Common.{◌≡◌, ℕ, List, ◌++◌, length, IfErr, IfSome, None, Option, Result, Some, inl, inr, refl, sym, subst, ap, ◌∙◌}
+use Rattle.std.proofs.Common.{◌≡◌, ℕ, ◌++◌, length, IfErr, IfSome, None, Option, Result, Some, inl, inr, refl, sym, subst, ◌∙◌}
 use Rattle.moves.specs.Maps.{Map}
 use Rattle.path_core.specs.Passes.{OthersAdd}
 use Rattle.path_core.proofs.Passing.{others_begin}

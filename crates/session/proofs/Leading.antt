@@ -7,7 +7,7 @@ use Rattle.std.proofs.lemmas.List.Folds.{list_any-append}
 use Rattle.path_core.specs.declared.entry.Entry.{Entry}
 use Rattle.path_core.specs.declared.entry.Entry.TheVariants.{Accept, Halt}
 use Rattle.path_core.specs.Histories.{IsHalting, is_halt}
-use Rattle.path_core.specs.Passes.{BeginsWith, OthersAdd}
+use Rattle.path_core.specs.Passes.{BeginsWith}
 use Rattle.path_core.proofs.Passing.{begins_then, others_then}
 use Rattle.query_proto.specs.declared.protocols.Proto.{Proto}
 use Rattle.query_proto.specs.declared.protocols.Proto.TheVariants.{Start}

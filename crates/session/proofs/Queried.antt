@@ -17,11 +17,11 @@ use Rattle.query_proto.specs.declared.replies.Reply.{Reply}
 use Rattle.query_proto.specs.declared.requests.Request.{Request}
 use Rattle.query_proto.specs.declared.requests.Request.TheVariants as request
 use Rattle.versions.specs.declared.query.QueryRefusal.{QueryRefusal}
-use Rattle.path_core.specs.declared.entry.Entry.{Entry}
 use Rattle.path_core.specs.Histories.{published_prefix, IsVersionAt}
-use Rattle.session.specs.Answering.{Answers, AnswersBy, AreBytesAhead, Freshens, Tells, TellsBy, ends_of}
-use Rattle.session.specs.Served.{LacksVersion, OwnQueriesAreAnswered, ServesRequest, TellsAnswer, TellsPath, why_of}
-use Rattle.session.specs.Standing.{HoldsItsOwn, IsSound, Place, Raises, Standing, standing}
+use Rattle.session.specs.Answering.{Answers, AnswersBy, AreBytesAhead, Freshens, ServesAt, Tells, TellsBy, ends_of}
+use Rattle.session.specs.Desks.{IsCall}
+use Rattle.session.specs.Served.{LacksVersion, LooksFor, OwnQueriesAreAnswered, ServesRequest, TellsAnswer, TellsPath, why_of}
+use Rattle.session.specs.Standing.{AtDesk, HoldsItsOwn, HoldsSince, IsSound, Place, Standing, stands}
 
 abbrev pub no_moves : List Move
 no_moves = []
@@ -33,23 +33,29 @@ no_walk version told none =
     subst (λ p. MatchOption p (no_moves ≡ []) (λ at. IsWalk version.map version.comps at.start at.goal no_moves)) (sym none) refl
 
 -- a reply that is no path
-told_alone : (place : Place) (asked : Request) (old new : Standing) (version : Versioned) (told : Reply) (answered : Answered)
-    → answered.reply ≡ told → answered.path ≡ None → ends_of asked told ≡ None → ServesRequest place asked old told [] new
-    → Answers place asked old version answered new
-told_alone place asked old new version told answered is none no_ends serves = record {
+told_alone : (old : AtDesk) (asked : Request) (told : Reply) (answered : Answered) (new : AtDesk) → answered.reply ≡ told
+    → answered.path ≡ None → ends_of asked told ≡ None → ServesRequest old.place asked (stands old) told [] (stands new)
+    → Answers old asked answered new
+told_alone old asked told answered new is none no_ends serves = record {
   moves = [];
-  serves = subst (λ t. ServesRequest place asked old t [] new) (sym is) serves;
+  serves = subst (λ t. ServesRequest old.place asked (stands old) t [] (stands new)) (sym is) serves;
   path = none ∙ sym (ap (ends_of asked) is ∙ no_ends);
-  walk = no_walk version answered.path none;
+  walk = no_walk new.version answered.path none;
 }
 
 -- the same, for what the request was found to be
-pub told_for : (place : Place) (asked found : Request) (old new : Standing) (version : Versioned) (told : Reply) (answered : Answered)
-    → asked ≡ found → answered.reply ≡ told → answered.path ≡ None → ends_of found told ≡ None → ServesRequest place found old told [] new
-    → Answers place asked old version answered new
-told_for place asked found old new version told answered same is none no_ends serves =
-    subst (λ a. Answers place a old version answered new) (sym same)
-    (told_alone place found old new version told answered is none no_ends serves)
+pub told_for : (old : AtDesk) (asked found : Request) (told : Reply) (answered : Answered) (new : AtDesk) → asked ≡ found
+    → answered.reply ≡ told → answered.path ≡ None → ends_of found told ≡ None → new.place ≡ old.place
+    → HoldsItsOwn new.place (stands new) → ServesAt old found told new → HoldsSince (stands old) (stands new)
+    → LooksFor found (stands old) (stands new) → Answers old asked answered new
+told_for old asked found told answered new same is none no_ends stays own served holds looks =
+    subst (λ a. Answers old a answered new) (sym same)
+    (told_alone old found told answered new is none no_ends (record {
+      served = served;
+      holds = holds;
+      own = subst (λ (place : Place). HoldsItsOwn place (stands new)) stays own;
+      looks = looks;
+    }))
 
 -- a cost that was measured is that of the walk, which is the answer
 pub path_answered : (version : Versioned) (start goal : Cell) (cost : Cost) → IsVersion version → AreEnds version.map start goal
@@ -111,80 +117,75 @@ refused_told version start goal why told bytes is_refused is none = record {
   bytes_are = none;
 }
 
--- a query for which the published version is not held
-lacking_served : (place : Place) (before after : List Entry) (old new : Versioned) (fresh : Bool) (looks looks_then : Option ℕ) (start goal : Cell) (told : Reply)
-    → Raises looks looks_then → Freshens place before old fresh after new → IsFalse fresh → HoldsItsOwn place (standing after new looks_then) → told ≡ reply.NoMemory
-    → ServesRequest place (request.Query start goal) (standing before old looks) told [] (standing after new looks_then)
-lacking_served place before after old new fresh looks looks_then start goal told rise p stale own is = record {
-  served = record {
-    others = p.others;
-    answers = inr (record { reply_is = is; moves_are = refl; newer = (p.newer stale).1; kept = (p.newer stale).0 });
-  };
-  holds = p.holds;
-  own = own;
-  looks = rise;
-}
+module _ (old : AtDesk) (start goal : Cell) (fresh : Bool) (new : AtDesk) (called : IsCall old new) (p : Freshens old fresh new) where
+  -- a query for which the published version is not held
+  lacking_served : (told : Reply) → IsFalse fresh → HoldsItsOwn new.place (stands new) → told ≡ reply.NoMemory
+      → ServesRequest old.place (request.Query start goal) (stands old) told [] (stands new)
+  lacking_served told stale own is = record {
+    served = record {
+      others = p.others;
+      answers = inr (record { reply_is = is; moves_are = refl; newer = (p.newer stale).1; kept = (p.newer stale).0 });
+    };
+    holds = p.holds;
+    own = subst (λ (place : Place). HoldsItsOwn place (stands new)) called.place own;
+    looks = called.looks;
+  }
 
-pub lacking_answered : (place : Place) (before after : List Entry) (old new : Versioned) (fresh : Bool) (looks looks_then : Option ℕ) (start goal : Cell) (answered : Answered)
-    → Raises looks looks_then → Freshens place before old fresh after new → IsFalse fresh → HoldsItsOwn place (standing after new looks_then) → answered.reply ≡ reply.NoMemory → answered.path ≡ None
-    → Answers place (request.Query start goal) (standing before old looks) new answered (standing after new looks_then)
-lacking_answered place before after old new fresh looks looks_then start goal answered rise p stale own is none = record {
-  moves = [];
-  serves = lacking_served place before after old new fresh looks looks_then start goal answered.reply rise p stale own is;
-  path = none ∙ sym (ap (ends_of (request.Query start goal)) is);
-  walk = no_walk new answered.path none;
-}
+  pub lacking_answered : (answered : Answered) → IsFalse fresh → HoldsItsOwn new.place (stands new) → answered.reply ≡ reply.NoMemory
+      → answered.path ≡ None → Answers old (request.Query start goal) answered new
+  lacking_answered answered stale own is none = record {
+    moves = [];
+    serves = lacking_served answered.reply stale own is;
+    path = none ∙ sym (ap (ends_of (request.Query start goal)) is);
+    walk = no_walk new.version answered.path none;
+  }
 
-pub lacking_told : (place : Place) (before after : List Entry) (old new : Versioned) (fresh : Bool) (looks looks_then : Option ℕ) (start goal : Cell) (told : Reply) (bytes : List ℕ)
-    → Raises looks looks_then → Freshens place before old fresh after new → IsFalse fresh → HoldsItsOwn place (standing after new looks_then) → told ≡ reply.NoMemory → bytes ≡ []
-    → Tells place (request.Query start goal) (standing before old looks) told bytes (standing after new looks_then)
-lacking_told place before after old new fresh looks looks_then start goal told bytes rise p stale own is none = record {
-  moves = [];
-  bytes_are = none;
-  serves = lacking_served place before after old new fresh looks looks_then start goal told rise p stale own is;
-}
+  pub lacking_told : (told : Reply) (bytes : List ℕ) → IsFalse fresh → HoldsItsOwn new.place (stands new) → told ≡ reply.NoMemory
+      → bytes ≡ [] → Tells old (request.Query start goal) told bytes new
+  lacking_told told bytes stale own is none = record { moves = []; bytes_are = none; serves = lacking_served told stale own is }
 
--- a query that is answered by the version that is held, which is the published one
-query_served : (place : Place) (before after : List Entry) (old new : Versioned) (fresh : Bool) (looks looks_then : Option ℕ) (start goal : Cell) (answer : Answer) (told : Reply) (moves : List Move)
-    → Raises looks looks_then → Freshens place before old fresh after new → IsTrue fresh → IsSound place after new → IsAnswer new start goal answer → TellsAnswer new.prefix answer told moves
-    → ServesRequest place (request.Query start goal) (standing before old looks) told moves (standing after new looks_then)
-query_served place before after old new fresh looks looks_then start goal answer told moves rise p is_fresh sound is tells = record {
-  served = record {
-    others = p.others;
-    answers = inl (record {
-      answer = answer;
-      is = record {
-        version = new;
-        is_version = subst (λ k. IsVersionAt place.start place.order after k new) (p.published is_fresh) sound.is;
-        answers = is;
-      };
-      tells = subst (λ k. TellsAnswer k answer told moves) (p.published is_fresh) tells;
-      holds = p.published is_fresh;
-    });
-  };
-  holds = p.holds;
-  own = λ _. p.published is_fresh;
-  looks = rise;
-}
+  -- a query that is answered by the version that is held, which is the published one
+  query_served : (answer : Answer) (told : Reply) (moves : List Move) → IsTrue fresh → IsSound new
+      → IsAnswer new.version start goal answer → TellsAnswer new.version.prefix answer told moves
+      → ServesRequest old.place (request.Query start goal) (stands old) told moves (stands new)
+  query_served answer told moves is_fresh sound is tells =
+      let at : IsVersionAt old.place.start old.place.order new.seen new.version.prefix new.version =
+      subst (λ (place : Place). IsVersionAt place.start place.order new.seen new.version.prefix new.version) called.place sound.is in
+      record {
+        served = record {
+          others = p.others;
+          answers = inl (record {
+            answer = answer;
+            is = record {
+              version = new.version;
+              is_version = subst (λ k. IsVersionAt old.place.start old.place.order new.seen k new.version) (p.published is_fresh) at;
+              answers = is;
+            };
+            tells = subst (λ k. TellsAnswer k answer told moves) (p.published is_fresh) tells;
+            holds = p.published is_fresh;
+          });
+        };
+        holds = p.holds;
+        own = λ _. p.published is_fresh;
+        looks = called.looks;
+      }
 
-pub query_answered : (place : Place) (before after : List Entry) (old new : Versioned) (fresh : Bool) (looks looks_then : Option ℕ) (start goal : Cell) (answered : Answered)
-    → Raises looks looks_then → Freshens place before old fresh after new → IsTrue fresh → IsSound place after new → AnswersBy new start goal answered
-    → Answers place (request.Query start goal) (standing before old looks) new answered (standing after new looks_then)
-query_answered place before after old new fresh looks looks_then start goal answered rise p is_fresh sound by = record {
-  moves = by.moves;
-  serves = query_served place before after old new fresh looks looks_then start goal by.answer answered.reply by.moves rise p is_fresh sound by.is by.tells;
-  path = by.path;
-  walk = by.walk;
-}
+  pub query_answered : (answered : Answered) → IsTrue fresh → IsSound new → AnswersBy new.version start goal answered
+      → Answers old (request.Query start goal) answered new
+  query_answered answered is_fresh sound by = record {
+    moves = by.moves;
+    serves = query_served by.answer answered.reply by.moves is_fresh sound by.is by.tells;
+    path = by.path;
+    walk = by.walk;
+  }
 
-pub query_told : (place : Place) (before after : List Entry) (old new : Versioned) (fresh : Bool) (looks looks_then : Option ℕ) (start goal : Cell) (told : Reply) (bytes : List ℕ)
-    → Raises looks looks_then → Freshens place before old fresh after new → IsTrue fresh → IsSound place after new → TellsBy new start goal told bytes
-    → Tells place (request.Query start goal) (standing before old looks) told bytes (standing after new looks_then)
-query_told place before after old new fresh looks looks_then start goal told bytes rise p is_fresh sound by = record {
-  moves = by.moves;
-  bytes_are = by.bytes_are;
-  serves = query_served place before after old new fresh looks looks_then start goal by.answer told by.moves rise p is_fresh sound by.is by.tells;
-}
+  pub query_told : (told : Reply) (bytes : List ℕ) → IsTrue fresh → IsSound new → TellsBy new.version start goal told bytes
+      → Tells old (request.Query start goal) told bytes new
+  query_told told bytes is_fresh sound by = record {
+    moves = by.moves;
+    bytes_are = by.bytes_are;
+    serves = query_served by.answer told by.moves is_fresh sound by.is by.tells;
+  }
 
 no_answer_is_that : (version : ℕ) (answer : Answer) (told : Reply) (moves : List Move) → TellsAnswer version answer told moves → told ≡ reply.NoMemory → ⊥
 no_answer_is_that version (refused why) told moves tells is = let clash : reply.Refused version (why_of why) ≡ reply.NoMemory = sym tells.0 ∙ is in absurd (cc)

@@ -16,7 +16,7 @@ use Rattle.path_board.specs.Calls.{AnswersAt, EntersAt, IsLookBut}
 use Rattle.path_board.specs.Passes.{base_by, held_of, seen_of, IsBoardAt, IsUpToDate, KeepsOlder, SamePass}
 use Rattle.path_board.proofs.Same.{one_version}
 use Rattle.session.specs.Desks.{IsEntered, Looks}
-use Rattle.session.specs.Seats.{place_of}
+use Rattle.session.specs.Seats.{desk_of, place_of}
 use Rattle.session.specs.Standing.{Meanwhile, Place}
 use Rattle.session.proofs.Meanwhile.{meanwhile_none}
 
@@ -71,7 +71,7 @@ board_version base history board at =
 
 pub seat_looks : (before after : Pass) (look : Look) → SamePass before after → AnswersAt before after (IsLookBut look)
     → (IsTrue look.held → IsUpToDate after) → (IsFalse look.held → KeepsOlder before after)
-    → Looks (place_of before) (seen_of before) (seen_of after) (held_of before) (held_of after) look
+    → Looks (desk_of before) (desk_of after) look
 seat_looks before after look same p held older =
     let base = base_by before in
     let version = board_version base (seen_of after) p.board p.at in

@@ -6,7 +6,6 @@ use Rattle.moves.specs.Moves.{number_of}
 use Rattle.versions.specs.Answers.{Answer, IsAnswer, IsWalk}
 use Rattle.versions.specs.Databases.{Versioned}
 use Rattle.walker.specs.Walks.{IsAhead, Walking}
-use Rattle.path_core.specs.declared.entry.Entry.{Entry}
 use Rattle.path_core.specs.Histories.{published_prefix}
 use Rattle.query_proto.specs.declared.replies.Reply.{Reply}
 use Rattle.query_proto.specs.declared.replies.Reply.TheVariants as reply
@@ -14,8 +13,9 @@ use Rattle.query_proto.specs.declared.requests.Request.{Request}
 use Rattle.query_proto.specs.declared.requests.Request.TheVariants as request
 use Rattle.session.specs.declared.answers.Answered.{Answered}
 use Rattle.session.specs.declared.answers.PathAt.{PathAt}
-use Rattle.session.specs.Standing.{IsHeldSince, Meanwhile, Place, Standing}
-use Rattle.session.specs.Served.{ServesRequest, TellsAnswer}
+use Rattle.session.specs.Desks.{AddsNone}
+use Rattle.session.specs.Standing.{AtDesk, HoldsSince, stands}
+use Rattle.session.specs.Served.{Serves, ServesRequest, TellsAnswer}
 
 -- the two ends of a query whose reply is a path
 abbrev pub ends_of : Request → Reply → Option PathAt
@@ -24,20 +24,22 @@ ends_of _ _ = None
 
 -- The request is served by that reply. Where it is a path, its ends are told, and the moves behind it are the walk of the held
 -- version between them, and else there are none.
-pub record Answers (place : Place) (asked : Request) (old : Standing) (version : Versioned) (answered : Answered)
-    (new : Standing) : Type 0 where
+pub record Answers (old : AtDesk) (asked : Request) (answered : Answered) (new : AtDesk) : Type 0 where
   pub moves : List Move
-  pub serves : ServesRequest place asked old answered.reply moves new
+  pub serves : ServesRequest old.place asked (stands old) answered.reply moves (stands new)
   pub path : answered.path ≡ ends_of asked answered.reply
-  pub walk : MatchOption answered.path (moves ≡ []) (λ at. IsWalk version.map version.comps at.start at.goal moves)
+  pub walk : MatchOption answered.path (moves ≡ []) (λ at. IsWalk new.version.map new.version.comps at.start at.goal moves)
+
+-- a request at a desk is served by that reply, with no moves behind it
+abbrev pub ServesAt : AtDesk → Request → Reply → AtDesk → Type 0
+ServesAt old asked told new = Serves old.place asked (stands old) told [] (stands new)
 
 -- Entries of others apart, the published version is held then, or a newer one than the held one was published.
-pub record Freshens (place : Place) (before : List Entry) (old : Versioned) (fresh : Bool) (after : List Entry)
-    (new : Versioned) : Type 0 where
-  pub others : Meanwhile place before after
-  pub holds : IsHeldSince before old.prefix after new.prefix
-  pub published : IsTrue fresh → new.prefix ≡ published_prefix after
-  pub newer : IsFalse fresh → (new.prefix ≡ old.prefix) × (old.prefix < published_prefix after)
+pub record Freshens (old : AtDesk) (fresh : Bool) (new : AtDesk) : Type 0 where
+  pub others : AddsNone old new
+  pub holds : HoldsSince (stands old) (stands new)
+  pub published : IsTrue fresh → new.version.prefix ≡ published_prefix new.seen
+  pub newer : IsFalse fresh → (new.version.prefix ≡ old.version.prefix) × (old.version.prefix < published_prefix new.seen)
 
 -- The reply tells the answer of a version. Where it is a path, its ends are told, and the moves behind it are the walk between
 -- them.
@@ -52,10 +54,10 @@ pub record AnswersBy (version : Versioned) (start goal : Cell) (answered : Answe
 -- ---- what is written of the moves
 
 -- the request is served by that reply, and the moves behind it have these bytes
-pub record Tells (place : Place) (asked : Request) (old : Standing) (told : Reply) (bytes : List ℕ) (new : Standing) : Type 0 where
+pub record Tells (old : AtDesk) (asked : Request) (told : Reply) (bytes : List ℕ) (new : AtDesk) : Type 0 where
   pub moves : List Move
   pub bytes_are : bytes ≡ map number_of moves
-  pub serves : ServesRequest place asked old told moves new
+  pub serves : ServesRequest old.place asked (stands old) told moves (stands new)
 
 -- the reply tells the answer of a version, and the moves behind it have these bytes
 pub record TellsBy (version : Versioned) (start goal : Cell) (told : Reply) (bytes : List ℕ) : Type 0 where

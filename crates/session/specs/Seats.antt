@@ -3,7 +3,7 @@ use Rattle.std.specs.Prelude.{Some}
 use Rattle.turn_book.specs.Turns.{book_of, made_of}
 use Rattle.path_board.specs.declared.pass.Pass.{Pass}
 use Rattle.path_board.specs.Passes.{base_by, held_of, looks_of, seen_of}
-use Rattle.session.specs.Standing.{Place, Standing, standing}
+use Rattle.session.specs.Standing.{AtDesk, Place, Standing, stands}
 
 -- the place of a pass
 abbrev pub place_of : Pass → Place
@@ -15,6 +15,15 @@ place_of pass = record {
   shared = Some (record { board = book_of pass.seat; passes = made_of pass.seat });
 }
 
+-- what is known of the desk of a pass
+abbrev pub desk_of : Pass → AtDesk
+desk_of pass = record {
+  place = place_of pass;
+  seen = seen_of pass;
+  version = held_of pass;
+  looks = Some (looks_of pass);
+}
+
 -- how a pass stands
 abbrev pub standing_of : Pass → Standing
-standing_of pass = standing (seen_of pass) (held_of pass) (Some (looks_of pass))
+standing_of pass = stands (desk_of pass)

@@ -33,9 +33,17 @@ pub record Standing : Type 0 where
 abbrev pub standing : List Entry → Versioned → Option ℕ → Standing
 standing seen version looks = record { seen = seen; held = version.prefix; looks = looks }
 
--- how a desk stands, by what it tells of its history, its version and its looks
-abbrev pub stands : {K : Type 0} → (K → List Entry) → (K → Versioned) → (K → Option ℕ) → K → Standing
-stands seen version looks desk = standing (seen desk) (version desk) (looks desk)
+-- what is known of a desk: its place, the history that its pass has seen, the version that it holds, and how often it has
+-- looked, where that is told
+pub record AtDesk : Type 0 where
+  pub place : Place
+  pub seen : List Entry
+  pub version : Versioned
+  pub looks : Option ℕ
+
+-- how a desk stands
+abbrev pub stands : AtDesk → Standing
+stands desk = standing desk.seen desk.version desk.looks
 
 -- Meanwhile others may have added entries, where passes share the board. On a board of one's own nothing was added.
 pub record Meanwhile (place : Place) (old new : List Entry) : Type 0 where
@@ -77,7 +85,7 @@ HoldsSince old new = IsHeldSince old.seen old.held new.seen new.held
 abbrev pub HoldsItsOwn : Place → Standing → Type 0
 HoldsItsOwn place now = place.shared ≡ None → now.held ≡ published_prefix now.seen
 
--- the version that is held is that of accepted edits
-pub record IsSound (place : Place) (seen : List Entry) (version : Versioned) : Type 0 where
-  pub is : IsVersionAt place.start place.order seen version.prefix version
-  pub within : version.prefix ≤ accepted_count seen
+-- the version that a desk holds is that of accepted edits
+pub record IsSound (desk : AtDesk) : Type 0 where
+  pub is : IsVersionAt desk.place.start desk.place.order desk.seen desk.version.prefix desk.version
+  pub within : desk.version.prefix ≤ accepted_count desk.seen

@@ -1,5 +1,5 @@
 -- What is done at the doors of a board: sessions, and feeds at the door of one pass.
-use Rattle.std.specs.Prelude.{◌≡◌, ℕ, IfErr, Option, Some, Result}
+use Rattle.std.specs.Prelude.{◌≡◌, ℕ, IfErr, Some, Result}
 use Rattle.moves.specs.Maps.{Map}
 use Rattle.path_core.specs.Passes.{OthersAdd}
 use Rattle.wire.specs.Talks.{EndedTalk}

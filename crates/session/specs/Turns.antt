@@ -21,7 +21,7 @@ use Rattle.session.specs.declared.sessions.SessionFault.{SessionFault}
 use Rattle.session.specs.declared.sessions.SessionFault.TheVariants as fault
 use Rattle.session.specs.Conversations.{Exchange, GoesOn, HasNone, IsBegun, IsBye, IsPart, IsStop, ServesFrame}
 use Rattle.session.specs.Conversations.{protocol_after}
-use Rattle.session.specs.Standing.{Place, Standing}
+use Rattle.session.specs.Standing.{AtDesk, Place, Standing, stands}
 
 -- ---- what comes in
 
@@ -84,11 +84,11 @@ EndsBehind exchange (Some ended.Spent) = ⊥
 EndsBehind exchange None = GoesOn exchange
 
 -- the frame is answered so, and the moves behind the reply have these bytes
-pub record AnswersSo (place : Place) (proto : Proto) (frame : List ℕ) (old : Standing) (told : Reply) (bytes : List ℕ)
-    (ended : Option Ended) (new : Standing) : Type 0 where
+pub record AnswersSo (old : AtDesk) (proto : Proto) (frame : List ℕ) (told : Reply) (bytes : List ℕ)
+    (ended : Option Ended) (new : AtDesk) : Type 0 where
   pub moves : List Move
   pub bytes_are : bytes ≡ map number_of moves
-  pub serves : ServesFrame place proto (record { frame = frame; told = told; moves = moves }) old new
+  pub serves : ServesFrame old.place proto (record { frame = frame; told = told; moves = moves }) (stands old) (stands new)
   pub ends : EndsBehind (record { frame = frame; told = told; moves = moves }) ended
 
 -- the reply was sent, or a fault met it and less than the whole was sent
@@ -115,8 +115,8 @@ pub record Point : Type 0 where
   pub talk : Option Talk
   pub held : List ℕ
 
-abbrev pub point : Session → Standing → Option Talk → Point
-point session standing talk = record { proto = session.proto; standing = standing; talk = talk; held = session.held }
+abbrev pub point : Session → AtDesk → Option Talk → Point
+point session desk talk = record { proto = session.proto; standing = stands desk; talk = talk; held = session.held }
 
 -- a frame was cut from what was held and what came in until then, and served
 pub record Exchanges (place : Place) (exchange : Exchange) (old : Point) (then : Option Talk) (new : Point) : Type 0 where

@@ -2,10 +2,11 @@
 
 ghost use Rattle.std.specs.Prelude.{◌≡◌, ◌<◌, ◌≤◌, None};
 ghost use Rattle.build_pool.specs.declared.TheConstants.{MAX_WORKERS};
-ghost use Rattle.query_proto.specs.declared.requests.Request.TheVariants.{Query};
-ghost use Rattle.session.specs.Answering.{Answers, AnswersBy, Freshens};
-ghost use Rattle.session.specs.Served.{ServesChange, ServesStatus, ServesStop, why_of};
-ghost use Rattle.session.specs.Standing.{HoldsItsOwn, IsHeldSince, Raises, stands};
+ghost use Rattle.query_proto.specs.declared.requests.Request.TheVariants.{Change, Query, Status, Stop};
+ghost use Rattle.session.specs.Answering.{Answers, AnswersBy, Freshens, ServesAt};
+ghost use Rattle.session.specs.Desks.{IsCall, KeepsVersion};
+ghost use Rattle.session.specs.Served.{why_of};
+ghost use Rattle.session.specs.Standing.{HoldsItsOwn, HoldsSince, stands};
 
 use crate::building::answer_build;
 use crate::desk::Desk;
@@ -60,9 +61,8 @@ pub fn answer<K: Desk, R: Threads + Wait + Sync, G: Gate>(
 ) -> Answered
     requires worker { 0 < workers }
     requires workers { workers ≤ MAX_WORKERS }
-    ensures place { K.place desk.new ≡ K.place desk.old }
-    ensures answers { Answers (K.place desk.old) request (stands K.seen K.version K.looks desk.old)
-        (K.version desk.new) result (stands K.seen K.version K.looks desk.new) }
+    ensures place { (K.at desk.new).place ≡ (K.at desk.old).place }
+    ensures answers { Answers (K.at desk.old) request result (K.at desk.new) }
 {
     match request {
         Request::Query { start, goal } => answer_query(rt, desk, start, goal),
@@ -92,7 +92,7 @@ pub fn answer<K: Desk, R: Threads + Wait + Sync, G: Gate>(
 pub(crate) fn told_at<K: Desk>(desk: &K, reply: Reply) -> Answered
     ensures reply { result.reply ≡ reply }
     ensures path { result.path ≡ None }
-    ensures own { HoldsItsOwn (K.place desk.now) (stands K.seen K.version K.looks desk.now) }
+    ensures own { HoldsItsOwn (K.at desk.now).place (stands (K.at desk.now)) }
 {
     desk.held();
     Answered::of(reply)
@@ -100,10 +100,8 @@ pub(crate) fn told_at<K: Desk>(desk: &K, reply: Reply) -> Answered
 
 /// Answers a query from the published version.
 fn answer_query<K: Desk, R: Wait>(rt: &R, desk: &mut K, start: Cell, goal: Cell) -> Answered
-    ensures place { K.place desk.new ≡ K.place desk.old }
-    ensures answers { Answers (K.place desk.old) (Query start goal)
-        (stands K.seen K.version K.looks desk.old)
-        (K.version desk.new) result (stands K.seen K.version K.looks desk.new) }
+    ensures place { (K.at desk.new).place ≡ (K.at desk.old).place }
+    ensures answers { Answers (K.at desk.old) (Query start goal) result (K.at desk.new) }
 {
     if !holds_published(rt, desk) {
         return told_at(desk, Reply::NoMemory);
@@ -113,10 +111,8 @@ fn answer_query<K: Desk, R: Wait>(rt: &R, desk: &mut K, start: Cell, goal: Cell)
 
 /// Whether the published version is held, after a look where that is not known at no cost.
 pub(crate) fn holds_published<K: Desk, R: Wait>(rt: &R, desk: &mut K) -> bool
-    ensures place { K.place desk.new ≡ K.place desk.old }
-    ensures looks { Raises (K.looks desk.old) (K.looks desk.new) }
-    ensures freshens { Freshens (K.place desk.old) (K.seen desk.old) (K.version desk.old) result
-        (K.seen desk.new) (K.version desk.new) }
+    ensures called { IsCall (K.at desk.old) (K.at desk.new) }
+    ensures freshens { Freshens (K.at desk.old) result (K.at desk.new) }
 {
     if desk.recent(rt) {
         return true;
@@ -165,11 +161,8 @@ pub(crate) fn why_of(why: QueryRefusal) -> QueryWhy
 
 /// Answers a change.
 fn answer_change<K: Desk, R: Wait>(rt: &R, desk: &mut K, edit: Edit) -> Reply
-    ensures place { K.place desk.new ≡ K.place desk.old }
-    ensures looks { Raises (K.looks desk.old) (K.looks desk.new) }
-    ensures version { K.version desk.new ≡ K.version desk.old }
-    ensures served { ServesChange (K.place desk.old) edit (K.seen desk.old) result
-        (K.seen desk.new) }
+    ensures called { KeepsVersion (K.at desk.old) (K.at desk.new) }
+    ensures served { ServesAt (K.at desk.old) (Change edit) result (K.at desk.new) }
 {
     match desk.submit(rt, edit) {
         Ok(number) => Reply::Accepted { number },
@@ -180,11 +173,9 @@ fn answer_change<K: Desk, R: Wait>(rt: &R, desk: &mut K, edit: Edit) -> Reply
 
 /// Tells the state of the board.
 fn answer_status<K: Desk, R: Wait>(rt: &R, desk: &mut K) -> Reply
-    ensures place { K.place desk.new ≡ K.place desk.old }
-    ensures looks { Raises (K.looks desk.old) (K.looks desk.new) }
-    ensures holds { IsHeldSince (K.seen desk.old) (K.version desk.old).prefix (K.seen desk.new)
-        (K.version desk.new).prefix }
-    ensures served { ServesStatus (K.place desk.old) (K.seen desk.old) result (K.seen desk.new) }
+    ensures called { IsCall (K.at desk.old) (K.at desk.new) }
+    ensures holds { HoldsSince (stands (K.at desk.old)) (stands (K.at desk.new)) }
+    ensures served { ServesAt (K.at desk.old) Status result (K.at desk.new) }
 {
     let look = desk.look(rt);
     Reply::Status {
@@ -198,10 +189,8 @@ fn answer_status<K: Desk, R: Wait>(rt: &R, desk: &mut K) -> Reply
 
 /// Halts the board.
 fn answer_stop<K: Desk, R: Wait>(rt: &R, desk: &mut K) -> Reply
-    ensures place { K.place desk.new ≡ K.place desk.old }
-    ensures looks { Raises (K.looks desk.old) (K.looks desk.new) }
-    ensures version { K.version desk.new ≡ K.version desk.old }
-    ensures served { ServesStop (K.place desk.old) (K.seen desk.old) result (K.seen desk.new) }
+    ensures called { KeepsVersion (K.at desk.old) (K.at desk.new) }
+    ensures served { ServesAt (K.at desk.old) Stop result (K.at desk.new) }
 {
     match desk.halt(rt) {
         Ok(_) => Reply::Done,

@@ -79,9 +79,9 @@ pub fn build_loop<K: Desk, E: Ear, R: Threads + Wait + Sync, G: Gate>(
     requires worker { 0 < workers }
     requires workers { workers ≤ MAX_WORKERS }
     requires waiting { E.over ear.old ≡ false }
-    ensures place { K.place desk.new ≡ K.place desk.old }
-    ensures built { HasBuilt (K.place desk.old) (stands K.seen K.version K.looks desk.old)
-        result (E.rung ear.old) (stands K.seen K.version K.looks desk.new) (E.rung ear.new) }
+    ensures place { (K.at desk.new).place ≡ (K.at desk.old).place }
+    ensures built { HasBuilt (K.at desk.old).place (stands (K.at desk.old)) result
+        (E.rung ear.old) (stands (K.at desk.new)) (E.rung ear.new) }
     ensures over { E.over ear.new ≡ true }
 {
     let means = Means::new(rt, alloc, workers, gate);

@@ -1,12 +1,14 @@
 //! The building of a version after all accepted edits, and its publication.
 
-ghost use Rattle.std.specs.Prelude.{◌≡◌, IfOk, OnErr};
+ghost use Rattle.std.specs.Prelude.{IfOk, OnErr};
 ghost use Rattle.std.specs.Arc.{arc_value};
 ghost use Rattle.moves.specs.Maps.{IsSearchable};
 ghost use Rattle.edit_log.specs.Edits.{EditsInside, map_after};
+ghost use Rattle.query_proto.specs.declared.requests.Request.TheVariants.{Build};
+ghost use Rattle.session.specs.Answering.{ServesAt};
 ghost use Rattle.session.specs.Building.{IsBuiltAfter, IsTaken, TakesNone};
-ghost use Rattle.session.specs.Served.{ServesBuild};
-ghost use Rattle.session.specs.Standing.{IsHeldSince, Raises, stands};
+ghost use Rattle.session.specs.Desks.{IsCall};
+ghost use Rattle.session.specs.Standing.{HoldsSince, stands};
 
 use crate::desk::Desk;
 use crate::means::Means;
@@ -27,12 +29,9 @@ pub(crate) fn answer_build<K: Desk, R: Threads + Wait + Sync, G: Gate>(
     means: &Means<'_, R, G>,
     desk: &mut K,
 ) -> Reply
-    ensures place { K.place desk.new ≡ K.place desk.old }
-    ensures looks { Raises (K.looks desk.old) (K.looks desk.new) }
-    ensures holds { IsHeldSince (K.seen desk.old) (K.version desk.old).prefix (K.seen desk.new)
-        (K.version desk.new).prefix }
-    ensures served { ServesBuild (K.place desk.old) (K.seen desk.old) result
-        (stands K.seen K.version K.looks desk.new) }
+    ensures called { IsCall (K.at desk.old) (K.at desk.new) }
+    ensures holds { HoldsSince (stands (K.at desk.old)) (stands (K.at desk.new)) }
+    ensures served { ServesAt (K.at desk.old) Build result (K.at desk.new) }
 {
     desk.begin_build(means.rt);
     let reply = build_and_publish(means, desk);
@@ -61,12 +60,9 @@ fn build_and_publish<K: Desk, R: Threads + Wait + Sync, G: Gate>(
     means: &Means<'_, R, G>,
     desk: &mut K,
 ) -> Reply
-    ensures place { K.place desk.new ≡ K.place desk.old }
-    ensures looks { Raises (K.looks desk.old) (K.looks desk.new) }
-    ensures holds { IsHeldSince (K.seen desk.old) (K.version desk.old).prefix (K.seen desk.new)
-        (K.version desk.new).prefix }
-    ensures served { ServesBuild (K.place desk.old) (K.seen desk.old) result
-        (stands K.seen K.version K.looks desk.new) }
+    ensures called { IsCall (K.at desk.old) (K.at desk.new) }
+    ensures holds { HoldsSince (stands (K.at desk.old)) (stands (K.at desk.new)) }
+    ensures served { ServesAt (K.at desk.old) Build result (K.at desk.new) }
 {
     let Ok(job) = take_job(means.rt, desk) else {
         return Reply::NoMemory;
@@ -95,14 +91,10 @@ fn build_and_publish<K: Desk, R: Threads + Wait + Sync, G: Gate>(
 ///
 /// `AllocError` where memory runs out, for the version or for the edits.
 fn take_job<K: Desk, R: Wait>(rt: &R, desk: &mut K) -> Result<Job, AllocError>
-    ensures place { K.place desk.new ≡ K.place desk.old }
-    ensures looks { Raises (K.looks desk.old) (K.looks desk.new) }
-    ensures holds { IsHeldSince (K.seen desk.old) (K.version desk.old).prefix (K.seen desk.new)
-        (K.version desk.new).prefix }
-    ensures taken { IfOk result (IsTaken (K.place desk.old) (K.seen desk.old) (K.seen desk.new)
-        (K.version desk.new)) }
-    ensures none { OnErr result (TakesNone (K.place desk.old) (K.seen desk.old) (K.seen desk.new)
-        (K.version desk.new)) }
+    ensures called { IsCall (K.at desk.old) (K.at desk.new) }
+    ensures holds { HoldsSince (stands (K.at desk.old)) (stands (K.at desk.new)) }
+    ensures taken { IfOk result (IsTaken (K.at desk.old) (K.at desk.new)) }
+    ensures none { OnErr result (TakesNone (K.at desk.old) (K.at desk.new)) }
 {
     let look = desk.look(rt);
     let known = desk.held().prefix();

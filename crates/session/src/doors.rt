@@ -180,11 +180,12 @@ fn feed<B: Bell, L: Link, R: Wait, G>(
 
 /// Looks at the board, and ends the loop where it halts.
 fn pause<K: Desk, R: Wait>(rt: &R, desk: &mut K) -> Option<DoorEnded>
-    ensures place { K.place desk.new ≡ K.place desk.old }
-    ensures looks { LooksBetween (K.place desk.old) (stands K.seen K.version K.looks desk.old)
-        (stands K.seen K.version K.looks desk.new) }
-    ensures halts { IfSome result (λ ended. (ended ≡ Halting) × IsHalting (K.seen desk.new)) }
-    ensures on { IfNone result (IsHalting (K.seen desk.new) → ⊥) }
+    ensures place { (K.at desk.new).place ≡ (K.at desk.old).place }
+    ensures looks { LooksBetween (K.at desk.old).place (stands (K.at desk.old))
+        (stands (K.at desk.new)) }
+    ensures halts { IfSome result (λ ended. (ended ≡ Halting)
+        × IsHalting (K.at desk.new).seen) }
+    ensures on { IfNone result (IsHalting (K.at desk.new).seen → ⊥) }
 {
     if desk.look(rt).halting {
         return Some(DoorEnded::Halting);

@@ -20,19 +20,18 @@ pub struct Lone {
 }
 
 impl Desk for Lone {
-    ghost place = { λ lone. record {
-      pass = lone.pass;
-      start = lone.board.start;
-      order = lone.board.order;
-      room = lone.board.room;
-      shared = None;
+    ghost at = { λ lone. record {
+      place = record {
+        pass = lone.pass;
+        start = lone.board.start;
+        order = lone.board.order;
+        room = lone.board.room;
+        shared = None;
+      };
+      seen = lone.board.history;
+      version = lone.board.version;
+      looks = None;
     } };
-
-    ghost seen = { λ lone. lone.board.history };
-
-    ghost version = { λ lone. lone.board.version };
-
-    ghost looks = { λ _. None };
 
     fn look<R: Wait>(&mut self, _rt: &R) -> Look {
         // That the history is legal, and the published version one, is known from here.

@@ -1,9 +1,8 @@
 //! A seat at a board that threads share.
 
-ghost use Rattle.std.specs.Prelude.{◌≡◌, Some};
-ghost use Rattle.path_board.specs.Passes.{held_of, looks_of, seen_of, IsPassOf};
+ghost use Rattle.path_board.specs.Passes.{IsPassOf};
 ghost use Rattle.path_board.specs.SharedBoards.{board_id};
-ghost use Rattle.session.specs.Seats.{place_of};
+ghost use Rattle.session.specs.Seats.{desk_of};
 
 use crate::desk::Desk;
 use edit_log::Edit;
@@ -27,13 +26,7 @@ pub struct Seated<'a, B: Bell> {
 }
 
 impl<B: Bell> Desk for Seated<'_, B> {
-    ghost place = { λ seat. place_of seat.pass };
-
-    ghost seen = { λ seat. seen_of seat.pass };
-
-    ghost version = { λ seat. held_of seat.pass };
-
-    ghost looks = { λ seat. Some (looks_of seat.pass) };
+    ghost at = { λ seat. desk_of seat.pass };
 
     fn look<R: Wait>(&mut self, rt: &R) -> Look {
         self.board.look(rt, &mut self.pass)

@@ -78,9 +78,9 @@ pub fn serve_link<K: Desk, L: Link, R: Threads + Wait + Sync, G: Gate>(
 ) -> Result<Ended, SessionFault>
     requires worker { 0 < workers }
     requires workers { workers ≤ MAX_WORKERS }
-    ensures place { K.place desk.new ≡ K.place desk.old }
-    ensures talk { Conversed (K.place desk.old) (stands K.seen K.version K.looks desk.old)
-        (L.talk link.old) result (stands K.seen K.version K.looks desk.new) (L.talk link.new) }
+    ensures place { (K.at desk.new).place ≡ (K.at desk.old).place }
+    ensures talk { Conversed (K.at desk.old).place (stands (K.at desk.old)) (L.talk link.old)
+        result (stands (K.at desk.new)) (L.talk link.new) }
     ensures cause { IfErr result (HasCause (L.read_faults link.old) (L.read_faults link.new)
         (L.write_faults link.old) (L.write_faults link.new)) }
     ensures reads { L.read_faults link.old ≤ L.read_faults link.new }
@@ -115,9 +115,9 @@ fn serve_frames<K: Desk, L: Link, R: Threads + Wait + Sync, G: Gate>(
 ) -> Result<Ended, SessionFault>
     requires start { session.old.proto ≡ Start }
     requires none { session.old.held ≡ [] }
-    ensures place { K.place desk.new ≡ K.place desk.old }
-    ensures talk { Conversed (K.place desk.old) (stands K.seen K.version K.looks desk.old)
-        (L.talk link.old) result (stands K.seen K.version K.looks desk.new) (L.talk link.new) }
+    ensures place { (K.at desk.new).place ≡ (K.at desk.old).place }
+    ensures talk { Conversed (K.at desk.old).place (stands (K.at desk.old)) (L.talk link.old)
+        result (stands (K.at desk.new)) (L.talk link.new) }
     ensures cause { IfErr result (HasCause (L.read_faults link.old) (L.read_faults link.new)
         (L.write_faults link.old) (L.write_faults link.new)) }
     ensures reads { L.read_faults link.old ≤ L.read_faults link.new }
@@ -144,10 +144,10 @@ fn serve_next<K: Desk, L: Link, R: Threads + Wait + Sync, G: Gate>(
     ahead: bool,
 ) -> Result<Option<Ended>, SessionFault>
     requires begun { length session.old.held ≤ 2 }
-    ensures place { K.place desk.new ≡ K.place desk.old }
-    ensures steps { Steps (K.place desk.old) ahead
-        (point session.old (stands K.seen K.version K.looks desk.old) (L.talk link.old)) result
-        (point session.new (stands K.seen K.version K.looks desk.new) (L.talk link.new)) }
+    ensures place { (K.at desk.new).place ≡ (K.at desk.old).place }
+    ensures steps { Steps (K.at desk.old).place ahead
+        (point session.old (K.at desk.old) (L.talk link.old)) result
+        (point session.new (K.at desk.new) (L.talk link.new)) }
     ensures cause { IfErr result (HasCause (L.read_faults link.old) (L.read_faults link.new)
         (L.write_faults link.old) (L.write_faults link.new)) }
     ensures reads { L.read_faults link.old ≤ L.read_faults link.new }
@@ -213,10 +213,10 @@ fn serve_frame<K: Desk, L: Link, R: Threads + Wait + Sync, G: Gate>(
     room: &mut ReplyRoom,
 ) -> Result<Option<Ended>, Failed>
     requires fits { length frame.now ≤ MAX_REQUEST }
-    ensures place { K.place desk.new ≡ K.place desk.old }
-    ensures tells { TellsBack (K.place desk.old) proto frame.now
-        (stands K.seen K.version K.looks desk.old) (L.talk link.old) result
-        (stands K.seen K.version K.looks desk.new) (L.talk link.new) }
+    ensures place { (K.at desk.new).place ≡ (K.at desk.old).place }
+    ensures tells { TellsBack (K.at desk.old).place proto frame.now
+        (stands (K.at desk.old)) (L.talk link.old) result
+        (stands (K.at desk.new)) (L.talk link.new) }
     ensures cause { OnErr result (Rose (L.write_faults link.old) (L.write_faults link.new)) }
     ensures writes { L.write_faults link.old ≤ L.write_faults link.new }
     ensures reads { L.read_faults link.new ≡ L.read_faults link.old }
@@ -240,10 +240,9 @@ fn answer_frame<K: Desk, R: Threads + Wait + Sync, G: Gate>(
 ) -> (Reply, Option<Ended>)
     requires fits { length frame.now ≤ MAX_REQUEST }
     requires none { room.old ≡ [] }
-    ensures place { K.place desk.new ≡ K.place desk.old }
-    ensures answers { AnswersSo (K.place desk.old) proto frame.now
-        (stands K.seen K.version K.looks desk.old) result.0 room.new result.1
-        (stands K.seen K.version K.looks desk.new) }
+    ensures place { (K.at desk.new).place ≡ (K.at desk.old).place }
+    ensures answers { AnswersSo (K.at desk.old) proto frame.now result.0 room.new result.1
+        (K.at desk.new) }
 {
     match decode_request(frame, proto) {
         Ok(request) => {

@@ -5,7 +5,6 @@ ghost use Rattle.std.specs.Prelude.{◌≡◌, []};
 ghost use Rattle.query_proto.specs.declared.requests.Request.TheVariants.{Query};
 ghost use Rattle.walker.specs.Walks.{CostsAhead, HasFewAhead};
 ghost use Rattle.session.specs.Answering.{AreBytesAhead, Tells, TellsBy};
-ghost use Rattle.session.specs.Standing.{stands};
 
 use crate::answers::{answer, holds_published, told_at, why_of};
 use crate::desk::Desk;
@@ -28,9 +27,8 @@ pub(crate) fn tell<K: Desk, R: Threads + Wait + Sync, G: Gate>(
     room: &mut ReplyRoom,
 ) -> Reply
     requires none { room.old ≡ [] }
-    ensures place { K.place desk.new ≡ K.place desk.old }
-    ensures tells { Tells (K.place desk.old) request (stands K.seen K.version K.looks desk.old)
-        result room.new (stands K.seen K.version K.looks desk.new) }
+    ensures place { (K.at desk.new).place ≡ (K.at desk.old).place }
+    ensures tells { Tells (K.at desk.old) request result room.new (K.at desk.new) }
 {
     match request {
         Request::Query { start, goal } => tell_query(means.rt, desk, start, goal, room),
@@ -57,10 +55,8 @@ fn tell_query<K: Desk, R: Wait>(
     room: &mut ReplyRoom,
 ) -> Reply
     requires none { room.old ≡ [] }
-    ensures place { K.place desk.new ≡ K.place desk.old }
-    ensures tells { Tells (K.place desk.old) (Query start goal)
-        (stands K.seen K.version K.looks desk.old)
-        result room.new (stands K.seen K.version K.looks desk.new) }
+    ensures place { (K.at desk.new).place ≡ (K.at desk.old).place }
+    ensures tells { Tells (K.at desk.old) (Query start goal) result room.new (K.at desk.new) }
 {
     if !holds_published(rt, desk) {
         return told_at(desk, Reply::NoMemory).reply;

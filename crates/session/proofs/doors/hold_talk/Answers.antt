@@ -1,4 +1,4 @@
-use Rattle.std.proofs.Common.{subst, sym}
+use Rattle.std.proofs.Common.{subst}
 use Rattle.session.specs.Seats.{place_of, standing_of}
 use Rattle.session.specs.Trades.{IsFeedBy, IsNoFeed}
 use Rattle.session.proofs.FedTalks.{held_feed, held_session, move_feed, move_session}

@@ -6,9 +6,9 @@ use Rattle.session.proofs.sessions.serve_frames.Given as goal
 
 abbrev pub invariant-loop-count : goal.invariant-loop-count
 invariant-loop-count g l = record {
-  talk : InTalk (g.K.Desk.place l.fn.desk) (stands g.K.Desk.seen g.K.Desk.version g.K.Desk.looks l.fn.desk) (g.L.Link.talk l.fn.link)
-      l.count (point l.session (stands g.K.Desk.seen g.K.Desk.version g.K.Desk.looks l.desk) (g.L.Link.talk l.link));
-  place : g.K.Desk.place l.desk ≡ g.K.Desk.place l.fn.desk;
+  talk : InTalk (g.K.Desk.at l.fn.desk).place (stands (g.K.Desk.at l.fn.desk)) (g.L.Link.talk l.fn.link)
+      l.count (point l.session (g.K.Desk.at l.desk) (g.L.Link.talk l.link));
+  place : (g.K.Desk.at l.desk).place ≡ (g.K.Desk.at l.fn.desk).place;
   reads : g.L.Link.read_faults l.fn.link ≤ g.L.Link.read_faults l.link;
   writes : g.L.Link.write_faults l.fn.link ≤ g.L.Link.write_faults l.link;
 }
