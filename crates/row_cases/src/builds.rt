@@ -147,7 +147,7 @@ fn row_text(alloc: Global, comp: &CompData, source: Cell) -> Result<Option<Strin
     let mut text = String::new(alloc);
     write_runs(&mut text, &row)?;
     let Cell { x, y } = comp.cells().last().copied().unwrap_or_default();
-    let kind = comp.kind();
+    let kind = comp.kind().number();
     write!(text, ", order {kind}, last {x},{y}")?;
     Ok(Some(text))
 }
@@ -268,7 +268,7 @@ fn by_workers<R: Threads + Sync>(
 }
 
 /// In how many rows two components differ. Another number of cells or of runs counts too.
-fn rows_differ(found: &CompData, wanted: &CompData) -> u32 {
+pub(crate) fn rows_differ(found: &CompData, wanted: &CompData) -> u32 {
     if found.cells() != wanted.cells() {
         return u32::MAX;
     }

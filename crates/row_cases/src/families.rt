@@ -4,7 +4,7 @@ ghost use Rattle.std.specs.Prelude.{◌<◌, IfOk, IfSome};
 ghost use Rattle.moves.specs.Maps.{IsSearchable};
 
 use crate::fields::{numbers_in, parted, tally};
-use crate::{builds, edits, labelling, plain_maps, searches, sets, tiling};
+use crate::{builds, edits, labelling, plain_maps, searches, sets, staying, tiling};
 use case_kit::grid_of;
 use moves::Grid;
 use std::alloc::{AllocError, Global};
@@ -147,6 +147,10 @@ fn compared<R: Threads + Sync>(
         "components after edits and anew" => edits::differences(alloc, grid, number)?,
         "tiles and plain rows" => tiling::differences(alloc, grid)?,
         "tiles and searches" => builds::tile_differences(rt, alloc, grid, number)?,
+        "rows after one edit and anew" => staying::differences(rt, alloc, grid)?,
+        "rows after some edits and anew" => {
+            staying::several_differences(rt, alloc, grid, number)?
+        }
         "runs and fewest" => builds::run_differences(rt, alloc, grid)?,
         _ => return Ok(None),
     };

@@ -19,6 +19,7 @@ mod pools;
 mod searches;
 mod sets;
 mod shapes;
+mod staying;
 mod tiling;
 
 use std::alloc::{AllocError, Global};
@@ -40,6 +41,7 @@ pub fn answer<R: Threads + Wait + Sync>(
         "row" => builds::row_line(rt, alloc, input)?,
         "look up" => builds::look_up_line(rt, alloc, input)?,
         "places" => builds::places_line(rt, alloc, input)?,
+        "known rows" => staying::known_rows_line(rt, alloc, input)?,
         "workers" => builds::workers_line(rt, alloc, input)?,
         "side by side" => gates::side_by_side_line(rt, alloc, input)?,
         _ => return alone(alloc, kind, input),
