@@ -1,10 +1,10 @@
 """Want of memory: one request for memory after the other is refused, in sessions of `talk` and of `serve`, in `export` and
-in `verify`, and in `follow` (allocs.sh says what is right then, and runs it).
+in `verify`, in `follow`, and in `lead` with a feed (allocs.sh says what is right then, and runs it).
 
 allocs.py PROGRAM LIBRARY MAP OPEN_MAP DATABASE, where LIBRARY is made of allocs.c, MAP is `.@.` and OPEN_MAP `...`.
 DATABASE is where the file of MAP's database may lie.
 """
-import os, subprocess, sys, time
+import os, socket, subprocess, sys, time
 
 import judging  # the way to the client
 from nodes import ONE_EDIT, ROW_START, FakeLeader
@@ -139,6 +139,59 @@ def follow(number, lasting, room):
     wrong = status != 0 or rest or replies != right or not text.startswith(b"following 1\n")
     return told, felt, wrong and f"status {status}, {text!r} and {replies}"
 
+EDIT = Change((1, 0), Terrain.BLOCKED)
+NO_EDIT = bytes.fromhex("00000009 32 00000000 00000000")
+EDIT_FED = bytes.fromhex("0000000f 32 00000000 00000001 01 0001 0000 00")
+NO_MEMORY_FED = bytes.fromhex("00000001 34")
+
+def fed():
+    """What a leader sends to who asks once."""
+    data = b""
+    try:
+        with socket.create_connection(("127.0.0.1", feed_port), timeout=10) as link:
+            link.sendall(b"\x21" + bytes(4))
+            link.shutdown(socket.SHUT_WR)
+            while piece := link.recv(4096):
+                data += piece
+    except OSError:
+        pass
+    return data
+
+def lead(number, lasting, room):
+    """The same, of a leader: a path and an edit over a connection, then a feed, and then the stop."""
+    run = Run(number, lasting, "lead", open_map, str(port), "1", str(feed_port), *room)
+    begun = b"serving %d\nfeeding %d\n" % (port, feed_port)
+    text = run.process.stdout.readline()
+    text += run.process.stdout.readline() if text.startswith(b"serving") else b""
+    replies, feed, stops = [], None, []
+    if text == begun:
+        try:
+            link = TcpLink(port)
+            replies = [ask(link, QUERY), ask(link, EDIT), ask(link, Bye())]
+            link.close()
+            feed = fed()
+            link = TcpLink(port)
+            stops = [ask(link, Stop())]
+            if stops == [OutOfMemory()]:
+                stops.append(ask(link, Stop()))
+            link.close()
+        except NotConnected:
+            pass
+    more, status, told = run.end()
+    if status == 7:
+        right = text + more in (b"out of memory\n", begun + b"out of memory\n", b"")
+        return told, ["status 7"], not right and f"status 7 behind {text + more!r}"
+    edits = 0 if replies[1:2] == [OutOfMemory()] else 1
+    felt = [name for name, is_felt in (("change", not edits), ("stop", stops[:1] == [OutOfMemory()]), ("feed", feed in (NO_MEMORY_FED, ROW_START + NO_MEMORY_FED)), ("no feed", feed == b"")) if is_felt]
+    wrong = (
+        status != 0
+        or replies != [Path(0, 2, 0, EAST_TWICE), Accepted(1) if edits else OutOfMemory(), Done()]
+        or stops[-1:] != [Done()]
+        or not felt and feed != ROW_START + (EDIT_FED if edits else NO_EDIT)
+        or more not in [b"accepted %d\npublished %d\nversion %d\n" % (edits, each, each) for each in (0, edits)]
+    )
+    return told, felt, wrong and f"status {status}, {text + more!r}, {replies}, {feed} and {stops}"
+
 def prints(number, lasting, words):
     """The same, in a command that prints: it prints all that it has to, or the line of status 7 alone."""
     text, status, told = Run(number, lasting, *words).end()
@@ -152,12 +205,12 @@ def refuse_each(run, lasting, room, allowed):
     name = " ".join([run.__name__, *room, *["lasting" for _ in range(lasting)]])
     seen, unfelt = set(), False
     # `serve` tries whether the threads are there that its door and its builder need, and does not begin with fewer
-    tried = 2 if run is serve else 0
+    tried = {serve: 2, lead: 4}.get(run, 0)
     for number in range(1, 100000):
         told, felt, wrong = run(number, lasting, room)
         if not told and not felt and not wrong:
             break
-        if felt and told == "t":
+        if felt and told == "t" and felt != ["no feed"]:
             tried -= 1
         if not wrong and (not told or len(felt) > 1 or set(felt) - allowed or tried < 0 or (lasting and felt and unfelt)):
             wrong = f"refused: {told!r}, and felt: {felt}"
@@ -183,7 +236,7 @@ def try_all(run, lasting, room, allowed):
     failed = 1
     print(f"allocs.sh: {name}: felt {sorted(seen)}, and not {sorted(allowed)}", file=sys.stderr)
 
-port = free_port()
+port, feed_port = free_port(), free_port()
 whole = {"export": subprocess.run([program, "export", row], capture_output=True, check=True).stdout}
 with open(database, "wb") as file:
     file.write(whole["export"])
@@ -195,6 +248,7 @@ for lasting in (False, True):
     try_all(prints, lasting, ["export", row], {"status 7"})
     try_all(prints, lasting, ["verify", database], {"status 7"})
     try_all(follow, lasting, [], {"status 7", "change", "build"})
+    try_all(lead, lasting, [], {"status 7"} if lasting else {"status 7", "feed", "no feed"})
 # nothing but its end would end a server that has no memory for a stop
 try_all(serve, False, ["--room", "0"], {"status 7", "stop"})
 sys.exit(failed)

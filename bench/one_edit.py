@@ -1,0 +1,124 @@
+#!/usr/bin/env python3
+"""Counts the instructions of a version after one edit, beside those of the first version of the same map.
+
+    bench/one_edit.py [--edits N] [--seed S] [--maps FOLDER] [--program FILE]
+
+On each of six maps of some 3,000 to 10,000 cells so many doors and so many random cells are blocked and freed again, one
+after the other, in one session of `talk`; after each edit a version is built. A door is a passable cell between two
+blocked ones, north and south or east and west of it, whose other two neighbours are passable. Callgrind counts the
+instructions of each plan and build; the first version is built by one worker too, and has no former one. Prints the
+median, the worst tenth and the worst of the quotients. Where an edit cuts a component in two, the quotient is that of the
+first version all the same, though the parts by themselves have fewer rows. With --maps it takes the .map files of a
+folder. The program is the one that was built here (./build)."""
+import argparse
+import os
+import random
+import re
+import subprocess
+import sys
+import tempfile
+
+import maps
+
+TOP = os.path.dirname(os.path.dirname(os.path.abspath(__file__)))
+sys.path.insert(0, os.path.join(TOP, "clients", "python"))
+
+from path_server import Build, Bye, Change, Published, Terrain  # noqa: E402
+from path_server.frames import decoded, encoded, split_replies  # noqa: E402
+
+KINDS = [("open", 64), ("rooms", 67), ("rooms", 101), ("caves", 90), ("caves", 120), ("blocked20", 80)]
+BEGINS, ENDS = "version_build::planning::plan*", "version_build::building::build*"
+
+
+def map_text(rows):
+    return "type octile\nheight %d\nwidth %d\nmap\n%s\n" % (len(rows), len(rows[0]), "\n".join(rows))
+
+
+def is_open(rows, column, row):
+    return 0 <= row < len(rows) and 0 <= column < len(rows[0]) and rows[row][column] == "."
+
+
+def is_door(rows, column, row):
+    """Whether a cell lies between two blocked ones, and between two passable ones the other way."""
+    north, south = is_open(rows, column, row - 1), is_open(rows, column, row + 1)
+    west, east = is_open(rows, column - 1, row), is_open(rows, column + 1, row)
+    return (north and south and not west and not east) or (west and east and not north and not south)
+
+
+def chosen(rows, count, rng):
+    """So many doors, where there are as many, and so many of all passable cells."""
+    cells = [(x, y) for y in range(len(rows)) for x in range(len(rows[0])) if is_open(rows, x, y)]
+    doors = [cell for cell in cells if is_door(rows, *cell)]
+    return {"doors": rng.sample(doors, min(count, len(doors))), "random cells": rng.sample(cells, count)}
+
+
+def counts(program, name, requests):
+    """The instructions of each plan with its build in a session of these requests, and what the session said."""
+    with tempfile.TemporaryDirectory() as folder:
+        out = os.path.join(folder, "out")
+        words = ["valgrind", "--tool=callgrind", "--callgrind-out-file=" + out, "--zero-before=" + BEGINS, "--dump-after=" + ENDS]
+        done = subprocess.run([*words, program, "talk", name], input=requests, capture_output=True, check=True)
+        told = []
+        for number in range(1, 100_000):
+            if not os.path.exists("%s.%d" % (out, number)):
+                break
+            with open("%s.%d" % (out, number), encoding="utf-8", errors="replace") as file:
+                told.append(int(re.search(r"^summary: (\d+)", file.read(), re.M).group(1)))
+    return told, done.stdout
+
+
+def requests_of(cells):
+    """Each cell is blocked and freed, and each time a version is built."""
+    edits = [Change(cell, terrain) for cell in cells for terrain in (Terrain.BLOCKED, Terrain.LAND)]
+    return [request for edit in edits for request in (edit, Build())] + [Bye()]
+
+
+def quotients(program, name, cells):
+    """For each cell what the versions after it is blocked and freed take of the first version."""
+    told, said = counts(program, name, b"".join(map(encoded, requests_of(cells))))
+    replies = [decoded(frame) for frame in split_replies(said)[0]]
+    assert sum(isinstance(reply, Published) for reply in replies) == 2 * len(cells), replies[:8]
+    assert len(told) > 2 * len(cells), len(told)
+    first, *after = told
+    return first, [count / first for count in after[: 2 * len(cells)]]
+
+
+def at(values, share):
+    return sorted(values)[min(len(values) - 1, int(share * len(values)))]
+
+
+def main():
+    parser = argparse.ArgumentParser(description=__doc__.split("\n", maxsplit=1)[0])
+    parser.add_argument("--edits", type=int, default=50)
+    parser.add_argument("--seed", type=int, default=1)
+    parser.add_argument("--maps")
+    parser.add_argument("--program", default=os.path.join(TOP, "crates/path_server/out/path_server"))
+    options = parser.parse_args()
+    rng = random.Random(options.seed)
+    if options.maps:
+        names = sorted(name for name in os.listdir(options.maps) if name.endswith(".map"))
+        drawn = [(name, open(os.path.join(options.maps, name), encoding="ascii").read().splitlines()[4:]) for name in names]
+    else:
+        drawn = [("%s of %d" % kind, maps.drawn(*kind)) for kind in KINDS]
+    all_of = {"doors": [], "random cells": []}
+    with tempfile.TemporaryDirectory() as folder:
+        name = os.path.join(folder, "a.map")
+        for what, rows in drawn:
+            with open(name, "w", encoding="ascii") as file:
+                file.write(map_text(rows))
+            for kind, cells in chosen(rows, options.edits, rng).items():
+                if not cells:
+                    print("%-14s %-12s none" % (what, kind), flush=True)
+                    continue
+                first, shares = quotients(options.program, name, cells)
+                all_of[kind] += shares
+                print("%-14s %-12s %3d cells, the first version %6.1f million: median %.3f, worst tenth %.3f, worst %.3f"
+                      % (what, kind, len(cells), first / 1e6, at(shares, 0.5), at(shares, 0.9), max(shares)), flush=True)
+    for kind, shares in all_of.items():
+        if shares:
+            print("%-14s %-12s median %.3f, worst tenth %.3f, worst %.3f"
+                  % ("all", kind, at(shares, 0.5), at(shares, 0.9), max(shares)))
+
+
+if __name__ == "__main__":
+    main()
