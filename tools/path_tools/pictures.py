@@ -16,6 +16,7 @@ _LINE = 20  # pixels of a line of text
 BLOCKED, LAND, WATER, INK, PAPER = "#3b4252", "#f3efe6", "#cfe3ee", "#1f2430", "#ffffff"
 PATH, FORMER_PATH, START, GOAL = "#d1495b", "#7a8599", "#1b7f4d", "#2455a4"
 ADDED, REMOVED, REBUILT = "#5fae6e", "#c8553d", "#cfe0f5"
+KEPT, CHANGED = "#d9ead3", "#f2a65a"
 MOVES = {
     Move.N: "#d7263d",
     Move.NE: "#f46036",

@@ -111,3 +111,16 @@ def runs_by_row(grid: Grid, order: str) -> Iterator[Tuple[int, int]]:
         places = ordered(grid, component, order)
         for source in component:
             yield source, len(packed(search(grid, source)[1], places))
+
+
+def kept_and_changed(old: Grid, new: Grid) -> Tuple[List[int], List[int]]:
+    """The places that are passable in both maps: those whose sets of first moves to all such places are the same in
+    both, and the others."""
+    both = [place for place in old.places if new.terrain[place]]
+    kept: List[int] = []
+    changed: List[int] = []
+    for source in both:
+        before, after = search(old, source)[1], search(new, source)[1]
+        same = all(before.get(place) == after.get(place) for place in both)
+        (kept if same else changed).append(source)
+    return kept, changed

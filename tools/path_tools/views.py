@@ -1,4 +1,5 @@
-"""The views that `tools/draw` makes: a map, a path on it, components, first moves, runs a row, two versions."""
+"""The views that `tools/draw` makes: a map, a path on it, components, first moves, runs a row, two versions, what one edit
+leaves as it is."""
 
 from __future__ import annotations
 
@@ -12,10 +13,12 @@ from .grids import Grid
 from .pictures import (
     ADDED,
     BLOCKED,
+    CHANGED,
     COMPONENTS,
     FORMER_PATH,
     GOAL,
     INK,
+    KEPT,
     LAND,
     MOVES,
     PATH,
@@ -26,7 +29,7 @@ from .pictures import (
     Picture,
     heat,
 )
-from .searches import components, runs_by_row, stored_moves
+from .searches import components, kept_and_changed, runs_by_row, stored_moves
 
 Ends = Tuple[Cell, Cell]
 
@@ -129,6 +132,25 @@ def difference_view(name: str, old: Grid, new: Grid, ends: List[Ends], order: st
         _draw_change(picture, pair, former, later)
     picture.key([(ADDED, "now passable"), (REMOVED, "now blocked"), (REBUILT, "row built anew"), (LAND, "row kept")])
     picture.caption("%d cells differ; %s" % (len(changed), built))
+    return picture
+
+
+def stays_view(grid: Grid, cell: Cell) -> Picture:
+    """From which cells all first moves stay as they are where one cell is blocked, or freed where it is blocked.
+
+    ViewFault: the cell lies outside the map.
+    """
+    if not grid.has(cell):
+        raise ViewFault("the cell, column %d and row %d, is outside" % cell)
+    is_blocked = not grid.is_free(cell)
+    kept, changed = kept_and_changed(grid, grid.changed({cell: is_blocked}))
+    picture = Picture(grid)
+    picture.cells({place: KEPT for place in kept})
+    picture.cells({place: CHANGED for place in changed})
+    picture.mark(cell, INK, "C")
+    picture.key([(KEPT, "all first moves stay"), (CHANGED, "some change")])
+    done = "freed" if is_blocked else "blocked"
+    picture.caption("C is %s: of %d cells %d keep all their first moves" % (done, len(kept) + len(changed), len(kept)))
     return picture
 
 
