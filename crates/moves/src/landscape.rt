@@ -156,6 +156,7 @@ impl Landscape {
         ensures inside { IfSome result (λ to. IsTarget cell by to × IsInside self.now to) }
         ensures outside { IfNone result (LeadsOutside self.now cell by) }
     {
+        // That the sides lie inside the limits is known where a field is read.
         let _ = &self.width;
         let to = target(cell, by)?;
         if self.inside(to) { Some(to) } else { None }
@@ -262,6 +263,7 @@ impl Landscape {
         ensures { (move : Move) → number_of move ≡ number
             → (IsTrue result ↔ HasFree self.now cell move) }
     {
+        // That the sides lie inside the limits is known where a field is read.
         let _ = &self.width;
         let Some(by) = Move::of(number) else {
             return false;
@@ -292,6 +294,7 @@ impl Landscape {
         requires row { y < self.now.height }
         ensures { WritesMasks self.now left right y (y + 1) masks.old masks.new }
     {
+        // That the sides lie inside the limits is known where a field is read.
         let _ = &self.width;
         for x in left..right {
             let cell = Cell {
