@@ -4,34 +4,35 @@ use Rattle.std.proofs.lemmas.List.{get_or-take, length-take}
 use Rattle.std.proofs.lemmas.Simd.{get_or-replicate}
 use Rattle.lane_rows.specs.Equations.{far, lane_of}
 use Rattle.lane_rows.specs.Tiles.{IsSolved}
-use Rattle.lane_rows.specs.Visits.{AreSettled, AreSolved, IsSwept}
+use Rattle.lane_rows.specs.Visits.{AreSettled, AreSolved, IsSwept, LanesAt, lane_in}
 use Rattle.root_cost.specs.declared.TheConstants.{GREATEST_KEY}
 
 pub far_at_start : (keys : List (List ℕ)) (count place lane : ℕ) → place < count → lane < 16 → keys ≡ replicate count (replicate 16 far) → lane_of keys lane place ≡ far
 far_at_start keys count place lane p l filled =
     ap (λ rows. get_or (get_or rows place []) lane 0) filled ∙ ap (λ row. get_or row lane 0) (get_or-replicate count place (replicate 16 far) [] p) ∙ get_or-replicate 16 lane far 0 l
 
-pub all_wait : (near : List (List ℕ)) (source : ℕ) (keys sets : ℕ → ℕ) (waits : List ℕ) (count : ℕ) → length near < count → waits ≡ replicate count 1 → AreSettled near source keys sets (slice_index waits)
-all_wait near source keys sets waits count more filled = record {
+pub all_wait : (near : List (List ℕ)) (source : ℕ) (all : LanesAt) (lane count : ℕ) → length near < count → all.waits ≡ replicate count 1
+    → AreSettled near source (lane_in all lane)
+all_wait near source all lane count more filled = record {
   each = λ place p none.
-      let one : get_or waits place 0 ≡ 1 = ap (λ list. get_or list place 0) filled ∙ get_or-replicate count place 1 0 (omega arith) in
-      let zero : get_or waits place 0 ≡ 0 = none in
+      let one : get_or all.waits place 0 ≡ 1 = ap (λ list. get_or list place 0) filled ∙ get_or-replicate count place 1 0 (omega arith) in
+      let zero : get_or all.waits place 0 ≡ 0 = none in
       absurd (omega arith);
 }
 
-pub solved : (near : List (List ℕ)) (sources : List ℕ) (keys sets : List (List ℕ)) (waits : List ℕ) (keys' sets' : List (List ℕ)) (waits' : List ℕ) (count : ℕ) → length near < count → waits ≡ replicate count 1
-    → length keys' ≡ count
-    → ((lane : ℕ) → lane < 16 → lane_of keys lane (length near) ≡ far) → IsSwept near sources keys sets waits keys' sets' waits'
-    → ((place : ℕ) → slice_index (take (length near) waits') place ≡ 0)
-    → ((lane place : ℕ) → lane < 16 → place < length (take (length near) keys') → lane_of (take (length near) keys') lane place < GREATEST_KEY)
-    → (lane : ℕ) → lane < 16 → AreSolved near (slice_index sources lane) (lane_of keys' lane) (lane_of sets' lane)
-solved near sources keys sets waits keys' sets' waits' count more filled long start swept none small lane l =
-    let settled = swept.settled lane l (all_wait near (slice_index sources lane) (lane_of keys lane) (lane_of sets lane) waits count more filled) in
+pub solved : (near : List (List ℕ)) (sources : List ℕ) (old new : LanesAt) (count : ℕ) → length near < count → old.waits ≡ replicate count 1
+    → length new.keys ≡ count
+    → ((lane : ℕ) → lane < 16 → lane_of old.keys lane (length near) ≡ far) → IsSwept near sources old new
+    → ((place : ℕ) → slice_index (take (length near) new.waits) place ≡ 0)
+    → ((lane place : ℕ) → lane < 16 → place < length (take (length near) new.keys) → lane_of (take (length near) new.keys) lane place < GREATEST_KEY)
+    → (lane : ℕ) → lane < 16 → AreSolved near (slice_index sources lane) (lane_of new.keys lane) (lane_of new.sets lane)
+solved near sources old new count more filled long start swept none small lane l =
+    let settled = swept.settled lane l (all_wait near (slice_index sources lane) old lane count more filled) in
     record {
-      settled = λ place p. settled.each place p (sym (get_or-take (length near) waits' place 0 p) ∙ none place);
+      settled = λ place p. settled.each place p (sym (get_or-take (length near) new.waits place 0 p) ∙ none place);
       small = λ place p.
-          let same : lane_of (take (length near) keys') lane place ≡ lane_of keys' lane place = ap (λ row. get_or row lane 0) (get_or-take (length near) keys' place [] p) in
-          let low = small lane place l (let t = length-take (length near) keys' in omega arith) in
+          let same : lane_of (take (length near) new.keys) lane place ≡ lane_of new.keys lane place = ap (λ row. get_or row lane 0) (get_or-take (length near) new.keys place [] p) in
+          let low = small lane place l (let t = length-take (length near) new.keys in omega arith) in
           omega arith;
       none = swept.last lane l ∙ start lane l;
     }

@@ -3,7 +3,7 @@
 ghost use Rattle.std.specs.Prelude.{◌≡◌, ℕ, ◌+◌, ◌<◌, ◌≤◌, IsTrue, length, slice_index};
 ghost use Rattle.lane_rows.specs.Tables.{IsMutual};
 ghost use Rattle.lane_rows.specs.Equations.{far, lane_of, AreInRange};
-ghost use Rattle.lane_rows.specs.Visits.{AreSolved, HasRows, IsSwept};
+ghost use Rattle.lane_rows.specs.Visits.{AreSolved, HasRows, IsSwept, lanes_at};
 
 use crate::kernels::{FAR, FULL, has_beyond};
 use crate::sweeps::{lower, lower_back, sweep, sweep_back};
@@ -62,7 +62,7 @@ pub(crate) fn solve(
     waits: &mut [u8],
 ) -> bool
     requires near { IsMutual near.now }
-    requires rows { HasRows near.now keys.old sets.old waits.old }
+    requires rows { HasRows near.now (lanes_at keys.old sets.old waits.old) }
     ensures { IsTrue result → (lane : ℕ) → lane < 16
         → AreSolved near.now (slice_index sources lane) (lane_of keys.new lane) (lane_of sets.new
         lane) }
@@ -103,9 +103,10 @@ fn find_sets(
     waits: &mut [u8],
 )
     requires near { IsMutual near.now }
-    requires rows { HasRows near.now keys.old sets.old waits.old }
+    requires rows { HasRows near.now (lanes_at keys.old sets.old waits.old) }
     requires range { AreInRange keys.old }
-    ensures { IsSwept near.now sources keys.old sets.old waits.old keys.new sets.new waits.new }
+    ensures { IsSwept near.now sources (lanes_at keys.old sets.old waits.old)
+        (lanes_at keys.new sets.new waits.new) }
 {
     let mut count = plan.nearest;
     for _ in 0..GROWINGS {
@@ -128,9 +129,10 @@ fn settle(
     waits: &mut [u8],
 )
     requires near { IsMutual near.now }
-    requires rows { HasRows near.now keys.old sets.old waits.old }
+    requires rows { HasRows near.now (lanes_at keys.old sets.old waits.old) }
     requires range { AreInRange keys.old }
-    ensures { IsSwept near.now sources keys.old sets.old waits.old keys.new sets.new waits.new }
+    ensures { IsSwept near.now sources (lanes_at keys.old sets.old waits.old)
+        (lanes_at keys.new sets.new waits.new) }
 {
     for _ in 0..SETTLING {
         let forth = sweep(near, sources, places, keys, sets, waits);
@@ -151,9 +153,10 @@ fn repair(
     waits: &mut [u8],
 )
     requires near { IsMutual near.now }
-    requires rows { HasRows near.now keys.old sets.old waits.old }
+    requires rows { HasRows near.now (lanes_at keys.old sets.old waits.old) }
     requires range { AreInRange keys.old }
-    ensures { IsSwept near.now sources keys.old sets.old waits.old keys.new sets.new waits.new }
+    ensures { IsSwept near.now sources (lanes_at keys.old sets.old waits.old)
+        (lanes_at keys.new sets.new waits.new) }
 {
     for _ in 0..plan.sweeps {
         if none_waits(&waits[..near.len()]) {

@@ -4,7 +4,7 @@ ghost use Rattle.std.specs.Prelude.{◌≡◌, ℕ, ◌+◌, ◌<◌, ◌≤◌,
 ghost use Rattle.moves.specs.declared.Move.{Move};
 ghost use Rattle.lane_rows.specs.Tables.{edges_of, end_of, IsMutual};
 ghost use Rattle.lane_rows.specs.Equations.{far, lane_of, AreInRange};
-ghost use Rattle.lane_rows.specs.Visits.{HasRows, IsFull, IsSwept, IsVisit};
+ghost use Rattle.lane_rows.specs.Visits.{HasRows, IsFull, IsSwept, IsVisit, lane_in, lanes_at};
 
 use crate::kernels::{has_full, key_at, keys_differ, set_at, sets_differ};
 use std::simd::prelude::*;
@@ -65,8 +65,8 @@ fn visit(
     ensures range { AreInRange keys.new }
     ensures visit { (lane : ℕ) → lane < 16
         → IsVisit edges.now (slice_index sources lane) place
-        (lane_of keys.old lane) (lane_of sets.old lane) (slice_index waits.old)
-        (lane_of keys.new lane) (lane_of sets.new lane) (slice_index waits.new) }
+        (lane_in (lanes_at keys.old sets.old waits.old) lane)
+        (lane_in (lanes_at keys.new sets.new waits.new) lane) }
 {
     let at = usize::from(place);
     let key = key_at(keys, edges, sources, place);
@@ -114,9 +114,10 @@ fn visit_waiting(
     waits: &mut [u8],
 ) -> bool
     requires near { IsMutual near.now }
-    requires rows { HasRows near.now keys.old sets.old waits.old }
+    requires rows { HasRows near.now (lanes_at keys.old sets.old waits.old) }
     requires range { AreInRange keys.old }
-    ensures { IsSwept near.now sources keys.old sets.old waits.old keys.new sets.new waits.new }
+    ensures { IsSwept near.now sources (lanes_at keys.old sets.old waits.old)
+        (lanes_at keys.new sets.new waits.new) }
 {
     if let Some(edges) = edges_at(near, place)
         && waits[usize::from(place)] != 0
@@ -137,9 +138,10 @@ pub(crate) fn sweep(
     waits: &mut [u8],
 ) -> usize
     requires near { IsMutual near.now }
-    requires rows { HasRows near.now keys.old sets.old waits.old }
+    requires rows { HasRows near.now (lanes_at keys.old sets.old waits.old) }
     requires range { AreInRange keys.old }
-    ensures { IsSwept near.now sources keys.old sets.old waits.old keys.new sets.new waits.new }
+    ensures { IsSwept near.now sources (lanes_at keys.old sets.old waits.old)
+        (lanes_at keys.new sets.new waits.new) }
 {
     let mut visited: usize = 0;
     for place in order {
@@ -175,9 +177,10 @@ pub(crate) fn sweep_back(
     waits: &mut [u8],
 ) -> usize
     requires near { IsMutual near.now }
-    requires rows { HasRows near.now keys.old sets.old waits.old }
+    requires rows { HasRows near.now (lanes_at keys.old sets.old waits.old) }
     requires range { AreInRange keys.old }
-    ensures { IsSwept near.now sources keys.old sets.old waits.old keys.new sets.new waits.new }
+    ensures { IsSwept near.now sources (lanes_at keys.old sets.old waits.old)
+        (lanes_at keys.new sets.new waits.new) }
 {
     let mut visited: usize = 0;
     for place in order.iter().rev() {
