@@ -1,5 +1,5 @@
 -- Rows that lie in blocks of words.
-use Rattle.std.proofs.Common.{◌≡◌, ℕ, Result, Ok, Err, OnErr, zero, suc, ◌+◌, ◌-◌, ◌*◌, ◌^◌, ◌<◌, ◌≤◌, ◌⊎◌, List, [], ◌∷◌, ◌++◌, length, map, take, drop, get_or, set, replicate, All, sum_by, inl, inr, arith, refl, sym, ap, subst, ◌∙◌}
+use Rattle.std.proofs.Common.{◌≡◌, ℕ, Result, Ok, Err, OnErr, zero, suc, ◌+◌, ◌-◌, ◌*◌, ◌<◌, ◌≤◌, ◌⊎◌, List, [], ◌∷◌, ◌++◌, length, map, take, drop, get_or, set, replicate, All, sum_by, inl, inr, arith, refl, sym, ap, subst, ◌∙◌}
 use Rattle.std.proofs.Math.ListN.{get_or-append}
 use Rattle.std.proofs.Math.Seq.{drop-append_seam, get_or-append_seam}
 use Rattle.std.proofs.lemmas.Bool.{cases_eq, cases_lt}
@@ -134,7 +134,7 @@ pub few_last : (closed : List (List ℕ)) (words : List ℕ) (spans : List Span)
 few_last closed words spans p = omega (arith, few_words (blocks_of closed words) spans p, sum_of_blocks closed words)
 
 -- a block has a number of sixteen bits
-pub few_closed : (closed : List (List ℕ)) (words : List ℕ) (spans : List Span) → AreSpans (blocks_of closed words) spans → length closed < 2 ^ 16
+pub few_closed : (closed : List (List ℕ)) (words : List ℕ) (spans : List Span) → AreSpans (blocks_of closed words) spans → length closed < MAX_BLOCKS
 few_closed closed words spans p = omega (arith, p.numbered, length_push closed words)
 
 -- words that were added at the end of the last block can be those of a row
@@ -539,7 +539,7 @@ module _ {X : Type 0} (items : X → List ℕ) (closed more : List X) (words las
   pub same_size : length spans ≡ length others
   same_size = omega (arith, size, length-map spans (row_in here), length-map others (row_in there))
 
-  pub numbers_fit : All (λ span. blocks + span.block < 2 ^ 16) others
+  pub numbers_fit : All (λ span. blocks + span.block < MAX_BLOCKS) others
   numbers_fit = λ k d within. omega (arith, q.there k d within, room, length_push (map items more) last, length-map more items)
 
   module _ (new : List X) (ending : X) (now : List Span) (joined : new ≡ closed ++ ending ∷ more) (ends : items ending ≡ words)

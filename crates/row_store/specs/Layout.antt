@@ -19,12 +19,16 @@ block_numbered blocks number = slice_index_or blocks number []
 abbrev pub blocks_of : List (List ℕ) → List ℕ → List (List ℕ)
 blocks_of closed words = closed ++ words ∷ []
 
+-- the places that a block may have: a span keeps where it starts in 32 bits
+abbrev pub start_limit : ℕ
+start_limit = 2 ^ 32
+
 -- the words of the block with that number, from `start` to before `end`, can be those of a row
 pub record CanBeSpan (block start end : ℕ) : Type 0 where
-  pub number : block < 2 ^ 16
+  pub number : block < MAX_BLOCKS
   pub order : start ≤ end
   pub short : end - start ≤ MAX_PLACES
-  pub limit : end < 2 ^ 32
+  pub limit : end < start_limit
 
 -- the words of a row
 abbrev pub words_at : List (List ℕ) → Span → List ℕ

@@ -1,10 +1,10 @@
 //! Rows of runs in blocks of words, each found again by its block, where it starts there and how many words it has.
 
-ghost use Rattle.std.specs.Prelude.{◌≡◌, ◌+◌, ◌-◌, ◌*◌, ◌^◌, ◌<◌, ◌≤◌, ◌↔◌, [], ◌∷◌, ◌++◌, map, take, length, replicate, slice_set, sum_by, All, IfOk, OnOk, OnErr, IsTrue};
+ghost use Rattle.std.specs.Prelude.{◌≡◌, ◌+◌, ◌-◌, ◌*◌, ◌<◌, ◌≤◌, ◌↔◌, [], ◌∷◌, ◌++◌, map, take, length, replicate, slice_set, sum_by, All, IfOk, OnOk, OnErr, IsTrue};
 ghost use Rattle.run_pack.specs.Runs.{ArePackable, word_of, run_of_word};
 ghost use Rattle.row_store.specs.Rows.{row_at};
 ghost use Rattle.row_store.specs.Pools.{AreMerged, AreMergedInPart, CanBeKept, PushesPacked, PutsPacked};
-ghost use Rattle.row_store.specs.Layout.{block_numbered, blocks_of, AreApart, AreFilled, CanBeSpan, HaveWords, IsFilled};
+ghost use Rattle.row_store.specs.Layout.{block_numbered, blocks_of, start_limit, AreApart, AreFilled, CanBeSpan, HaveWords, IsFilled};
 
 use moves::MAX_PASSABLE;
 use run_pack::{MAX_PLACES, Run, append_words, word};
@@ -99,6 +99,25 @@ impl RowPool {
         let start = self.words.len();
         self.spans.reserve(1)?;
         append_runs(&mut self.words, runs)?;
+        self.spans.push(span_from(block, start, self.words.len()))?;
+        Ok(())
+    }
+
+    /// Adds a row that is kept as words.
+    ///
+    /// # Errors
+    ///
+    /// `AllocError` where memory runs out. The pool is as before then.
+    pub fn push_words(&mut self, words: &[u32]) -> Result<(), AllocError>
+        requires rows { length self.old < MAX_PASSABLE }
+        requires few { length words.now ≤ MAX_PLACES }
+        ensures ok { OnOk result (self.new ≡ self.old ++ map run_of_word words.now ∷ []) }
+        ensures refused { OnErr result (self.new ≡ self.old) }
+    {
+        let block = self.closed.len();
+        let start = self.words.len();
+        self.spans.reserve(1)?;
+        self.words.extend_from_slice(words)?;
         self.spans.push(span_from(block, start, self.words.len()))?;
         Ok(())
     }
@@ -279,7 +298,7 @@ fn block_at<'a>(closed: &'a [Vec<u32>], words: &'a [u32], number: usize) -> &'a 
 
 /// How many words the blocks have, of which the last one stands apart.
 fn count_words(closed: &[Vec<u32>], words: &[u32]) -> u64
-    requires { sum_by length (blocks_of (map (λ block. block.items) closed.now) words.now) < 2 ^ 32 }
+    requires { sum_by length (blocks_of (map (λ block. block.items) closed.now) words.now) < start_limit }
     ensures { result ≡ sum_by length (blocks_of (map (λ block. block.items) closed.now) words.now) }
 {
     let mut count = words.len() as u64;
@@ -296,7 +315,7 @@ fn append_runs(words: &mut Vec<u32>, runs: &[Run]) -> Result<(), AllocError>
     ensures refused { OnErr result (words.new.items ≡ words.old.items) }
 {
     let before = words.len();
-    match push_words(words, runs) {
+    match push_runs(words, runs) {
         Ok(()) => Ok(()),
         Err(full) => {
             words.truncate(before);
@@ -306,7 +325,7 @@ fn append_runs(words: &mut Vec<u32>, runs: &[Run]) -> Result<(), AllocError>
 }
 
 /// Appends a word for each run. After an error some of them may stand there.
-fn push_words(words: &mut Vec<u32>, runs: &[Run]) -> Result<(), AllocError>
+fn push_runs(words: &mut Vec<u32>, runs: &[Run]) -> Result<(), AllocError>
     requires { CanBeKept runs.now }
     ensures kept { take (length words.old.items) words.new.items ≡ words.old.items }
     ensures ok { OnOk result (words.new.items ≡ words.old.items ++ map word_of runs.now) }
@@ -359,7 +378,7 @@ fn have_words(own: Span, other: Span) -> bool
 /// Puts the spans of other rows, whose blocks come behind so many, where a row has no words.
 fn fill_spans(own: &mut Vec<Span>, others: &[Span], blocks: u16)
     requires size { length own.old.items ≡ length others.now }
-    requires blocks { All (λ span. blocks + span.block < 2 ^ 16) others.now }
+    requires blocks { All (λ span. blocks + span.block < MAX_BLOCKS) others.now }
     ensures { AreFilled blocks own.old.items others.now own.new.items (length own.old.items) }
 {
     for place in 0..own.len() {
@@ -369,7 +388,7 @@ fn fill_spans(own: &mut Vec<Span>, others: &[Span], blocks: u16)
 
 /// A span, or where it has no words the other one, whose block comes behind so many.
 fn filled(own: Span, other: Span, blocks: u16) -> Span
-    requires { blocks + other.block < 2 ^ 16 }
+    requires { blocks + other.block < MAX_BLOCKS }
     ensures { IsFilled blocks own other result }
 {
     if own.len == 0 {
