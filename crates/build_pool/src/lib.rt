@@ -5,12 +5,12 @@
 //! (Botea 2011; Strasser, Harabor and Botea 2014)
 #![tactic(auto)]
 
-ghost use Rattle.std.specs.Prelude.{◌≡◌, ◌+◌, ◌*◌, ◌/◌, ◌<◌, ◌≤◌, length, IfOk};
+ghost use Rattle.std.specs.Prelude.{◌≡◌, ◌*◌, ◌<◌, ◌≤◌, length, IfOk};
 ghost use Rattle.moves.specs.Maps.{IsSearchable};
-ghost use Rattle.moves.specs.FirstSetLists.{cell_of, AreFirstSets};
+ghost use Rattle.moves.specs.FirstSetLists.{cell_of};
 ghost use Rattle.cell_order.specs.Orders.{ordered};
-ghost use Rattle.row_store.specs.Rows.{IsRowFrom, AreRows};
-ghost use Rattle.build_pool.specs.Places.{CanBeBuilt, AreComponent, AreWithNear};
+ghost use Rattle.row_store.specs.Rows.{AreRows, IsRowFrom};
+ghost use Rattle.build_pool.specs.Places.{AreComponent, AreWithNear, CanBeBuilt};
 ghost use Rattle.build_pool.specs.Pieces.{AreSome, CanBuild};
 
 mod board;
@@ -20,6 +20,7 @@ mod pending;
 mod piece;
 mod plain;
 mod rows;
+mod searching;
 
 use cell_order::{OrderKind, order_of};
 use first_sets::FirstSets;
@@ -30,10 +31,12 @@ use lane_rows::Near;
 use moves::{Cell, Grid, MAX_PASSABLE};
 use pending::Pending;
 use piece::{Share, build_share};
-pub use plain::{put_rest, write_sets};
+pub use plain::put_rest;
 use row_store::{CompData, RowPool};
 use rows::count_rows;
 use run_pack::{Run, pack};
+pub use searching::PlainSearch;
+use searching::write_sets;
 use std::alloc::{AllocError, Global};
 use std::thread;
 use std::thread::Threads;

@@ -1,25 +1,15 @@
 //! Rows by a plain search from one source after the other.
 
 ghost use Rattle.std.specs.Prelude.{◌≡◌, ◌+◌, ◌*◌, ◌<◌, ◌≤◌, length, OnOk};
-ghost use Rattle.moves.specs.Maps.{IsSearchable};
-ghost use Rattle.moves.specs.FirstSetLists.{cell_of, AreFirstSets};
-ghost use Rattle.build_pool.specs.Places.{AreComponent, AreSources, IsBoardOf};
+ghost use Rattle.build_pool.specs.Places.{AreSources, IsBoardOf};
 ghost use Rattle.build_pool.specs.Pieces.{AreDone, ArePartly, AreWhole};
 
 use crate::board::board_of;
 use crate::rows::{has_blank, is_blank};
-use first_sets::FirstSets;
-use grid_search::Search;
+use crate::searching::PlainSearch;
 use moves::{Cell, Grid};
 use row_store::RowPool;
 use std::alloc::{AllocError, Global};
-
-/// What a plain search needs.
-#[derive(Drop)]
-struct Plain {
-    search: Search,
-    sets: FirstSets,
-}
 
 /// Builds the rows that are blank. Where there are none it takes no memory.
 ///
@@ -52,14 +42,9 @@ fn put_blank(
     requires part { ArePartly cells.now rows.old }
     ensures whole { OnOk result (AreWhole cells.now (length rows.old) rows.new) }
 {
-    let room = (board.width() * board.height()) as usize;
-    let mut plain = Plain {
-        search: Search::new(alloc, room)?,
-        sets: FirstSets::new(alloc, room)?,
-    };
-    let mut bytes = vec![in alloc; 0u8; cells.len()]?;
+    let mut plain = PlainSearch::over(alloc, board, cells.len())?;
     for place in 0..rows.len() {
-        put_plain(board, cells, place, &mut plain, bytes.as_mut_slice(), rows)?;
+        put_plain(board, cells, place, &mut plain, rows)?;
     }
     Ok(())
 }
@@ -69,60 +54,22 @@ fn put_plain(
     board: &Grid,
     cells: &[Cell],
     place: usize,
-    plain: &mut Plain,
-    bytes: &mut [u8],
+    plain: &mut PlainSearch,
     rows: &mut RowPool,
 ) -> Result<(), AllocError>
     requires board { IsBoardOf board.now cells.now }
     requires place { place < length rows.old }
     requires inside { length rows.old ≤ length cells.now }
     requires done { AreDone cells.now place rows.old }
-    requires search { board.now.width * board.now.height ≤ plain.old.search.room }
-    requires sets { board.now.width * board.now.height ≤ plain.old.sets.room }
-    requires bytes { length bytes.old ≡ length cells.now }
+    requires room { board.now.width * board.now.height ≤ plain.old.room }
     ensures whole { OnOk result (length rows.new ≡ length rows.old) }
     ensures done { OnOk result (AreDone cells.now (place + 1) rows.new) }
-    ensures search { plain.new.search.room ≡ plain.old.search.room }
-    ensures sets { plain.new.sets.room ≡ plain.old.sets.room }
+    ensures room { plain.new.room ≡ plain.old.room }
 {
     if !is_blank(rows, place) {
         return Ok(());
     }
-    write_sets(
-        board,
-        cells,
-        place,
-        &mut plain.search,
-        &mut plain.sets,
-        bytes,
-    );
-    rows.put_sets(place, bytes)?;
+    plain.find(board, cells, place)?;
+    rows.put_sets(place, plain.sets())?;
     Ok(())
-}
-
-/// Searches from the source at a place, and writes its first sets to the cells in their order.
-pub fn write_sets(
-    grid: &Grid,
-    cells: &[Cell],
-    place: usize,
-    search: &mut Search,
-    sets: &mut FirstSets,
-    bytes: &mut [u8],
-)
-    requires component { AreComponent grid.now cells.now }
-    requires searchable { IsSearchable grid.now }
-    requires place { place < length cells.now }
-    requires search { grid.now.width * grid.now.height ≤ search.old.room }
-    requires sets { grid.now.width * grid.now.height ≤ sets.old.room }
-    requires bytes { length bytes.old ≡ length cells.now }
-    ensures search { search.new.room ≡ search.old.room }
-    ensures sets { sets.new.room ≡ sets.old.room }
-    ensures bytes { AreFirstSets grid.now (cell_of cells.now place) cells.now bytes.new }
-{
-    let source = cells[place];
-    search.from_source(grid, source);
-    sets.fill(grid, search, source);
-    for (place, cell) in cells.iter().enumerate() {
-        bytes[place] = sets.set_of(*cell).mask();
-    }
 }

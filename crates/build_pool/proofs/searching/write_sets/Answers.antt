@@ -2,7 +2,7 @@ use Rattle.std.proofs.Common.{ℕ, ◌<◌, List, All, arith, rules}
 use Rattle.std.proofs.lemmas.List.Elements.{All-from_get_or}
 use Rattle.build_pool.proofs.Connecting.{passable_cell}
 use Rattle.build_pool.proofs.Sourcing.{written_none, written_more}
-use Rattle.build_pool.proofs.plain.write_sets.Goals as goal
+use Rattle.build_pool.proofs.searching.write_sets.Goals as goal
 
 pub from_source-requires-clause-source : goal.from_source-requires-clause-source
 from_source-requires-clause-source c = passable_cell _ _ c.requires.component _ c.requires.place
