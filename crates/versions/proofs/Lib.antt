@@ -7,3 +7,4 @@ pub mod Answering
 pub mod OneRow
 pub mod OneRowComps
 pub mod Refusals
+pub mod Counting
