@@ -6,7 +6,7 @@ use Rattle.std.proofs.lemmas.List.Elements.{All-contains}
 use Rattle.root_cost.specs.Keys.{cost_of_key}
 use Rattle.moves.specs.declared.Cell.{Cell}
 use Rattle.moves.specs.declared.Move.{Move}
-use Rattle.moves.specs.Maps.{Map, IsInside, is_cell}
+use Rattle.moves.specs.Maps.{Map, is_cell}
 use Rattle.moves.specs.MoveSets.{Has}
 use Rattle.moves.specs.Moves.{IsLegal}
 use Rattle.moves.specs.Paths.{IsLeastCost}
@@ -14,9 +14,8 @@ use Rattle.moves.specs.FirstSets.{IsFirstMove}
 use Rattle.moves.specs.ComponentLaws.{HasJust}
 use Rattle.moves.specs.FirstSetLists.{cell_of}
 use Rattle.moves.proofs.Connected.{is_cell-true, is_cell-same}
-use Rattle.kept_sources.specs.Parts.{without, HaveSameFirst, HaveSameCost}
+use Rattle.kept_sources.specs.Parts.{IsPart, IsTakenOut, HaveSameFirst, HaveSameCost}
 use Rattle.kept_sources.specs.Gates.{IsApart, AgreesAt, IsGivenByGates}
-use Rattle.kept_sources.proofs.Closing.{without_is_part, only_this}
 use Rattle.kept_sources.proofs.Gating.{gates_keep_sides}
 use Rattle.kept_sources.proofs.Onward.{gates_give_the_rest}
 use Rattle.lane_rows.specs.Equations.{lane_of}
@@ -28,7 +27,7 @@ use Rattle.kept_rows.specs.Gaps.{past}
 use Rattle.kept_rows.specs.Pairs.{Searched, IsSearched}
 use Rattle.kept_rows.specs.Staying.{AllStay}
 use Rattle.kept_rows.specs.Gates.{IsOfSide, AreGates, IsOfClass, IsSameClass, AreClasses, IsClassKept, AgreesAtGates}
-use Rattle.kept_rows.proofs.Gaps.{past_inside, past_same, apart_from_gap, gap_on_map, just_without}
+use Rattle.kept_rows.proofs.Gaps.{past_inside, past_same, is_part_of, part_stays}
 use Rattle.kept_rows.proofs.ByKeys.{least_to_goal}
 use Rattle.kept_rows.proofs.Balls.{among, among-true, among-from}
 use Rattle.kept_rows.proofs.Pairs.{first_by_tile, first_stays, cost_stays}
@@ -93,18 +92,9 @@ module _ (side : Searched) (searched : IsSearched side) (map : Map) (just : HasJ
 
 -- ---- both lists
 
-module _ (whole part : Searched) (gap : ℕ) (side : List Bool) (gates : AreGates whole part gap side) (map : Map) (just : HasJust map whole.cells) where
-  abbrev hole : Cell
-  hole = cell_of whole.cells gap
-
-  abbrev other_map : Map
-  other_map = without map hole
-
-  just_part : HasJust other_map part.cells
-  just_part = just_without whole.cells part.cells gap gates.both.cells gates.both.over_whole.can.numbered.once map just
-
-  hole_on_map : IsInside map hole
-  hole_on_map = gap_on_map whole.cells part.cells gap gates.both.cells gates.both.over_whole.can.numbered.once map just
+module _ (whole part : Searched) (gaps : List ℕ) (side : List Bool) (gates : AreGates whole part gaps side) (map other_map : Map) (just : HasJust map whole.cells) (just_part : HasJust other_map part.cells) where
+  is_part : IsPart map other_map
+  is_part = is_part_of whole.cells part.cells gaps gates.both.cells map other_map just just_part
 
   -- a lane's gate
   abbrev gate_at : ℕ → Cell
@@ -123,10 +113,10 @@ module _ (whole part : Searched) (gap : ℕ) (side : List Bool) (gates : AreGate
   gate_in_whole lane l = gates.both.cells.same _ (here_inside lane l) ∙ ap (cell_of whole.cells) (sym (gates.both.moved.same lane l))
 
   whole_inside : (lane : ℕ) → lane < 15 → slice_index whole.tile.sources lane < length whole.cells
-  whole_inside lane l = subst (λ p. p < length whole.cells) (sym (gates.both.moved.same lane l)) (past_inside whole.cells part.cells gap gates.both.cells _ (here_inside lane l))
+  whole_inside lane l = subst (λ p. p < length whole.cells) (sym (gates.both.moved.same lane l)) (past_inside whole.cells part.cells gaps gates.both.cells _ (here_inside lane l))
 
-  not_hole : (place : ℕ) → place < length part.cells → cell_of part.cells place ≢ hole
-  not_hole place l = apart_from_gap whole.cells part.cells gap gates.both.cells gates.both.over_whole.can.numbered.once place l
+  not_taken : (place : ℕ) → place < length part.cells → IsTakenOut map other_map (cell_of part.cells place) → ⊥
+  not_taken place l = part_stays whole.cells part.cells gaps gates.both.cells map other_map just just_part place l
 
   table_whole : IsTableOf map whole.cells whole.near
   table_whole = record { just = just; numbered = gates.both.over_whole.can.numbered; edges = gates.both.over_whole.can.edges; pairs = gates.both.over_whole.can.pairs }
@@ -134,11 +124,11 @@ module _ (whole part : Searched) (gap : ℕ) (side : List Bool) (gates : AreGate
   closed : (from : Cell) (move : Move) (to : Cell) → is_of_side from ≡ true → IsLegal map from move to → is_gate to ≡ false → is_of_side to ≡ true
   closed from move to inside legal none =
       let (p, l, is, marked) = marked-true (cell_of part.cells) side (length part.cells) from inside in
-      let there : past gap p < length whole.cells = past_inside whole.cells part.cells gap gates.both.cells p l in
-      let from_is : from ≡ cell_of whole.cells (past gap p) = sym is ∙ gates.both.cells.same p l in
+      let there : past gaps p < length whole.cells = past_inside whole.cells part.cells gaps gates.both.cells p l in
+      let from_is : from ≡ cell_of whole.cells (past gaps p) = sym is ∙ gates.both.cells.same p l in
       let end =
       led map whole.cells whole.near (slice_index whole.tile.sources 0) (lane_of whole.tile.keys 0) (lane_of whole.tile.sets 0) table_whole gates.both.over_whole.can.pairs (whole_inside 0 (omega arith)) (gates.both.over_whole.solved.lanes 0 (omega arith))
-      (past gap p) move to there (subst (λ c. IsLegal map c move to) from_is legal) in
+      (past gaps p) move to there (subst (λ c. IsLegal map c move to) from_is legal) in
       let size = gates.both.over_whole.can.edges.whole in
       let back = gates.left.each p l move marked (let e = end.0 in omega arith) in
       let to_is : cell_of part.cells back.place ≡ to = gates.both.cells.same back.place back.within ∙ ap (cell_of whole.cells) back.is ∙ end.1 in
@@ -152,27 +142,27 @@ module _ (whole part : Searched) (gap : ℕ) (side : List Bool) (gates : AreGate
     closed = closed;
     side_stays = λ cell inside taken.
         let (p, l, is, marked) = marked-true (cell_of part.cells) side (length part.cells) cell inside in
-        not_hole p l (is ∙ only_this map hole hole_on_map cell taken);
+        not_taken p l (subst (IsTakenOut map other_map) (sym is) taken);
     gates_stay = λ cell inside taken.
         let (k, l, is) = among-true gate_at 15 cell inside in
-        not_hole (slice_index part.tile.sources k) (here_inside k l) (is ∙ only_this map hole hole_on_map cell taken);
+        not_taken (slice_index part.tile.sources k) (here_inside k l) (subst (IsTakenOut map other_map) (sym is) taken);
   }
 
-  module _ (place : ℕ) (there sets : List ℕ) (inside : place < length part.cells) (marked : IsOfSide side place) (agrees : AgreesAtGates whole part gap place there sets) where
+  module _ (place : ℕ) (there sets : List ℕ) (inside : place < length part.cells) (marked : IsOfSide side place) (agrees : AgreesAtGates whole part gaps place there sets) where
     abbrev source : Cell
     source = cell_of part.cells place
 
     abbrev source_there : ℕ
-    source_there = past gap place
+    source_there = past gaps place
 
     source_inside : source_there < length whole.cells
-    source_inside = past_inside whole.cells part.cells gap gates.both.cells place inside
+    source_inside = past_inside whole.cells part.cells gaps gates.both.cells place inside
 
     -- the set of a lane is the first set to its gate, over either list
     first_on_map : (lane : ℕ) → lane < 15 → (move : Move) → Has (slice_index sets lane) move ↔ IsFirstMove map source (gate_at lane) move
     first_on_map lane l move =
         let far_apart : source_there ≢ slice_index whole.tile.sources lane =
-        λ same. agrees.apart (record { index = lane; early = l; is = sym (past_same gap place _ (same ∙ gates.both.moved.same lane l)) }) in
+        λ same. agrees.apart (record { index = lane; early = l; is = sym (past_same gaps place _ (same ∙ gates.both.moved.same lane l)) }) in
         subst (λ c. Has (slice_index sets lane) move ↔ IsFirstMove map source c move) (sym (gate_in_whole lane l))
         (subst (λ c. Has (slice_index sets lane) move ↔ IsFirstMove map c (cell_of whole.cells (slice_index whole.tile.sources lane)) move) (sym (gates.both.cells.same place inside))
         (first_by_tile whole gates.both.over_whole map just source_there lane source_inside (omega arith) (whole_inside lane l) (slice_index sets lane) far_apart (agrees.first_whole lane l) move))
@@ -188,10 +178,10 @@ module _ (whole part : Searched) (gap : ℕ) (side : List Bool) (gates : AreGate
     agrees_at_gates = record {
       first = λ to h.
           let (k, l, is) = among-true gate_at 15 to h in
-          subst (HaveSameFirst map other_map source) is ((first_stays whole part gap gates.both place inside k (slice_index sets k) l (agrees.first_whole k l) (agrees.first_part k l)).over map just);
+          subst (HaveSameFirst map other_map source) is ((first_stays whole part gaps gates.both place inside k (slice_index sets k) l (agrees.first_whole k l) (agrees.first_part k l)).over map other_map just just_part);
       cost = λ to h.
           let (k, l, is) = among-true gate_at 15 to h in
-          subst (HaveSameCost map other_map source) is ((cost_stays whole part gap gates.both place inside k l (sym (agrees.keys_whole.each k l) ∙ agrees.keys_part.each k l)).over map just);
+          subst (HaveSameCost map other_map source) is ((cost_stays whole part gaps gates.both place inside k l (sym (agrees.keys_whole.each k l) ∙ agrees.keys_part.each k l)).over map other_map just just_part);
     }
 
     source_of_side : is_of_side source ≡ true
@@ -205,7 +195,7 @@ module _ (whole part : Searched) (gap : ℕ) (side : List Bool) (gates : AreGate
           absurd (agrees.apart (record { index = k; early = l; is = same_place part.cells gates.both.over_part.can.numbered.once _ place (here_inside k l) inside is }))
     ]
 
-    module _ (to : ℕ) (to_inside : to < length part.cells) (beyond : IsOfSide side to → ⊥) (class : Class) (of_class : IsOfClass whole part gap to class) (kept : IsClassKept there sets class) where
+    module _ (to : ℕ) (to_inside : to < length part.cells) (beyond : IsOfSide side to → ⊥) (class : Class) (of_class : IsOfClass whole part gaps to class) (kept : IsClassKept there sets class) where
       abbrev goal : Cell
       goal = cell_of part.cells to
 
@@ -218,13 +208,13 @@ module _ (whole part : Searched) (gap : ℕ) (side : List Bool) (gates : AreGate
       ]
 
       given : IsGivenByGates map map is_gate source goal × IsGivenByGates map other_map is_gate source goal
-      given = gates_give_the_rest map other_map is_gate is_of_side source goal (without_is_part map hole hole_on_map) apart agrees_at_gates source_of_side source_no_gate goal_beyond
+      given = gates_give_the_rest map other_map is_gate is_of_side source goal is_part apart agrees_at_gates source_of_side source_no_gate goal_beyond
 
       rest_on_map : (lane : ℕ) → lane < 15 → IsKeyOf map (gate_at lane) goal (slice_index of_class.whole_keys lane) 791680330
       rest_on_map lane l =
           subst (λ c. IsKeyOf map c goal (slice_index of_class.whole_keys lane) 791680330) (sym (gate_in_whole lane l))
           (subst (λ c. IsKeyOf map (cell_of whole.cells (slice_index whole.tile.sources lane)) c (slice_index of_class.whole_keys lane) 791680330) (sym (gates.both.cells.same to to_inside))
-          (key_from whole gates.both.over_whole map just lane (omega arith) (whole_inside lane l) (past gap to) (slice_index of_class.whole_keys lane) 791680330 (past_inside whole.cells part.cells gap gates.both.cells to to_inside)
+          (key_from whole gates.both.over_whole map just lane (omega arith) (whole_inside lane l) (past gaps to) (slice_index of_class.whole_keys lane) 791680330 (past_inside whole.cells part.cells gaps gates.both.cells to to_inside)
           (of_class.over_whole.each lane l) (of_class.over_whole.low lane l)))
 
       rest_on_part : (lane : ℕ) → lane < 15 → IsKeyOf other_map (gate_at lane) goal (slice_index of_class.part_keys lane) 791680330
@@ -243,11 +233,11 @@ module _ (whole part : Searched) (gap : ℕ) (side : List Bool) (gates : AreGate
     same_kept : (class : Class) → IsSameClass class → IsClassKept there sets class
     same_kept class same move = by_least_evenly there class.whole class.part (record { amount = 0; each = λ lane l. omega (arith, same lane l) }) sets move
 
-    pub stays_to : (classes : List Class) → AreClasses whole part gap side classes → ((class : Class) → Contains classes class → IsClassKept there sets class)
+    pub stays_to : (classes : List Class) → AreClasses whole part gaps side classes → ((class : Class) → Contains classes class → IsClassKept there sets class)
         → (to : ℕ) → to < length part.cells → HaveSameFirst map other_map source (cell_of part.cells to)
     stays_to classes are kept to l = elim (cases_Bool (slice_index_or side to false)) [
       | inl of_side ↦
-          (gates_keep_sides map other_map is_gate is_of_side source (without_is_part map hole hole_on_map) apart agrees_at_gates).first (cell_of part.cells to)
+          (gates_keep_sides map other_map is_gate is_of_side source is_part apart agrees_at_gates).first (cell_of part.cells to)
           (marked-from (cell_of part.cells) side (length part.cells) (cell_of part.cells to) to l refl of_side)
       | inr beyond ↦ elim (cases_Bool (is_gate (cell_of part.cells to))) [
         | inl gated ↦ agrees_at_gates.first (cell_of part.cells to) gated
@@ -261,9 +251,9 @@ module _ (whole part : Searched) (gap : ℕ) (side : List Bool) (gates : AreGate
       ]
     ]
 
-pub gates_keep : (whole part : Searched) (gap : ℕ) (side : List Bool) → AreGates whole part gap side → (classes : List Class) → AreClasses whole part gap side classes
-    → (place : ℕ) (there sets : List ℕ) → place < length part.cells → IsOfSide side place → AgreesAtGates whole part gap place there sets
-    → All (IsClassKept there sets) classes → AllStay whole.cells part.cells gap place
-gates_keep whole part gap side gates classes are place there sets inside marked agrees kept = record {
-  each = λ to l. record { over = λ map just. stays_to whole part gap side gates map just place there sets inside marked agrees classes are (λ class. All-contains (IsClassKept there sets) classes class kept) to l };
+pub gates_keep : (whole part : Searched) (gaps : List ℕ) (side : List Bool) → AreGates whole part gaps side → (classes : List Class) → AreClasses whole part gaps side classes
+    → (place : ℕ) (there sets : List ℕ) → place < length part.cells → IsOfSide side place → AgreesAtGates whole part gaps place there sets
+    → All (IsClassKept there sets) classes → AllStay whole.cells part.cells place
+gates_keep whole part gaps side gates classes are place there sets inside marked agrees kept = record {
+  each = λ to l. record { over = λ map other just just_part. stays_to whole part gaps side gates map other just just_part place there sets inside marked agrees classes are (λ class. All-contains (IsClassKept there sets) classes class kept) to l };
 }

@@ -148,18 +148,18 @@ module _ {X : Type 0} (P : X → Type 0) (xs : List X) where
 -- ---- classes of the first places
 
 -- the classes of the first places
-pub record AreClassesTo (whole part : Searched) (gap : ℕ) (side : List Bool) (upto : ℕ) (classes : List Class) : Type 0 where
-  pub each : (place : ℕ) → place < upto → IsClassed whole part gap side classes place
+pub record AreClassesTo (whole part : Searched) (gaps : List ℕ) (side : List Bool) (upto : ℕ) (classes : List Class) : Type 0 where
+  pub each : (place : ℕ) → place < upto → IsClassed whole part gaps side classes place
   pub low : All IsLow classes
 
-module _ (whole part : Searched) (gap : ℕ) (side : List Bool) where
-  pub classes_none : AreClassesTo whole part gap side 0 []
+module _ (whole part : Searched) (gaps : List ℕ) (side : List Bool) where
+  pub classes_none : AreClassesTo whole part gaps side 0 []
   classes_none = record { each = λ place l. absurd (omega arith); low = λ k d l. absurd (omega arith) }
 
-  pub classes_more : (upto : ℕ) (old new : List Class) → AreClassesTo whole part gap side upto old → AreMore old new → IsClassed whole part gap side new upto → AreClassesTo whole part gap side (upto + 1) new
+  pub classes_more : (upto : ℕ) (old new : List Class) → AreClassesTo whole part gaps side upto old → AreMore old new → IsClassed whole part gaps side new upto → AreClassesTo whole part gaps side (upto + 1) new
   classes_more upto old new p more here = record {
     each = λ place l. elim (cases_eq place upto) [
-      | inl same ↦ subst (IsClassed whole part gap side new) (sym same) here
+      | inl same ↦ subst (IsClassed whole part gaps side new) (sym same) here
       | inr other ↦ λ off none.
           let (class, of_class, known) = p.each place (omega arith) off none in
           (class, of_class, elim known [ inl one ↦ inl one | inr has ↦ inr (more.kept class has) ])
@@ -167,20 +167,20 @@ module _ (whole part : Searched) (gap : ℕ) (side : List Bool) where
     low = more.low p.low;
   }
 
-  pub classes_all : (upto : ℕ) (classes : List Class) → AreClassesTo whole part gap side upto classes → length part.cells ≤ upto → AreClasses whole part gap side classes
+  pub classes_all : (upto : ℕ) (classes : List Class) → AreClassesTo whole part gaps side upto classes → length part.cells ≤ upto → AreClasses whole part gaps side classes
   classes_all upto classes p all = record { each = λ place l. p.each place (omega arith); low = p.low }
 
-  pub classed_last : (place : ℕ) (class : Class) (old new : List Class) → IsOfClass whole part gap place class → new ≡ old ++ class ∷ [] → IsClassed whole part gap side new place
+  pub classed_last : (place : ℕ) (class : Class) (old new : List Class) → IsOfClass whole part gaps place class → new ≡ old ++ class ∷ [] → IsClassed whole part gaps side new place
   classed_last place class old new of_class is = λ off none. (class, of_class, inr (subst (λ list. Contains list class) (sym is) (Contains-push old class)))
 
-module _ (whole part : Searched) (gap : ℕ) where
-  low_of_class : (place : ℕ) (class : Class) → IsOfClass whole part gap place class → IsLow class
+module _ (whole part : Searched) (gaps : List ℕ) where
+  low_of_class : (place : ℕ) (class : Class) → IsOfClass whole part gaps place class → IsLow class
   low_of_class place class of_class = record {
     whole = λ lane l. omega (arith, of_class.even_whole.each lane l, of_class.over_whole.low lane l);
     part = λ lane l. omega (arith, of_class.even_part.each lane l, of_class.over_part.low lane l);
   }
 
-  pub more_by_one : (place : ℕ) (class : Class) (old new : List Class) → IsOfClass whole part gap place class → new ≡ old ++ class ∷ [] → AreMore old new
+  pub more_by_one : (place : ℕ) (class : Class) (old new : List Class) → IsOfClass whole part gaps place class → new ≡ old ++ class ∷ [] → AreMore old new
   more_by_one place class old new of_class is = record {
     kept = λ other has. subst (λ list. Contains list other) (sym is) (Contains-append_left old (class ∷ []) other has);
     low = λ all. subst (All IsLow) (sym is) (All-push IsLow old class all (low_of_class place class of_class));
@@ -191,10 +191,10 @@ more_of_none classes = record { kept = λ class has. has; low = λ all. all }
 
 -- ---- a source at the gates
 
-pub agrees : (whole part : Searched) (gap place there : ℕ) (keys keys' sets sets' : List ℕ) → there ≡ past gap place → (IsAmong part.tile.sources 15 place → ⊥) → AreGateKeys whole there keys
+pub agrees : (whole part : Searched) (gaps : List ℕ) (place there : ℕ) (keys keys' sets sets' : List ℕ) → there ≡ past gaps place → (IsAmong part.tile.sources 15 place → ⊥) → AreGateKeys whole there keys
     → ((lane : ℕ) → slice_index keys' lane ≡ lane_of part.tile.keys lane place) → ((lane : ℕ) → lane < 15 → slice_index keys lane ≡ slice_index keys' lane)
-    → AreFirstByKeys whole there sets → AreFirstByKeys part place sets' → ((lane : ℕ) → lane < 15 → slice_index sets lane ≡ slice_index sets' lane) → AgreesAtGates whole part gap place keys sets
-agrees whole part gap place there keys keys' sets sets' is none over_whole over_part same_keys by_whole by_part same_sets = record {
+    → AreFirstByKeys whole there sets → AreFirstByKeys part place sets' → ((lane : ℕ) → lane < 15 → slice_index sets lane ≡ slice_index sets' lane) → AgreesAtGates whole part gaps place keys sets
+agrees whole part gaps place there keys keys' sets sets' is none over_whole over_part same_keys by_whole by_part same_sets = record {
   apart = none;
   keys_whole = subst (λ p. AreGateKeys whole p keys) is over_whole;
   keys_part = record { each = λ lane l. same_keys lane l ∙ over_part lane; low = over_whole.low };
@@ -204,41 +204,40 @@ agrees whole part gap place there keys keys' sets sets' is none over_whole over_
 
 -- ---- moves from the side
 
-pub leads_read : (near : List (List ℕ)) (gap count place there : ℕ) (side : List Bool) (gates edges : List ℕ) → there ≡ past gap place → edges ≡ edges_of near there → length near ≡ count + 1
-    → ((move : Move) → end_of edges move < count + 1 → LeadsBack gap count side gates (end_of edges move)) → LeadOnlyBack near gap count side gates place
-leads_read near gap count place there side gates edges is read size back move of_side inside =
-    let edges_are : edges ≡ edges_of near (past gap place) = read ∙ ap (edges_of near) is in
-    subst (λ e. LeadsBack gap count side gates (end_of e move)) edges_are (back move (subst (λ n. end_of edges move < n) size (subst (λ e. end_of e move < length near) (sym edges_are) inside)))
+pub leads_read : (near : List (List ℕ)) (gaps : List ℕ) (count place there : ℕ) (side : List Bool) (gates edges : List ℕ) → there ≡ past gaps place → edges ≡ edges_of near there → length near ≡ count + length gaps
+    → ((move : Move) → end_of edges move < count + length gaps → LeadsBack gaps count side gates (end_of edges move)) → LeadOnlyBack near gaps count side gates place
+leads_read near gaps count place there side gates edges is read size back move of_side inside =
+    let edges_are : edges ≡ edges_of near (past gaps place) = read ∙ ap (edges_of near) is in
+    subst (λ e. LeadsBack gaps count side gates (end_of e move)) edges_are (back move (subst (λ n. end_of edges move < n) size (subst (λ e. end_of e move < length near) (sym edges_are) inside)))
 
 -- ---- verdicts
 
-module _ (whole part : List Cell) (gap : ℕ) where
-  pub judged_still : (verdicts : List Verdict) → KeepsJudged whole part gap verdicts verdicts
+module _ (whole part : List Cell) where
+  pub judged_still : (verdicts : List Verdict) → KeepsJudged whole part verdicts verdicts
   judged_still verdicts ball count judged = judged
 
-  pub judged_further : (former verdicts later : List Verdict) → KeepsJudged whole part gap former verdicts → KeepsJudged whole part gap verdicts later → KeepsJudged whole part gap former later
+  pub judged_further : (former verdicts later : List Verdict) → KeepsJudged whole part former verdicts → KeepsJudged whole part verdicts later → KeepsJudged whole part former later
   judged_further former verdicts later first next ball count judged = next ball count (first ball count judged)
 
-  pub judged_more : (verdicts later : List Verdict) (place : ℕ) → later ≡ set verdicts place Kept → place < length verdicts → AllStay whole part gap place → KeepsJudged whole part gap verdicts later
-  judged_more verdicts later place is inside stays ball count now = subst (AreJudged whole part gap ball count) (sym is) (record {
+  pub judged_more : (verdicts later : List Verdict) (place : ℕ) → later ≡ set verdicts place Kept → place < length verdicts → AllStay whole part place → KeepsJudged whole part verdicts later
+  judged_more verdicts later place is inside stays ball count now = subst (AreJudged whole part ball count) (sym is) (record {
     size = length-set verdicts place Kept ∙ now.size;
     each = λ from. elim (cases_eq from place) [
       | inl same ↦
-          subst (λ n. Holds whole part gap ball count n (slice_index_or (set verdicts place Kept) n Lost)) (sym same)
-          (subst (Holds whole part gap ball count place) (sym (get_or-set_same verdicts place Kept Lost inside)) stays)
-      | inr other ↦ subst (Holds whole part gap ball count from) (sym (get_or-set_other verdicts place from Kept Lost other)) (now.each from)
+          subst (λ n. Holds whole part ball count n (slice_index_or (set verdicts place Kept) n Lost)) (sym same)
+          (subst (Holds whole part ball count place) (sym (get_or-set_same verdicts place Kept Lost inside)) stays)
+      | inr other ↦ subst (Holds whole part ball count from) (sym (get_or-set_other verdicts place from Kept Lost other)) (now.each from)
     ];
   })
 
 -- what was surveyed stays so with later verdicts
-pub surveyed_on : (whole part : List Cell) (gap : ℕ) (sources : List ℕ) (sets : List (List ℕ)) (ball : List ℕ) (former later : List Verdict)
-    → AreSurveyed whole part gap sources sets ball former → KeepsJudged whole part gap former later → AreSurveyed whole part gap sources sets ball later
-surveyed_on whole part gap sources sets ball former later are keeps = record {
+pub surveyed_on : (whole part : List Cell) (gaps sources : List ℕ) (sets : List (List ℕ)) (ball : List ℕ) (former later : List Verdict)
+    → AreSurveyed whole part gaps sources sets ball former → KeepsJudged whole part former later → AreSurveyed whole part gaps sources sets ball later
+surveyed_on whole part gaps sources sets ball former later are keeps = record {
   cells = are.cells;
   numbered = are.numbered;
   inside = are.inside;
   known = are.known;
   places = are.places;
-  round = are.round;
   judged = keeps ball (length ball) are.judged;
 }

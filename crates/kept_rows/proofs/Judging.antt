@@ -1,16 +1,15 @@
 -- How a pair of tiles tells more of each cell.
-use Rattle.std.proofs.Common.{◌≡◌, ℕ, ◌+◌, ◌-◌, ◌<◌, ◌≤◌, ◌⊎◌, List, [], ◌∷◌, ◌++◌, length, get_or, set, slice_index, slice_index_or, inl, inr, refl, sym, ap, subst, ◌∙◌, arith, get_or-set_same, get_or-set_other}
+use Rattle.std.proofs.Common.{◌≡◌, ℕ, ◌+◌, ◌-◌, ◌<◌, ◌≤◌, ◌⊎◌, Bool, true, List, [], ◌∷◌, ◌++◌, length, get_or, set, slice_index, slice_index_or, inl, inr, refl, sym, ap, subst, ◌∙◌, arith, get_or-set_same, get_or-set_other}
 use Rattle.std.specs.Prelude.{IsBitSet}
 use Rattle.std.proofs.lemmas.Bool.{cases_eq, cases_lt}
 use Rattle.std.proofs.lemmas.List.{get_or_push, length_push, get_or_append_left, get_or_past}
 use Rattle.std.proofs.Math.ListN.{length-set}
 use Rattle.moves.specs.declared.Cell.{Cell}
-use Rattle.moves.specs.FirstSetLists.{cell_of}
 use Rattle.lane_rows.specs.Equations.{lane_of}
 use Rattle.kept_rows.specs.declared.verdict.Verdict.{Verdict}
 use Rattle.kept_rows.specs.declared.verdict.Verdict.TheVariants.{Lost, Open, Kept}
 use Rattle.kept_rows.specs.Gaps.{past}
-use Rattle.kept_rows.specs.Targets.{IsAmong, IsGrown, ArePlaces, AreTargets, IsRound, AreMarked}
+use Rattle.kept_rows.specs.Targets.{IsGrown, ArePlaces, AreTargets, IsRoundGaps, AreMarked}
 use Rattle.kept_rows.specs.Pairs.{Searched, IsPair, IsFirstByKeys, AreFirstByKeys}
 use Rattle.kept_rows.specs.Staying.{FirstStays, CostStays, AllStay}
 use Rattle.kept_rows.specs.Verdicts.{IsOpen, Holds, AreJudged, IsStage}
@@ -48,27 +47,21 @@ module _ (former sources ball : List ℕ) (count : ℕ) (grown : IsGrown former 
     ];
   }
 
-  among_grown : (place : ℕ) → IsAmong former (length former) place → IsAmong ball (length ball) place
-  among_grown place one = record { index = one.index; early = omega (arith, one.early, grown.size); is = grown.before one.index one.early ∙ one.is }
-
-  pub round_grown : (cells : List Cell) (hole : Cell) → IsRound cells hole former → IsRound cells hole ball
-  round_grown cells hole round = record { beside = λ place l beside. among_grown place (round.beside place l beside) }
-
-  holds_grown : (whole part : List Cell) (gap from : ℕ) (verdict : Verdict) → Holds whole part gap former (length former) from verdict → Holds whole part gap ball (length former) from verdict
-  holds_grown whole part gap from Lost h = h
-  holds_grown whole part gap from (Open costs) h = record {
-    first = λ index l. subst (FirstStays whole part gap from) (sym (grown.before index l)) (h.first index l);
-    cost = λ index bit. let one = h.cost index bit in (one.0, subst (CostStays whole part gap from) (sym (grown.before index one.0)) one.1);
+  holds_grown : (whole part : List Cell) (from : ℕ) (verdict : Verdict) → Holds whole part former (length former) from verdict → Holds whole part ball (length former) from verdict
+  holds_grown whole part from Lost h = h
+  holds_grown whole part from (Open costs) h = record {
+    first = λ index l. subst (FirstStays whole part from) (sym (grown.before index l)) (h.first index l);
+    cost = λ index bit. let one = h.cost index bit in (one.0, subst (CostStays whole part from) (sym (grown.before index one.0)) one.1);
   }
-  holds_grown whole part gap from Kept h = h
+  holds_grown whole part from Kept h = h
 
-  pub judged_grown : (whole part : List Cell) (gap : ℕ) (verdicts : List Verdict) → AreJudged whole part gap former (length former) verdicts → AreJudged whole part gap ball (length former) verdicts
-  judged_grown whole part gap verdicts judged = record { size = judged.size; each = λ from. holds_grown whole part gap from (slice_index_or verdicts from Lost) (judged.each from) }
+  pub judged_grown : (whole part : List Cell) (verdicts : List Verdict) → AreJudged whole part former (length former) verdicts → AreJudged whole part ball (length former) verdicts
+  judged_grown whole part verdicts judged = record { size = judged.size; each = λ from. holds_grown whole part from (slice_index_or verdicts from Lost) (judged.each from) }
 
   -- the next pair is solved
-  pub stage_of : (whole part : Searched) (gap marks : ℕ) → IsPair whole part gap → AreTargets part.cells sources count → part.tile.sources ≡ sources → ArePlaces part.cells ball
-      → IsRound part.cells (cell_of whole.cells gap) ball → AreMarked part.near ball marks → IsStage whole part gap ball (length former) marks
-  stage_of whole part gap marks both targets same places round marked = record {
+  pub stage_of : (whole part : Searched) (gaps : List ℕ) (marks : ℕ) (is_round : Bool) → IsPair whole part gaps → AreTargets part.cells sources count → part.tile.sources ≡ sources → ArePlaces part.cells ball
+      → (is_round ≡ true → IsRoundGaps whole.cells part.cells gaps ball) → AreMarked part.near ball marks → IsStage whole part gaps ball (length former) marks is_round
+  stage_of whole part gaps marks is_round both targets same places round marked = record {
     is_pair = both;
     places = places;
     round = round;
@@ -78,26 +71,31 @@ module _ (former sources ball : List ℕ) (count : ℕ) (grown : IsGrown former 
     lanes = λ index l e. grown_from index l e ∙ ap (λ s. slice_index s (index - length former)) (sym same);
   }
 
+-- the places of the first pair's ball
+pub places_first : (cells : List Cell) (sources ball : List ℕ) (count : ℕ) → IsGrown [] sources count ball → AreTargets cells sources count → ArePlaces cells ball
+places_first cells sources ball count grown targets =
+    places_grown [] sources ball count grown cells (record { few = omega arith; inside = λ index l. absurd (omega arith) }) targets (omega (arith, grown.size, targets.few))
+
 -- ---- one cell
 
-module _ (whole part : Searched) (gap : ℕ) (ball : List ℕ) (former marks : ℕ) (stage : IsStage whole part gap ball former marks) (place : ℕ) (inside : place < length part.cells) where
+module _ (whole part : Searched) (gaps ball : List ℕ) (former marks : ℕ) (is_round : Bool) (stage : IsStage whole part gaps ball former marks is_round) (place : ℕ) (inside : place < length part.cells) where
   -- what a comparison tells
-  pub compared : (costs costs' count there : ℕ) (sets others keys keys' : List ℕ) → IsOpen whole.cells part.cells gap ball former place costs → count ≡ length ball - former → there ≡ past gap place
+  pub compared : (costs costs' count there : ℕ) (sets others keys keys' : List ℕ) → IsOpen whole.cells part.cells ball former place costs → count ≡ length ball - former → there ≡ past gaps place
       → AreFirstByKeys whole there sets → AreFirstByKeys part place others → ((lane : ℕ) → lane < count → slice_index sets lane ≡ slice_index others lane)
       → ((lane : ℕ) → slice_index keys lane ≡ lane_of whole.tile.keys lane there) → ((lane : ℕ) → slice_index keys' lane ≡ lane_of part.tile.keys lane place)
       → ((index : ℕ) → IsBitSet costs' index → IsBitSet costs index ⊎ ((former ≤ index) × (index < former + count) × (slice_index keys (index - former) ≡ slice_index keys' (index - former))))
-      → IsOpen whole.cells part.cells gap ball (length ball) place costs'
+      → IsOpen whole.cells part.cells ball (length ball) place costs'
   compared costs costs' count there sets others keys keys' before size past_is over_whole over_part same_sets key_whole key_part bits = record {
     first = λ index l. elim (cases_lt index former) [
       | inl early ↦ before.first index early
       | inr late ↦
           let lane : ℕ = index - former in
           let low : lane < 15 = omega (arith, stage.few, stage.early) in
-          let set_whole : IsFirstByKeys whole.near (lane_of whole.tile.keys lane) (past gap place) (slice_index sets lane) =
+          let set_whole : IsFirstByKeys whole.near (lane_of whole.tile.keys lane) (past gaps place) (slice_index sets lane) =
           subst (λ p. IsFirstByKeys whole.near (lane_of whole.tile.keys lane) p (slice_index sets lane)) past_is (over_whole lane (omega arith)) in
           let set_part : IsFirstByKeys part.near (lane_of part.tile.keys lane) place (slice_index sets lane) =
           subst (IsFirstByKeys part.near (lane_of part.tile.keys lane) place) (sym (same_sets lane (omega arith))) (over_part lane (omega arith)) in
-          subst (FirstStays whole.cells part.cells gap place) (sym (stage.lanes index late l)) (first_stays whole part gap stage.is_pair place inside lane (slice_index sets lane) low set_whole set_part)
+          subst (FirstStays whole.cells part.cells place) (sym (stage.lanes index late l)) (first_stays whole part gaps stage.is_pair place inside lane (slice_index sets lane) low set_whole set_part)
     ];
     cost = λ index bit. elim (bits index bit) [
       | inl old ↦ let one = before.cost index old in (omega (arith, one.0, stage.early), one.1)
@@ -105,47 +103,47 @@ module _ (whole part : Searched) (gap : ℕ) (ball : List ℕ) (former marks : �
           let l : index < length ball = omega (arith, new.1, stage.early) in
           let lane : ℕ = index - former in
           let low : lane < 15 = omega (arith, stage.few, stage.early) in
-          let key : lane_of whole.tile.keys lane (past gap place) ≡ lane_of part.tile.keys lane place = ap (lane_of whole.tile.keys lane) (sym past_is) ∙ sym (key_whole lane) ∙ new.2 ∙ key_part lane in
-          (l, subst (CostStays whole.cells part.cells gap place) (sym (stage.lanes index new.0 l)) (cost_stays whole part gap stage.is_pair place inside lane low key))
+          let key : lane_of whole.tile.keys lane (past gaps place) ≡ lane_of part.tile.keys lane place = ap (lane_of whole.tile.keys lane) (sym past_is) ∙ sym (key_whole lane) ∙ new.2 ∙ key_part lane in
+          (l, subst (CostStays whole.cells part.cells place) (sym (stage.lanes index new.0 l)) (cost_stays whole part gaps stage.is_pair place inside lane low key))
     ];
   }
 
-  -- where the costs to all cells at the border stay
-  pub kept_by_ball : (costs : ℕ) → IsOpen whole.cells part.cells gap ball (length ball) place costs → ((index : ℕ) → IsBitSet marks index → IsBitSet costs index) → AllStay whole.cells part.cells gap place
-  kept_by_ball costs open_at all = record {
+  -- where the ball is round the gaps, and the costs to all cells at its border stay
+  pub kept_by_ball : (costs : ℕ) → is_round ≡ true → IsOpen whole.cells part.cells ball (length ball) place costs → ((index : ℕ) → IsBitSet marks index → IsBitSet costs index) → AllStay whole.cells part.cells place
+  kept_by_ball costs round open_at all = record {
     each = λ to l. record {
-      over = λ map just.
-          keeps_first whole.cells part.cells gap stage.is_pair.cells stage.is_pair.over_whole.can.numbered.once part.near stage.is_pair.over_part.can.edges ball stage.places stage.round marks stage.marked place costs open_at all map just to l;
+      over = λ map other just just_part.
+          keeps_first whole.cells part.cells gaps stage.is_pair.cells part.near stage.is_pair.over_part.can.edges ball stage.places (stage.round round) marks stage.marked place costs open_at all map other just just_part to l;
     };
   }
 
 -- ---- all cells
 
-pub record AreJudgedTo (whole part : List Cell) (gap : ℕ) (ball : List ℕ) (former upto : ℕ) (verdicts : List Verdict) : Type 0 where
+pub record AreJudgedTo (whole part : List Cell) (ball : List ℕ) (former upto : ℕ) (verdicts : List Verdict) : Type 0 where
   pub size : length verdicts ≡ length part
-  pub done : (from : ℕ) → from < upto → Holds whole part gap ball (length ball) from (get_or verdicts from Lost)
-  pub left : (from : ℕ) → upto ≤ from → Holds whole part gap ball former from (get_or verdicts from Lost)
+  pub done : (from : ℕ) → from < upto → Holds whole part ball (length ball) from (get_or verdicts from Lost)
+  pub left : (from : ℕ) → upto ≤ from → Holds whole part ball former from (get_or verdicts from Lost)
 
-module _ (whole part : List Cell) (gap : ℕ) (ball : List ℕ) (former : ℕ) where
-  pub judged_none : (verdicts : List Verdict) → AreJudged whole part gap ball former verdicts → AreJudgedTo whole part gap ball former 0 verdicts
+module _ (whole part : List Cell) (ball : List ℕ) (former : ℕ) where
+  pub judged_none : (verdicts : List Verdict) → AreJudged whole part ball former verdicts → AreJudgedTo whole part ball former 0 verdicts
   judged_none verdicts judged = record { size = judged.size; done = λ from l. absurd (omega arith); left = λ from l. judged.each from }
 
-  pub judged_more : (verdicts : List Verdict) (place : ℕ) (verdict : Verdict) → AreJudgedTo whole part gap ball former place verdicts → place < length verdicts → Holds whole part gap ball (length ball) place verdict
-      → AreJudgedTo whole part gap ball former (place + 1) (set verdicts place verdict)
+  pub judged_more : (verdicts : List Verdict) (place : ℕ) (verdict : Verdict) → AreJudgedTo whole part ball former place verdicts → place < length verdicts → Holds whole part ball (length ball) place verdict
+      → AreJudgedTo whole part ball former (place + 1) (set verdicts place verdict)
   judged_more verdicts place verdict judged l holds = record {
     size = length-set verdicts place verdict ∙ judged.size;
     done = λ from early. elim (cases_eq from place) [
-      | inl same ↦ subst (λ p. Holds whole part gap ball (length ball) p (get_or (set verdicts place verdict) p Lost)) (sym same) (subst (Holds whole part gap ball (length ball) place) (sym (get_or-set_same verdicts place verdict Lost l)) holds)
-      | inr apart ↦ subst (Holds whole part gap ball (length ball) from) (sym (get_or-set_other verdicts place from verdict Lost apart)) (judged.done from (omega arith))
+      | inl same ↦ subst (λ p. Holds whole part ball (length ball) p (get_or (set verdicts place verdict) p Lost)) (sym same) (subst (Holds whole part ball (length ball) place) (sym (get_or-set_same verdicts place verdict Lost l)) holds)
+      | inr apart ↦ subst (Holds whole part ball (length ball) from) (sym (get_or-set_other verdicts place from verdict Lost apart)) (judged.done from (omega arith))
     ];
-    left = λ from late. subst (Holds whole part gap ball former from) (sym (get_or-set_other verdicts place from verdict Lost (λ same. absurd (omega arith)))) (judged.left from (omega arith));
+    left = λ from late. subst (Holds whole part ball former from) (sym (get_or-set_other verdicts place from verdict Lost (λ same. absurd (omega arith)))) (judged.left from (omega arith));
   }
 
-  pub judged_all : (verdicts : List Verdict) (upto : ℕ) → AreJudgedTo whole part gap ball former upto verdicts → length verdicts ≤ upto → AreJudged whole part gap ball (length ball) verdicts
+  pub judged_all : (verdicts : List Verdict) (upto : ℕ) → AreJudgedTo whole part ball former upto verdicts → length verdicts ≤ upto → AreJudged whole part ball (length ball) verdicts
   judged_all verdicts upto judged l = record {
     size = judged.size;
     each = λ from. elim (cases_lt from upto) [
       | inl early ↦ judged.done from early
-      | inr late ↦ subst (Holds whole part gap ball (length ball) from) (sym (get_or_past verdicts from Lost (omega arith))) tt
+      | inr late ↦ subst (Holds whole part ball (length ball) from) (sym (get_or_past verdicts from Lost (omega arith))) tt
     ];
   }

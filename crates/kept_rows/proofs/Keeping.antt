@@ -1,29 +1,23 @@
 -- A cell whose first sets to the cells of a ball stay, and whose costs to those at its border, keeps all first sets.
-use Rattle.std.proofs.Common.{◌≡◌, ℕ, ◌<◌, Bool, List, ◌∷◌, length, slice_index, AllPairs, inl, inr, sym, ap, subst, ◌∙◌, arith}
+use Rattle.std.proofs.Common.{◌≡◌, ℕ, ◌<◌, Bool, List, length, slice_index, inl, inr, sym, ap, subst, ◌∙◌, arith}
 use Rattle.std.proofs.lemmas.Bool.{false≢true}
 use Rattle.std.specs.Prelude.{IsBitSet}
 use Rattle.moves.specs.declared.Cell.{Cell}
 use Rattle.moves.specs.declared.Move.{Move}
-use Rattle.moves.specs.Maps.{Map, IsPassable}
+use Rattle.moves.specs.Maps.{Map}
 use Rattle.moves.specs.Moves.{IsLegal}
-use Rattle.moves.specs.FirstSets.{IsFirstMove}
 use Rattle.moves.specs.ComponentLaws.{HasJust}
 use Rattle.moves.specs.FirstSetLists.{cell_of}
-use Rattle.moves.proofs.LawsOfPaths.{leads_to}
-use Rattle.kept_sources.specs.Balls.{without, IsBeside, IsBall, HaveSameFirst, HaveSameCost, KeepsBall, KeepsAll}
-use Rattle.kept_sources.proofs.Leaving.{balls_keep_sources}
+use Rattle.kept_sources.specs.Parts.{HaveSameFirst, HaveSameCost}
+use Rattle.kept_sources.specs.Balls.{IsBeside, IsRoundAll, AgreesOnBall}
+use Rattle.kept_sources.proofs.Leaving.{balls_round_all_keep_sources}
 use Rattle.lane_rows.specs.Tables.{edges_of, end_of, AreNear}
-use Rattle.lane_rows.proofs.Exact.{place_of_one, one_of_cells}
+use Rattle.lane_rows.proofs.Exact.{place_of_one}
 use Rattle.kept_rows.specs.Gaps.{IsPart}
-use Rattle.kept_rows.specs.Targets.{ArePlaces, IsRound, AreMarked}
+use Rattle.kept_rows.specs.Targets.{ArePlaces, IsRoundGaps, AreMarked}
 use Rattle.kept_rows.specs.Verdicts.{IsOpen}
-use Rattle.kept_rows.proofs.Gaps.{gap_inside, in_whole, in_part, apart_from_gap, gap_on_map, just_without}
-use Rattle.kept_rows.proofs.Balls.{ball_of, in_ball_if_none, in_ball_if_among, in_ball_cases, out_of_ball, has_or_not}
-
--- a first move leads to a passable cell
-goal_passable : (map : Map) (from to : Cell) (move : Move) → IsFirstMove map from to move → IsPassable map to
-goal_passable map from to move (inl here) = subst (IsPassable map) here.0 here.1
-goal_passable map from to move (inr path) = leads_to map from to (move ∷ path.0) path.1.leads
+use Rattle.kept_rows.proofs.Gaps.{is_part_of, taken_at_gap, part_stays}
+use Rattle.kept_rows.proofs.Balls.{among, among-true, among-from}
 
 -- where a legal move from a place leads
 led : (map : Map) (cells : List Cell) (near : List (List ℕ)) → HasJust map cells → AreNear cells near → (place : ℕ) (move : Move) (to : Cell) → place < length cells → IsLegal map (cell_of cells place) move to
@@ -38,62 +32,45 @@ led map cells near just edges place move to l legal =
           ((just.just_these _).0 c.0.passable, (just.just_these _).0 c.1.passable);
     })
 
-module _ (whole part : List Cell) (gap : ℕ) (is : IsPart whole part gap) (once : AllPairs (λ a b. a ≡ b → ⊥) whole) (near : List (List ℕ)) (edges : AreNear part near)
-    (ball : List ℕ) (places : ArePlaces part ball) (round : IsRound part (cell_of whole gap) ball) (marks : ℕ) (marked : AreMarked near ball marks)
-    (from costs : ℕ) (open_at : IsOpen whole part gap ball (length ball) from costs) (all : (index : ℕ) → IsBitSet marks index → IsBitSet costs index) (map : Map) (just : HasJust map whole) where
-  abbrev hole : Cell
-  hole = cell_of whole gap
-
+module _ (whole part : List Cell) (gaps : List ℕ) (is : IsPart whole part gaps) (near : List (List ℕ)) (edges : AreNear part near)
+    (ball : List ℕ) (places : ArePlaces part ball) (round : IsRoundGaps whole part gaps ball) (marks : ℕ) (marked : AreMarked near ball marks)
+    (from costs : ℕ) (open_at : IsOpen whole part ball (length ball) from costs) (all : (index : ℕ) → IsBitSet marks index → IsBitSet costs index)
+    (map other : Map) (just : HasJust map whole) (just_part : HasJust other part) where
   abbrev source : Cell
   source = cell_of part from
-
-  just_part : HasJust (without map hole) part
-  just_part = just_without whole part gap is once map just
 
   abbrev target : ℕ → Cell
   target index = cell_of part (slice_index ball index)
 
   abbrev in_ball : Cell → Bool
-  in_ball = ball_of whole target (length ball)
+  in_ball = among target (length ball)
 
-  is_ball : IsBall in_ball hole
-  is_ball = record {
-    round = λ other beside. elim (has_or_not whole other) [
-      | inr none ↦ in_ball_if_none whole target (length ball) other none
-      | inl has ↦
-          let at = place_of_one part other (in_part whole part gap is once other has beside.apart) in
-          let one = round.beside at.0 at.1 (subst (IsBeside hole) (sym at.2) beside) in
-          in_ball_if_among whole target (length ball) other one.index one.early (ap (cell_of part) one.is ∙ at.2)
-    ];
-    open_inside = out_of_ball whole target (length ball) hole (one_of_cells whole gap (gap_inside whole part gap is)) (λ index l same. apart_from_gap whole part gap is once (slice_index ball index) (places.inside index l) same);
+  is_round : IsRoundAll map other in_ball
+  is_round cell next taken free beside =
+      let gap = taken_at_gap whole part gaps is map other just just_part cell taken in
+      let at = place_of_one part next ((just_part.just_these next).0 free) in
+      let one = (round.each gap.0 gap.1).beside at.0 at.1 (subst (IsBeside (cell_of whole (slice_index gaps gap.0))) (sym at.2) (subst (λ c. IsBeside c next) (sym gap.2) beside)) in
+      among-from target (length ball) next one.index one.early (ap (cell_of part) one.is ∙ at.2)
+
+  agrees : AgreesOnBall map other in_ball source
+  agrees = record {
+    first = λ to h free.
+        let one = among-true target (length ball) to h in
+        subst (HaveSameFirst map other source) one.2 ((open_at.first one.0 one.1).over map other just just_part);
+    cost = λ to h out.
+        let one = among-true target (length ball) to h in
+        let end = led other part near just_part edges (slice_index ball one.0) out.0 out.1 (places.inside one.0 one.1) (subst (λ c. IsLegal other c out.0 out.1) (sym one.2) out.2) in
+        let size = edges.whole in
+        let bit : IsBitSet marks one.0 = elim (marked.out one.0 one.1) [
+          | inr mark ↦ mark
+          | inl stays ↦
+              let back = stays.each out.0 (let e = end.0 in omega arith) in
+              absurd (false≢true (sym out.3 ∙ among-from target (length ball) out.1 back.index back.early (ap (cell_of part) back.is ∙ end.1)))
+        ] in
+        subst (HaveSameCost map other source) one.2 ((open_at.cost one.0 (all one.0 bit)).1.over map other just just_part);
   }
 
-  keeps_ball : KeepsBall map hole in_ball source
-  keeps_ball = record {
-    first = λ to h move. elim (in_ball_cases whole target (length ball) to h) [
-      | inl none ↦ (
-        λ f. absurd (none ((just.just_these to).0 (goal_passable map source to move f))),
-        λ f. absurd (none (in_whole whole part gap is to ((just_part.just_these to).0 (goal_passable (without map hole) source to move f)))),
-      )
-      | inr one ↦ subst (λ c. HaveSameFirst map (without map hole) source c) one.2 ((open_at.first one.0 one.1).over map just) move
-    ];
-    cost = λ to h out. elim (in_ball_cases whole target (length ball) to h) [
-      | inl none ↦ absurd (none (in_whole whole part gap is to ((just_part.just_these to).0 out.2.leaves)))
-      | inr one ↦
-          let end = led (without map hole) part near just_part edges (slice_index ball one.0) out.0 out.1 (places.inside one.0 one.1) (subst (λ c. IsLegal (without map hole) c out.0 out.1) (sym one.2) out.2) in
-          let size = edges.whole in
-          let bit : IsBitSet marks one.0 = elim (marked.out one.0 one.1) [
-            | inr mark ↦ mark
-            | inl stays ↦
-                let back = stays.each out.0 (let e = end.0 in omega arith) in
-                absurd (false≢true (sym out.3 ∙ in_ball_if_among whole target (length ball) out.1 back.index back.early (ap (cell_of part) back.is ∙ end.1)))
-          ] in
-          subst (λ c. HaveSameCost map (without map hole) source c) one.2 ((open_at.cost one.0 (all one.0 bit)).1.over map just)
-    ];
-  }
-
-  keeps_all : KeepsAll map hole in_ball source
-  keeps_all = balls_keep_sources map hole source in_ball (gap_on_map whole part gap is once map just) is_ball keeps_ball
-
-  pub keeps_first : (to : ℕ) → to < length part → HaveSameFirst map (without map hole) source (cell_of part to)
-  keeps_first to l = keeps_all.first (cell_of part to) (apart_from_gap whole part gap is once to l)
+  pub keeps_first : (to : ℕ) → to < length part → HaveSameFirst map other source (cell_of part to)
+  keeps_first to l =
+      (balls_round_all_keep_sources map other in_ball source (is_part_of whole part gaps is map other just just_part) is_round agrees).first (cell_of part to)
+      (part_stays whole part gaps is map other just just_part to l)

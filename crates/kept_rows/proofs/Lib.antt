@@ -8,6 +8,7 @@ pub mod Pairs
 pub mod Keeping
 pub mod Judging
 pub mod Surveying
+pub mod RowEdits
 pub mod NewRows
 pub mod GateLanes
 pub mod GateKeeping

@@ -7,5 +7,5 @@ use Rattle.kept_rows.specs.Gaps.{IsPart}
 
 -- the cells follow so from the former ones
 abbrev pub IsChange : List Cell → List Cell → Change → Type 0
-IsChange former cells (Out gap) = IsPart former cells gap
-IsChange former cells (In gap) = IsPart cells former gap
+IsChange former cells (Out gaps) = IsPart former cells gaps.items
+IsChange former cells (In gaps) = IsPart cells former gaps.items

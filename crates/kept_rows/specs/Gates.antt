@@ -20,26 +20,26 @@ abbrev pub IsOfSide : List Bool → ℕ → Type 0
 IsOfSide side place = slice_index_or side place false ≡ true
 
 -- the place of the longer list is that of a cell of the side, or of a gate
-pub record LeadsBack (gap count : ℕ) (side : List Bool) (gates : List ℕ) (there : ℕ) : Type 0 where
+pub record LeadsBack (gaps : List ℕ) (count : ℕ) (side : List Bool) (gates : List ℕ) (there : ℕ) : Type 0 where
   pub place : ℕ
   pub within : place < count
-  pub is : past gap place ≡ there
+  pub is : past gaps place ≡ there
   pub known : IsOfSide side place ⊎ IsAmong gates 15 place
 
 -- if the place is of the side, each move from it over the longer list leads to the side, or to a gate
-abbrev pub LeadOnlyBack : List (List ℕ) → ℕ → ℕ → List Bool → List ℕ → ℕ → Type 0
-LeadOnlyBack near gap count side gates place = (move : Move) → IsOfSide side place
-    → end_of (edges_of near (past gap place)) move < length near
-    → LeadsBack gap count side gates (end_of (edges_of near (past gap place)) move)
+abbrev pub LeadOnlyBack : List (List ℕ) → List ℕ → ℕ → List Bool → List ℕ → ℕ → Type 0
+LeadOnlyBack near gaps count side gates place = (move : Move) → IsOfSide side place
+    → end_of (edges_of near (past gaps place)) move < length near
+    → LeadsBack gaps count side gates (end_of (edges_of near (past gaps place)) move)
 
 -- so is each place: the side is left by the gates alone
-pub record IsLeftByLanes (near : List (List ℕ)) (gap count : ℕ) (side : List Bool) (gates : List ℕ) : Type 0 where
-  pub each : (place : ℕ) → place < count → LeadOnlyBack near gap count side gates place
+pub record IsLeftByLanes (near : List (List ℕ)) (gaps : List ℕ) (count : ℕ) (side : List Bool) (gates : List ℕ) : Type 0 where
+  pub each : (place : ℕ) → place < count → LeadOnlyBack near gaps count side gates place
 
 -- both lists are searched from the same gates, by which alone the side is left
-pub record AreGates (whole part : Searched) (gap : ℕ) (side : List Bool) : Type 0 where
-  pub both : IsPair whole part gap
-  pub left : IsLeftByLanes whole.near gap (length part.cells) side part.tile.sources
+pub record AreGates (whole part : Searched) (gaps : List ℕ) (side : List Bool) : Type 0 where
+  pub both : IsPair whole part gaps
+  pub left : IsLeftByLanes whole.near gaps (length part.cells) side part.tile.sources
 
 -- ---- the keys of one place in the lanes of the gates
 
@@ -73,10 +73,10 @@ pub record IsEvenlyMore (more less : List ℕ) : Type 0 where
 -- ---- classes of places
 
 -- the place is of the class: its keys over each list are those of the class and one amount
-pub record IsOfClass (whole part : Searched) (gap place : ℕ) (class : Class) : Type 0 where
+pub record IsOfClass (whole part : Searched) (gaps : List ℕ) (place : ℕ) (class : Class) : Type 0 where
   pub whole_keys : List ℕ
   pub part_keys : List ℕ
-  pub over_whole : AreGateKeys whole (past gap place) whole_keys
+  pub over_whole : AreGateKeys whole (past gaps place) whole_keys
   pub over_part : AreGateKeys part place part_keys
   pub even_whole : IsEvenlyMore whole_keys class.whole
   pub even_part : IsEvenlyMore part_keys class.part
@@ -91,13 +91,13 @@ pub record IsLow (class : Class) : Type 0 where
   pub part : (lane : ℕ) → lane < 15 → slice_index class.part lane ≤ MOST_TO_GATE
 
 -- if the place is beyond the gates, it is of a class that is the same over both lists, or of one of these
-abbrev pub IsClassed : Searched → Searched → ℕ → List Bool → List Class → ℕ → Type 0
-IsClassed whole part gap side classes place = (IsOfSide side place → ⊥) → (IsAmong part.tile.sources 15 place → ⊥)
-    → (class : Class) × IsOfClass whole part gap place class × (IsSameClass class ⊎ Contains classes class)
+abbrev pub IsClassed : Searched → Searched → List ℕ → List Bool → List Class → ℕ → Type 0
+IsClassed whole part gaps side classes place = (IsOfSide side place → ⊥) → (IsAmong part.tile.sources 15 place → ⊥)
+    → (class : Class) × IsOfClass whole part gaps place class × (IsSameClass class ⊎ Contains classes class)
 
 -- so is each place
-pub record AreClasses (whole part : Searched) (gap : ℕ) (side : List Bool) (classes : List Class) : Type 0 where
-  pub each : (place : ℕ) → place < length part.cells → IsClassed whole part gap side classes place
+pub record AreClasses (whole part : Searched) (gaps : List ℕ) (side : List Bool) (classes : List Class) : Type 0 where
+  pub each : (place : ℕ) → place < length part.cells → IsClassed whole part gaps side classes place
   pub low : All IsLow classes
 
 -- the new list has the classes of the old one, and one more at most, none of them too great
@@ -112,15 +112,15 @@ IsClassKept there sets class = (move : Move) → IsByLeast there class.whole set
 -- ---- what is told of a source
 
 -- in the lanes of the gates, of which none is the place, both lists have the same first sets and the same keys
-pub record AgreesAtGates (whole part : Searched) (gap place : ℕ) (there sets : List ℕ) : Type 0 where
+pub record AgreesAtGates (whole part : Searched) (gaps : List ℕ) (place : ℕ) (there sets : List ℕ) : Type 0 where
   pub apart : IsAmong part.tile.sources 15 place → ⊥
-  pub keys_whole : AreGateKeys whole (past gap place) there
+  pub keys_whole : AreGateKeys whole (past gaps place) there
   pub keys_part : AreGateKeys part place there
   pub first_whole : (lane : ℕ) → lane < 15
-      → IsFirstByKeys whole.near (lane_of whole.tile.keys lane) (past gap place) (slice_index sets lane)
+      → IsFirstByKeys whole.near (lane_of whole.tile.keys lane) (past gaps place) (slice_index sets lane)
   pub first_part : (lane : ℕ) → lane < 15 → IsFirstByKeys part.near (lane_of part.tile.keys lane) place (slice_index sets lane)
 
 -- whatever was judged of the former verdicts holds of the later ones
-abbrev pub KeepsJudged : List Cell → List Cell → ℕ → List Verdict → List Verdict → Type 0
-KeepsJudged whole part gap former later =
-    (ball : List ℕ) (count : ℕ) → AreJudged whole part gap ball count former → AreJudged whole part gap ball count later
+abbrev pub KeepsJudged : List Cell → List Cell → List Verdict → List Verdict → Type 0
+KeepsJudged whole part former later =
+    (ball : List ℕ) (count : ℕ) → AreJudged whole part ball count former → AreJudged whole part ball count later

@@ -4,4 +4,5 @@ pub mod Targets
 pub mod Pairs
 pub mod Staying
 pub mod Verdicts
+pub mod RowEdits
 pub mod Gates

@@ -27,19 +27,19 @@ pub record IsSearched (side : Searched) : Type 0 where
   pub can : CanBeSearched side
   pub solved : IsSolved side.near side.tile
 
--- one list has a cell more, and both can be searched
-pub record CanBePair (whole part : Searched) (gap : ℕ) : Type 0 where
-  pub cells : IsPart whole.cells part.cells gap
+-- one list has some cells more, and both can be searched
+pub record CanBePair (whole part : Searched) (gaps : List ℕ) : Type 0 where
+  pub cells : IsPart whole.cells part.cells gaps
   pub over_whole : CanBeSearched whole
   pub over_part : CanBeSearched part
 
--- both lists are searched from the same cells, and the longer one from that of the gap too
-pub record IsPair (whole part : Searched) (gap : ℕ) : Type 0 where
-  pub cells : IsPart whole.cells part.cells gap
+-- both lists are searched from the same cells, and the longer one from that of the first gap too
+pub record IsPair (whole part : Searched) (gaps : List ℕ) : Type 0 where
+  pub cells : IsPart whole.cells part.cells gaps
   pub over_whole : IsSearched whole
   pub over_part : IsSearched part
   pub inside : (lane : ℕ) → lane < 16 → slice_index part.tile.sources lane < length part.cells
-  pub moved : AreMoved gap part.tile.sources whole.tile.sources
+  pub moved : AreMoved gaps part.tile.sources whole.tile.sources
 
 -- the set of the moves that lead to a place whose key and the step make the key of this one
 pub record IsFirstByKeys (near : List (List ℕ)) (keys : ℕ → ℕ) (place set : ℕ) : Type 0 where

@@ -13,10 +13,10 @@ pub record IsAmong (places : List ℕ) (count place : ℕ) : Type 0 where
   pub early : index < count
   pub is : slice_index places index ≡ place
 
--- the same cells in the longer list, and in the last lane that of the gap
-pub record AreMoved (gap : ℕ) (sources moved : List ℕ) : Type 0 where
-  pub same : (lane : ℕ) → lane < 15 → slice_index moved lane ≡ past gap (slice_index sources lane)
-  pub last : slice_index moved 15 ≡ gap
+-- the same cells in the longer list, and in the last lane that of the first gap
+pub record AreMoved (gaps sources moved : List ℕ) : Type 0 where
+  pub same : (lane : ℕ) → lane < 15 → slice_index moved lane ≡ past gaps (slice_index sources lane)
+  pub last : slice_index moved 15 ≡ slice_index gaps 0
 
 -- places of a list, one in each lane, of which the first are for the ball
 pub record AreTargets (cells : List Cell) (sources : List ℕ) (count : ℕ) : Type 0 where
@@ -37,6 +37,15 @@ pub record ArePlaces (cells : List Cell) (ball : List ℕ) : Type 0 where
 -- the ball has all cells of a list that are beside one cell
 pub record IsRound (cells : List Cell) (hole : Cell) (ball : List ℕ) : Type 0 where
   pub beside : (place : ℕ) → place < length cells → IsBeside hole (cell_of cells place) → IsAmong ball (length ball) place
+
+-- the ball has all cells of the shorter list that are beside one of a gap
+pub record IsRoundGaps (whole part : List Cell) (gaps ball : List ℕ) : Type 0 where
+  pub each : (number : ℕ) → number < length gaps → IsRound part (cell_of whole (slice_index gaps number)) ball
+
+-- the cells of all gaps in the lanes, and in each lane one of the longer list
+pub record AreGapLanes (whole : List Cell) (gaps lanes : List ℕ) : Type 0 where
+  pub same : (number : ℕ) → number < length gaps → slice_index lanes number ≡ slice_index gaps number
+  pub inside : (lane : ℕ) → lane < 16 → slice_index lanes lane < length whole
 
 -- each move from the place leads to one of the ball
 pub record StaysIn (near : List (List ℕ)) (ball : List ℕ) (place : ℕ) : Type 0 where

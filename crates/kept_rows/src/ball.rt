@@ -1,11 +1,11 @@
-//! The ball: cells round the gap to which first sets and costs are compared.
+//! The ball: cells round the gaps to which first sets and costs are compared.
 
 ghost use Rattle.std.specs.Prelude.{◌≡◌, ℕ, ◌+◌, ◌<◌, ◌≤◌, ◌⊎◌, IsTrue, IsFalse, OnOk, length, slice_index};
 ghost use Rattle.moves.specs.declared.Move.{Move};
 ghost use Rattle.moves.specs.FirstSetLists.{cell_of};
 ghost use Rattle.kept_sources.specs.Balls.{IsBeside};
 ghost use Rattle.lane_rows.specs.Tables.{end_of};
-ghost use Rattle.kept_rows.specs.Targets.{AreMarked, ArePlaces, AreTargets, IsAmong, IsGrown, IsRound, StaysIn};
+ghost use Rattle.kept_rows.specs.Targets.{AreMarked, ArePlaces, AreTargets, IsAmong, IsGrown, IsRound, IsRoundGaps, StaysIn};
 ghost use Rattle.kept_rows.specs.Pairs.{IsSearched};
 
 use crate::side::Side;
@@ -32,8 +32,20 @@ pub(crate) fn grow(ball: &mut Vec<u16>, targets: Targets) -> Result<(), AllocErr
     Ok(())
 }
 
+/// Whether all cells of the shorter list that are beside one of a gap are in the ball.
+pub(crate) fn is_round(whole: &[Cell], part: &[Cell], gaps: &[usize], ball: &[u16]) -> bool
+    ensures { IsTrue result → IsRoundGaps whole.now part.now gaps.now ball.now }
+{
+    for gap in gaps.iter() {
+        if *gap >= whole.len() || !is_round_one(part, whole[*gap], ball) {
+            return false;
+        }
+    }
+    true
+}
+
 /// Whether all cells beside one are in the ball.
-pub(crate) fn is_round(cells: &[Cell], hole: Cell, ball: &[u16]) -> bool
+fn is_round_one(cells: &[Cell], hole: Cell, ball: &[u16]) -> bool
     ensures { IsTrue result → IsRound cells.now hole ball.now }
 {
     for (place, cell) in cells.iter().enumerate() {
@@ -45,7 +57,7 @@ pub(crate) fn is_round(cells: &[Cell], hole: Cell, ball: &[u16]) -> bool
 }
 
 /// Whether the other cell may be one of the eight round a cell.
-fn is_beside(cell: Cell, other: Cell) -> bool
+pub(crate) fn is_beside(cell: Cell, other: Cell) -> bool
     ensures { IsFalse result → IsBeside cell other → ⊥ }
 {
     u32::from(other.x) <= u32::from(cell.x) + 1

@@ -37,11 +37,11 @@ pub(crate) fn classes_of(
     pair: &Pair,
     cut: &Cut,
 ) -> Result<Option<Vec<Class>>, AllocError>
-    requires both { IsPair pair.now.whole pair.now.part pair.now.gap }
+    requires both { IsPair pair.now.whole pair.now.part pair.now.gaps.now }
     requires gates { pair.now.part.tile.sources ≡ cut.now.gates }
     requires side { length cut.now.side.items ≡ length pair.now.part.cells }
     ensures { IfOk result (λ found. IfSome found (λ classes. AreClasses pair.now.whole
-        pair.now.part pair.now.gap cut.now.side.items classes.items)) }
+        pair.now.part pair.now.gaps.now cut.now.side.items classes.items)) }
 {
     let mut classes = Vec::with_capacity(alloc, MAX_CLASSES)?;
     for place in 0..cut.side.len() {
@@ -59,13 +59,13 @@ fn note_class(
     place: usize,
     classes: &mut Vec<Class>,
 ) -> Result<bool, AllocError>
-    requires both { IsPair pair.now.whole pair.now.part pair.now.gap }
+    requires both { IsPair pair.now.whole pair.now.part pair.now.gaps.now }
     requires gates { pair.now.part.tile.sources ≡ cut.now.gates }
     requires side { length cut.now.side.items ≡ length pair.now.part.cells }
     requires place { place < length pair.now.part.cells }
     ensures more { OnOk result (AreMore classes.old.items classes.new.items) }
     ensures classed { IfOk result (λ done. done ≡ true → IsClassed pair.now.whole pair.now.part
-        pair.now.gap cut.now.side.items classes.new.items place) }
+        pair.now.gaps.now cut.now.side.items classes.new.items place) }
 {
     if cut.side[place] || is_among(&cut.gates, SHARED_LANES, place) {
         return Ok(true);
@@ -85,11 +85,11 @@ fn note_class(
 
 /// The class of a place; `None` where a way from a gate is too long.
 fn class_of(pair: &Pair, place: usize) -> Option<Class>
-    requires both { IsPair pair.now.whole pair.now.part pair.now.gap }
+    requires both { IsPair pair.now.whole pair.now.part pair.now.gaps.now }
     requires place { place < length pair.now.part.cells }
-    ensures { IfSome result (IsOfClass pair.now.whole pair.now.part pair.now.gap place) }
+    ensures { IfSome result (IsOfClass pair.now.whole pair.now.part pair.now.gaps.now place) }
 {
-    let Some(over_whole) = gate_keys(&pair.whole, place_past(pair.gap, place)) else {
+    let Some(over_whole) = gate_keys(&pair.whole, place_past(pair.gaps, place)) else {
         return None;
     };
     let Some(over_part) = gate_keys(&pair.part, place) else {

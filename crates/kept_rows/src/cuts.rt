@@ -1,9 +1,10 @@
-//! Gates that part some cells from that of the gap.
+//! Gates that part some cells from those of the gaps.
 
 ghost use Rattle.std.specs.Prelude.{◌≡◌, ℕ, ◌<◌, IsTrue, length, slice_index};
 ghost use Rattle.kept_rows.specs.Pairs.{CanBePair, CanBeSearched};
 
 use crate::flow::{Band, Flow, edges_at};
+use crate::gap::place_before;
 use crate::pair::Pair;
 use crate::side::Side;
 use crate::targets::are_inside;
@@ -11,7 +12,7 @@ use crate::verdict::{Verdict, count_open_in};
 use lane_rows::LANES;
 use std::alloc::{AllocError, Global};
 
-/// How many moves from the gap the gates are sought: from so many to twice as many and four, in the order in which they
+/// How many moves from the gaps the gates are sought: from so many to twice as many and four, in the order in which they
 /// told most of the maps that were met.
 const RADII: [u16; 6] = [8, 12, 16, 6, 24, 4];
 
@@ -38,7 +39,7 @@ impl Cut {
     }
 }
 
-/// Cuts round the gap, one after the other. What lies beyond the gates of a radius falls into sides that no move joins,
+/// Cuts round the gaps, one after the other. What lies beyond the gates of a radius falls into sides that no move joins,
 /// and each of them has its own gates: a side may see all as before where another does not.
 #[derive(Drop)]
 pub(crate) struct Cuts {
@@ -55,17 +56,17 @@ pub(crate) struct Cuts {
 }
 
 impl Cuts {
-    /// The cuts round the gap of a pair of lists.
+    /// The cuts round the gaps of a pair of lists.
     ///
     /// # Errors
     ///
     /// `AllocError` where memory runs out.
     pub(crate) fn new(alloc: Global, pair: &Pair) -> Result<Cuts, AllocError>
-        requires can { CanBePair pair.now.whole pair.now.part pair.now.gap }
+        requires can { CanBePair pair.now.whole pair.now.part pair.now.gaps.now }
     {
         Ok(Cuts {
             alloc,
-            flow: Flow::new(alloc, &pair.whole, pair.gap)?,
+            flow: Flow::new(alloc, &pair.whole, pair.gaps)?,
             turn: 0,
             gates: Vec::with_capacity(alloc, LANES)?,
             former: Vec::with_capacity(alloc, LANES)?,
@@ -83,7 +84,7 @@ impl Cuts {
         pair: &Pair,
         verdicts: &[Verdict],
     ) -> Result<Option<Cut>, AllocError>
-        requires can { CanBePair pair.now.whole pair.now.part pair.now.gap }
+        requires can { CanBePair pair.now.whole pair.now.part pair.now.gaps.now }
     {
         for turn in self.turn..2 * RADII.len() {
             if let Some(cut) = self.next_side(verdicts) {
@@ -137,14 +138,16 @@ impl Cuts {
 
     /// Notes a cut for each side beyond the gates that is large enough.
     fn note_sides(&mut self, pair: &Pair) -> Result<(), AllocError>
-        requires can { CanBePair pair.now.whole pair.now.part pair.now.gap }
+        requires can { CanBePair pair.now.whole pair.now.part pair.now.gaps.now }
     {
         let count = pair.whole.cells().len();
         let mut met = vec![in self.alloc; false; count]?;
         for gate in self.gates.iter() {
             mark(&mut met, *gate);
         }
-        self.flood(pair, pair.gap, &mut met)?;
+        for gap in pair.gaps.iter() {
+            self.flood(pair, *gap, &mut met)?;
+        }
         for place in 0..count {
             if !is_marked(&met, place) {
                 let side = self.flood(pair, place, &mut met)?;
@@ -159,17 +162,17 @@ impl Cuts {
 
     /// The cut of a side, whose places are those of the longer list.
     fn cut_of(&self, pair: &Pair, side: &[usize]) -> Result<Cut, AllocError>
-        requires can { CanBePair pair.now.whole pair.now.part pair.now.gap }
+        requires can { CanBePair pair.now.whole pair.now.part pair.now.gaps.now }
     {
         let mut marks = vec![in self.alloc; false; pair.part.cells().len()]?;
         for place in side.iter() {
-            mark(&mut marks, place_before(pair.gap, *place));
+            mark(&mut marks, place_before(pair.gaps, *place));
         }
         let mut gates = [0u16; LANES];
         let mut lanes = 0usize;
         for gate in self.gates.iter() {
             if leads_to(pair, *gate, &marks) {
-                let place = u16::try_from(place_before(pair.gap, *gate)).unwrap_or(0);
+                let place = u16::try_from(place_before(pair.gaps, *gate)).unwrap_or(0);
                 for lane in lanes..LANES {
                     gates[lane] = place;
                 }
@@ -181,7 +184,7 @@ impl Cuts {
 
     /// Marks the places of the longer list to which one comes from a place past none that is marked, and gives them.
     fn flood(&self, pair: &Pair, from: usize, marks: &mut [bool]) -> Result<Vec<usize>, AllocError>
-        requires can { CanBePair pair.now.whole pair.now.part pair.now.gap }
+        requires can { CanBePair pair.now.whole pair.now.part pair.now.gaps.now }
     {
         let mut queue = Vec::new(self.alloc);
         if mark(marks, from) {
@@ -203,24 +206,15 @@ impl Cuts {
 
 /// Whether some move leads from a place of the longer list to one that is marked in the shorter list.
 fn leads_to(pair: &Pair, from: usize, marks: &[bool]) -> bool
-    requires can { CanBePair pair.now.whole pair.now.part pair.now.gap }
+    requires can { CanBePair pair.now.whole pair.now.part pair.now.gaps.now }
 {
     for to in edges_at(&pair.whole, from) {
         let to = usize::from(to);
-        if to != pair.gap && is_marked(marks, place_before(pair.gap, to)) {
+        if !pair.gaps.contains(&to) && is_marked(marks, place_before(pair.gaps, to)) {
             return true;
         }
     }
     false
-}
-
-/// Where a place of the longer list stands in the shorter one.
-fn place_before(gap: usize, there: usize) -> usize {
-    if there < gap {
-        there
-    } else {
-        there.saturating_sub(1)
-    }
 }
 
 /// Whether a place is marked.

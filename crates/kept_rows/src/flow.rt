@@ -1,4 +1,4 @@
-//! Few cells by which alone one can leave the surroundings of the gap: paths that share no cell are found one after the
+//! Few cells by which alone one can leave the surroundings of the gaps: paths that share no cell are found one after the
 //! other, and where no more is found the cells at which the search ended are the fewest. (Ford and Fulkerson 1956)
 
 ghost use Rattle.kept_rows.specs.Pairs.{CanBeSearched};
@@ -13,7 +13,7 @@ const UNREACHED: u16 = u16::MAX;
 /// No place.
 const NOWHERE: usize = usize::MAX;
 
-/// Between which distances from the gap, in moves, the cells are sought; and whether the search begins far from it, so
+/// Between which distances from the gaps, in moves, the cells are sought; and whether the search begins far from it, so
 /// that of several such sets of cells the farthest is found, and not the nearest.
 #[derive(Clone, Copy, Debug)]
 pub(crate) struct Band {
@@ -34,7 +34,7 @@ enum Part {
 /// enters it, and 2 · place + 1 where it leaves.
 #[derive(Drop)]
 pub(crate) struct Flow {
-    /// How many moves each place is from the gap.
+    /// How many moves each place is from the gaps.
     distance: Vec<u16>,
     /// The place before each place on its path.
     before: Vec<usize>,
@@ -50,7 +50,7 @@ impl Flow {
     /// # Errors
     ///
     /// `AllocError` where memory runs out.
-    pub(crate) fn new(alloc: Global, whole: &Side, gap: usize) -> Result<Flow, AllocError>
+    pub(crate) fn new(alloc: Global, whole: &Side, gaps: &[usize]) -> Result<Flow, AllocError>
         requires can { CanBeSearched whole.now }
     {
         let count = whole.cells().len();
@@ -60,16 +60,18 @@ impl Flow {
             came: vec![in alloc; 0usize; 2 * count]?,
             queue: Vec::with_capacity(alloc, 2 * count)?,
         };
-        flow.measure(whole, gap)?;
+        flow.measure(whole, gaps)?;
         Ok(flow)
     }
 
-    /// Finds how far each place is from the gap.
-    fn measure(&mut self, whole: &Side, gap: usize) -> Result<(), AllocError>
+    /// Finds how far each place is from the gaps.
+    fn measure(&mut self, whole: &Side, gaps: &[usize]) -> Result<(), AllocError>
         requires can { CanBeSearched whole.now }
     {
         self.queue.clear();
-        self.reach(gap, 0)?;
+        for gap in gaps.iter() {
+            self.reach(*gap, 0)?;
+        }
         for head in 0..self.distance.len() {
             if head >= self.queue.len() {
                 return Ok(());
@@ -92,7 +94,7 @@ impl Flow {
         Ok(())
     }
 
-    /// How far a place is from the gap.
+    /// How far a place is from the gaps.
     fn distance(&self, place: usize) -> u16 {
         if place < self.distance.len() {
             self.distance[place]

@@ -12,7 +12,7 @@ ghost use Rattle.kept_rows.specs.Gates.{AgreesAtGates, AreClasses, AreGates, IsB
 use crate::ball::is_among;
 use crate::classes::{Class, MOST_TO_GATE, classes_of, gate_keys};
 use crate::cuts::Cut;
-use crate::gap::place_past;
+use crate::gap::{MAX_GAPS, place_before, place_past};
 use crate::pair::Pair;
 use crate::side::Side;
 use crate::targets::SHARED_LANES;
@@ -40,13 +40,13 @@ pub(crate) fn ask_gates(
     cut: &Cut,
     verdicts: &mut Vec<Verdict>,
 ) -> Result<(), AllocError>
-    requires can { CanBePair pair.old.whole pair.old.part pair.old.gap }
+    requires can { CanBePair pair.old.whole pair.old.part pair.old.gaps.now }
     requires size { length verdicts.old.items ≡ length pair.old.part.cells }
-    ensures can { CanBePair pair.new.whole pair.new.part pair.new.gap }
-    ensures gap { pair.new.gap ≡ pair.old.gap }
+    ensures can { CanBePair pair.new.whole pair.new.part pair.new.gaps.now }
+    ensures gaps { pair.new.gaps.now ≡ pair.old.gaps.now }
     ensures whole { pair.new.whole.cells ≡ pair.old.whole.cells }
     ensures part { pair.new.part.cells ≡ pair.old.part.cells }
-    ensures judged { OnOk result (KeepsJudged pair.old.whole.cells pair.old.part.cells pair.old.gap
+    ensures judged { OnOk result (KeepsJudged pair.old.whole.cells pair.old.part.cells
         verdicts.old.items verdicts.new.items) }
 {
     if !cut.is_of(pair.part.cells().len()) || !pair.search(cut.gates) {
@@ -62,14 +62,14 @@ fn keep_beyond(
     cut: &Cut,
     verdicts: &mut Vec<Verdict>,
 ) -> Result<(), AllocError>
-    requires both { IsPair pair.now.whole pair.now.part pair.now.gap }
+    requires both { IsPair pair.now.whole pair.now.part pair.now.gaps.now }
     requires gates { pair.now.part.tile.sources ≡ cut.now.gates }
     requires side { length cut.now.side.items ≡ length pair.now.part.cells }
     requires size { length verdicts.old.items ≡ length pair.now.part.cells }
-    ensures { OnOk result (KeepsJudged pair.now.whole.cells pair.now.part.cells pair.now.gap
+    ensures { OnOk result (KeepsJudged pair.now.whole.cells pair.now.part.cells
         verdicts.old.items verdicts.new.items) }
 {
-    if !is_left_by_gates(&pair.whole, pair.gap, cut) {
+    if !is_left_by_gates(&pair.whole, pair.gaps, cut) {
         return Ok(());
     }
     if let Some(classes) = classes_of(alloc, pair, cut)? {
@@ -80,13 +80,13 @@ fn keep_beyond(
 
 /// Marks the cells that stay, by gates and classes.
 fn keep_by_gates(pair: &Pair, cut: &Cut, classes: &[Class], verdicts: &mut Vec<Verdict>)
-    requires are_gates { AreGates pair.now.whole pair.now.part pair.now.gap cut.now.side.items }
+    requires are_gates { AreGates pair.now.whole pair.now.part pair.now.gaps.now cut.now.side.items }
     requires gates { pair.now.part.tile.sources ≡ cut.now.gates }
     requires side { length cut.now.side.items ≡ length pair.now.part.cells }
-    requires classes { AreClasses pair.now.whole pair.now.part pair.now.gap cut.now.side.items
+    requires classes { AreClasses pair.now.whole pair.now.part pair.now.gaps.now cut.now.side.items
         classes.now }
     requires size { length verdicts.old.items ≡ length pair.now.part.cells }
-    ensures { KeepsJudged pair.now.whole.cells pair.now.part.cells pair.now.gap
+    ensures { KeepsJudged pair.now.whole.cells pair.now.part.cells
         verdicts.old.items verdicts.new.items }
 {
     for place in 0..verdicts.len() {
@@ -102,15 +102,15 @@ fn keep_if_stays(
     place: usize,
     verdicts: &mut Vec<Verdict>,
 )
-    requires are_gates { AreGates pair.now.whole pair.now.part pair.now.gap cut.now.side.items }
+    requires are_gates { AreGates pair.now.whole pair.now.part pair.now.gaps.now cut.now.side.items }
     requires gates { pair.now.part.tile.sources ≡ cut.now.gates }
     requires side { length cut.now.side.items ≡ length pair.now.part.cells }
-    requires classes { AreClasses pair.now.whole pair.now.part pair.now.gap cut.now.side.items
+    requires classes { AreClasses pair.now.whole pair.now.part pair.now.gaps.now cut.now.side.items
         classes.now }
     requires size { length verdicts.old.items ≡ length pair.now.part.cells }
     requires place { place < length pair.now.part.cells }
     ensures size { length verdicts.new.items ≡ length verdicts.old.items }
-    ensures judged { KeepsJudged pair.now.whole.cells pair.now.part.cells pair.now.gap
+    ensures judged { KeepsJudged pair.now.whole.cells pair.now.part.cells
         verdicts.old.items verdicts.new.items }
 {
     if is_open(verdicts, place) && stays_by_gates(pair, cut, classes, place) {
@@ -127,14 +127,14 @@ fn is_open(verdicts: &[Verdict], place: usize) -> bool
 
 /// Whether gates and classes tell that all first sets from a place of the shorter list stay.
 fn stays_by_gates(pair: &Pair, cut: &Cut, classes: &[Class], place: usize) -> bool
-    requires are_gates { AreGates pair.now.whole pair.now.part pair.now.gap cut.now.side.items }
+    requires are_gates { AreGates pair.now.whole pair.now.part pair.now.gaps.now cut.now.side.items }
     requires gates { pair.now.part.tile.sources ≡ cut.now.gates }
     requires side { length cut.now.side.items ≡ length pair.now.part.cells }
-    requires classes { AreClasses pair.now.whole pair.now.part pair.now.gap cut.now.side.items
+    requires classes { AreClasses pair.now.whole pair.now.part pair.now.gaps.now cut.now.side.items
         classes.now }
     requires place { place < length pair.now.part.cells }
     ensures { IsTrue result
-        → AllStay pair.now.whole.cells pair.now.part.cells pair.now.gap place }
+        → AllStay pair.now.whole.cells pair.now.part.cells place }
 {
     if !cut.side[place] || is_among(&cut.gates, SHARED_LANES, place) {
         return false;
@@ -147,13 +147,13 @@ fn stays_by_gates(pair: &Pair, cut: &Cut, classes: &[Class], place: usize) -> bo
 
 /// What leads from a place to the gates, where that is the same over both lists and no way is too long.
 fn ways_to_gates(pair: &Pair, place: usize) -> Option<Ways>
-    requires both { IsPair pair.now.whole pair.now.part pair.now.gap }
+    requires both { IsPair pair.now.whole pair.now.part pair.now.gaps.now }
     requires place { place < length pair.now.part.cells }
     requires apart { IsAmong pair.now.part.tile.sources 15 place → ⊥ }
-    ensures { IfSome result (λ ways. AgreesAtGates pair.now.whole pair.now.part pair.now.gap place
+    ensures { IfSome result (λ ways. AgreesAtGates pair.now.whole pair.now.part pair.now.gaps.now place
         ways.keys ways.sets) }
 {
-    let there = place_past(pair.gap, place);
+    let there = place_past(pair.gaps, place);
     let Some(keys) = gate_keys(&pair.whole, there) else {
         return None;
     };
@@ -249,14 +249,15 @@ fn least_sum(there: &[u32; LANES], onward: &[u32; LANES]) -> u32
 }
 
 /// Whether over the longer list the side is left by the gates alone.
-fn is_left_by_gates(whole: &Side, gap: usize, cut: &Cut) -> bool
-    requires size { length whole.now.near ≡ length cut.now.side.items + 1 }
+fn is_left_by_gates(whole: &Side, gaps: &[usize], cut: &Cut) -> bool
+    requires size { length whole.now.near ≡ length cut.now.side.items + length gaps.now }
+    requires few_gaps { length gaps.now ≤ MAX_GAPS }
     requires few { length cut.now.side.items ≤ MAX_PASSABLE }
-    ensures { IsTrue result → IsLeftByLanes whole.now.near gap (length cut.now.side.items)
+    ensures { IsTrue result → IsLeftByLanes whole.now.near gaps.now (length cut.now.side.items)
         cut.now.side.items cut.now.gates }
 {
     for place in 0..cut.side.len() {
-        if !is_kept_in(whole, gap, cut, place) {
+        if !is_kept_in(whole, gaps, cut, place) {
             return false;
         }
     }
@@ -264,28 +265,30 @@ fn is_left_by_gates(whole: &Side, gap: usize, cut: &Cut) -> bool
 }
 
 /// Whether a place is not of the side, or its moves over the longer list lead to the side or to gates alone.
-fn is_kept_in(whole: &Side, gap: usize, cut: &Cut, place: usize) -> bool
-    requires size { length whole.now.near ≡ length cut.now.side.items + 1 }
+fn is_kept_in(whole: &Side, gaps: &[usize], cut: &Cut, place: usize) -> bool
+    requires size { length whole.now.near ≡ length cut.now.side.items + length gaps.now }
+    requires few_gaps { length gaps.now ≤ MAX_GAPS }
     requires few { length cut.now.side.items ≤ MAX_PASSABLE }
     requires place { place < length cut.now.side.items }
-    ensures { IsTrue result → LeadOnlyBack whole.now.near gap (length cut.now.side.items)
+    ensures { IsTrue result → LeadOnlyBack whole.now.near gaps.now (length cut.now.side.items)
         cut.now.side.items cut.now.gates place }
 {
     if !cut.side[place] {
         return true;
     }
-    lead_back(whole.edges(place_past(gap, place)), gap, cut)
+    lead_back(whole.edges(place_past(gaps, place)), gaps, cut)
 }
 
 /// Whether the moves that lead somewhere in the longer list all lead to the side or to gates.
-fn lead_back(edges: [u16; 8], gap: usize, cut: &Cut) -> bool
-    ensures { IsTrue result → (move : Move) → end_of edges move < length cut.now.side.items + 1
-        → LeadsBack gap (length cut.now.side.items) cut.now.side.items cut.now.gates
+fn lead_back(edges: [u16; 8], gaps: &[usize], cut: &Cut) -> bool
+    requires { length gaps.now ≤ MAX_GAPS }
+    ensures { IsTrue result → (move : Move) → end_of edges move < length cut.now.side.items + length gaps.now
+        → LeadsBack gaps.now (length cut.now.side.items) cut.now.side.items cut.now.gates
         (end_of edges move) }
 {
     for number in 0..8 {
         let to = usize::from(edges[number]);
-        if to <= cut.side.len() && !is_known(to, gap, cut) {
+        if to < cut.side.len() + gaps.len() && !is_known(to, gaps, cut) {
             return false;
         }
     }
@@ -293,13 +296,17 @@ fn lead_back(edges: [u16; 8], gap: usize, cut: &Cut) -> bool
 }
 
 /// Whether a place of the longer list is that of a cell of the side, or of a gate.
-fn is_known(there: usize, gap: usize, cut: &Cut) -> bool
-    ensures { IsTrue result → LeadsBack gap (length cut.now.side.items) cut.now.side.items
+fn is_known(there: usize, gaps: &[usize], cut: &Cut) -> bool
+    requires { length gaps.now ≤ MAX_GAPS }
+    ensures { IsTrue result → LeadsBack gaps.now (length cut.now.side.items) cut.now.side.items
         cut.now.gates there }
 {
-    if there == gap {
+    let place = place_before(gaps, there);
+    if place >= cut.side.len()
+        || place > MAX_PASSABLE as usize
+        || place_past(gaps, place) != there
+    {
         return false;
     }
-    let place = if there < gap { there } else { there - 1 };
-    place < cut.side.len() && (cut.side[place] || is_among(&cut.gates, SHARED_LANES, place))
+    cut.side[place] || is_among(&cut.gates, SHARED_LANES, place)
 }

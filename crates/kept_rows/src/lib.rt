@@ -1,12 +1,12 @@
-//! The rows of a component that stay after one cell is blocked or freed.
+//! The rows of a component that stay after a few cells are blocked, or freed.
 //!
-//! Two lists of cells are compared, of which the one has one cell more. Pairs of tiles are solved, one over each list,
-//! from the same cells round that one, the ball: costs are the same both ways, so they tell of each other cell the first
-//! sets to those cells. Where these are the same over both lists, and the costs as well at the border of the ball, all
-//! first sets from that cell are the same (kept_sources), and its row follows from the former one by few sets
-//! (row_edit). Where too many cells are left undecided the ball grows by a pair of tiles. Where too many are left then,
-//! pairs are solved from gates, few cells that part some from the gap: what a source has to the gates tells what it has
-//! to all cells.
+//! Two lists of cells are compared, of which the one has some cells more, those at the gaps. Pairs of tiles are solved,
+//! one over each list, from the same cells round the gaps, the ball: costs are the same both ways, so they tell of each
+//! other cell the first sets to those cells. Where these are the same over both lists, and the costs as well at the
+//! border of the ball, all first sets from that cell are the same (kept_sources), and its row follows from the former
+//! one by few sets (row_edit). As long as the ball has not all cells beside those of the gaps, or too many cells are left
+//! undecided, it grows by a pair of tiles. Where too many are left then, pairs are solved from gates, few cells that part
+//! some from the gaps: what a source has to the gates tells what it has to all cells.
 //! (Botea 2011; Strasser, Harabor and Botea 2014)
 #![tactic(auto)]
 
@@ -32,7 +32,7 @@ mod targets;
 mod verdict;
 
 use crate::gap::{Change, change_between};
-use crate::pair::Pair;
+use crate::pair::{Pair, sets_to_gaps};
 use crate::rows::{Lists, rows_of_part, rows_of_whole};
 use crate::side::Side;
 use crate::survey::take_survey;
@@ -41,9 +41,9 @@ use moves::Cell;
 use row_store::{CompData, RowPool};
 use std::alloc::{AllocError, Global};
 
-/// The rows of a component that follow from those of a former one, whose cells are these and one more, or these without
-/// one, in the same order: those of the sources whose first sets stay, where few sets decide them. All others are
-/// blank. `None` where the two lists of cells differ otherwise, or their tiles are not solved.
+/// The rows of a component that follow from those of a former one, whose cells are these and a few more, or these
+/// without a few, in the same order: those of the sources whose first sets stay, where few sets decide them. All others
+/// are blank. `None` where the two lists of cells differ otherwise, or their tiles are not solved.
 ///
 /// # Errors
 ///
@@ -57,62 +57,78 @@ pub fn rows_after(
     requires table { AreWithNear cells.now near.now }
     ensures { IfOk result (λ kept. IfSome kept (AreSome cells.now)) }
 {
-    let Some(change) = change_between(former.cells(), cells) else {
+    let Some(change) = change_between(alloc, former.cells(), cells)? else {
         return Ok(None);
     };
     let former_near = Near::of(alloc, former.cells())?;
     match change {
-        Change::Out(gap) => rows_without(alloc, former, cells, &former_near, near, gap),
-        Change::In(gap) => rows_with(alloc, former, cells, &former_near, near, gap),
+        Change::Out(gaps) => rows_without(alloc, former, cells, &former_near, near, &gaps),
+        Change::In(gaps) => rows_with(alloc, former, cells, &former_near, near, &gaps),
     }
 }
 
-/// The rows that stay without the cell at a place.
+/// The rows that stay without the cells at some places.
 fn rows_without(
     alloc: Global,
     former: &CompData,
     cells: &[Cell],
     former_near: &Near,
     near: &Near,
-    gap: usize,
+    gaps: &[usize],
 ) -> Result<Option<RowPool>, AllocError>
     requires table { AreWithNear cells.now near.now }
     requires former_edges { AreNear former.now.cells former_near.now }
     requires former_pairs { IsMutual former_near.now }
-    requires part { IsPart former.now.cells cells.now gap }
+    requires part { IsPart former.now.cells cells.now gaps.now }
     ensures { IfOk result (λ kept. IfSome kept (AreSome cells.now)) }
 {
     let whole = Side::new(alloc, former.cells(), former_near)?;
     let part = Side::new(alloc, cells, near)?;
-    let mut pair = Pair { whole, part, gap };
+    let mut pair = Pair { whole, part, gaps };
     let Some(found) = take_survey(alloc, &mut pair)? else {
         return Ok(None);
     };
-    let lists = Lists { former, cells, gap };
+    let Some(own_sets) = sets_to_gaps(alloc, &mut pair, found.sources, &found.sets)? else {
+        return Ok(None);
+    };
+    let lists = Lists {
+        former,
+        cells,
+        gaps,
+        own_sets: &own_sets,
+    };
     Ok(Some(rows_of_part(alloc, &lists, &found)?))
 }
 
-/// The rows that stay with the cell at a place.
+/// The rows that stay with the cells at some places.
 fn rows_with(
     alloc: Global,
     former: &CompData,
     cells: &[Cell],
     former_near: &Near,
     near: &Near,
-    gap: usize,
+    gaps: &[usize],
 ) -> Result<Option<RowPool>, AllocError>
     requires table { AreWithNear cells.now near.now }
     requires former_edges { AreNear former.now.cells former_near.now }
     requires former_pairs { IsMutual former_near.now }
-    requires part { IsPart cells.now former.now.cells gap }
+    requires part { IsPart cells.now former.now.cells gaps.now }
     ensures { IfOk result (λ kept. IfSome kept (AreSome cells.now)) }
 {
     let whole = Side::new(alloc, cells, near)?;
     let part = Side::new(alloc, former.cells(), former_near)?;
-    let mut pair = Pair { whole, part, gap };
+    let mut pair = Pair { whole, part, gaps };
     let Some(found) = take_survey(alloc, &mut pair)? else {
         return Ok(None);
     };
-    let lists = Lists { former, cells, gap };
+    let Some(own_sets) = sets_to_gaps(alloc, &mut pair, found.sources, &found.sets)? else {
+        return Ok(None);
+    };
+    let lists = Lists {
+        former,
+        cells,
+        gaps,
+        own_sets: &own_sets,
+    };
     Ok(Some(rows_of_whole(alloc, &lists, &found)?))
 }

@@ -1,7 +1,6 @@
 //! What pairs of tiles tell of all cells, one pair after the other.
 
 ghost use Rattle.std.specs.Prelude.{◌≡◌, ℕ, ◌+◌, ◌<◌, ◌≤◌, IfOk, IfSome, OnOk, length};
-ghost use Rattle.moves.specs.FirstSetLists.{cell_of};
 ghost use Rattle.kept_rows.specs.Targets.{AreTargets};
 ghost use Rattle.kept_rows.specs.Pairs.{CanBePair, IsPair};
 ghost use Rattle.kept_rows.specs.Verdicts.{AreSurveyed};
@@ -10,7 +9,7 @@ use crate::ball::{MAX_BALL, grow, is_round, marks_of};
 use crate::cuts::Cuts;
 use crate::gates::ask_gates;
 use crate::pair::{Pair, sets_of};
-use crate::targets::{Targets, first_targets, next_targets};
+use crate::targets::{Targets, first_targets, next_targets, round_targets};
 use crate::verdict::{Stage, Verdict, count_open, fails_of, judge_all};
 use lane_rows::LANES;
 use std::alloc::{AllocError, Global};
@@ -35,6 +34,8 @@ pub(crate) struct Survey {
     ball: Vec<u16>,
     /// The bits of the ball's cells from which a move leads out of it. Only the choice of targets looks at them.
     marks: u64,
+    /// Whether all cells beside those of the gaps are in the ball.
+    is_round: bool,
     /// What is known of each cell.
     pub verdicts: Vec<Verdict>,
     /// The places of the first pair's lanes.
@@ -43,16 +44,20 @@ pub(crate) struct Survey {
     pub sets: Vec<[u8; LANES]>,
 }
 
-/// What pairs of tiles tell; `None` where the first one is not solved, or has not all cells beside that of the gap.
+/// What pairs of tiles tell; `None` where the first one is not solved.
 ///
 /// # Errors
 ///
 /// `AllocError` where memory runs out.
 pub(crate) fn take_survey(alloc: Global, pair: &mut Pair) -> Result<Option<Survey>, AllocError>
-    requires can { CanBePair pair.old.whole pair.old.part pair.old.gap }
-    ensures { IfOk result (λ found. IfSome found (λ survey. AreSurveyed pair.old.whole.cells
-        pair.old.part.cells pair.old.gap survey.sources survey.sets.items survey.ball.items
-        survey.verdicts.items)) }
+    requires can { CanBePair pair.old.whole pair.old.part pair.old.gaps.now }
+    ensures can { CanBePair pair.new.whole pair.new.part pair.new.gaps.now }
+    ensures gaps { pair.new.gaps.now ≡ pair.old.gaps.now }
+    ensures whole { pair.new.whole.cells ≡ pair.old.whole.cells }
+    ensures part { pair.new.part.cells ≡ pair.old.part.cells }
+    ensures surveyed { IfOk result (λ found. IfSome found (λ survey. AreSurveyed
+        pair.new.whole.cells pair.new.part.cells pair.new.gaps.now survey.sources survey.sets.items
+        survey.ball.items survey.verdicts.items)) }
 {
     let Some(mut survey) = begin(alloc, pair)? else {
         return Ok(None);
@@ -64,52 +69,55 @@ pub(crate) fn take_survey(alloc: Global, pair: &mut Pair) -> Result<Option<Surve
 
 /// What the first pair tells.
 fn begin(alloc: Global, pair: &mut Pair) -> Result<Option<Survey>, AllocError>
-    requires can { CanBePair pair.old.whole pair.old.part pair.old.gap }
-    ensures can { CanBePair pair.new.whole pair.new.part pair.new.gap }
-    ensures gap { pair.new.gap ≡ pair.old.gap }
+    requires can { CanBePair pair.old.whole pair.old.part pair.old.gaps.now }
+    ensures can { CanBePair pair.new.whole pair.new.part pair.new.gaps.now }
+    ensures gaps { pair.new.gaps.now ≡ pair.old.gaps.now }
     ensures whole { pair.new.whole.cells ≡ pair.old.whole.cells }
     ensures part { pair.new.part.cells ≡ pair.old.part.cells }
     ensures surveyed { IfOk result (λ found. IfSome found (λ survey. AreSurveyed
-        pair.new.whole.cells pair.new.part.cells pair.new.gap survey.sources survey.sets.items
+        pair.new.whole.cells pair.new.part.cells pair.new.gaps.now survey.sources survey.sets.items
         survey.ball.items survey.verdicts.items)) }
 {
-    let Some(targets) = first_targets(pair.part.cells(), pair.hole(), pair.gap) else {
+    let Some(targets) = first_targets(pair) else {
         return Ok(None);
     };
     if !pair.search(targets.sources) {
         return Ok(None);
     }
-    first_survey(alloc, pair, targets)
+    Ok(Some(first_survey(alloc, pair, targets)?))
 }
 
 /// What the first pair tells, once it is solved.
-fn first_survey(alloc: Global, pair: &Pair, targets: Targets) -> Result<Option<Survey>, AllocError>
-    requires searched { IsPair pair.now.whole pair.now.part pair.now.gap }
-    requires can { CanBePair pair.now.whole pair.now.part pair.now.gap }
+fn first_survey(alloc: Global, pair: &Pair, targets: Targets) -> Result<Survey, AllocError>
+    requires searched { IsPair pair.now.whole pair.now.part pair.now.gaps.now }
+    requires can { CanBePair pair.now.whole pair.now.part pair.now.gaps.now }
     requires targets { AreTargets pair.now.part.cells targets.sources targets.count }
     requires sources { pair.now.part.tile.sources ≡ targets.sources }
-    ensures { IfOk result (λ found. IfSome found (λ survey. AreSurveyed
-        pair.now.whole.cells pair.now.part.cells pair.now.gap survey.sources survey.sets.items
-        survey.ball.items survey.verdicts.items)) }
+    ensures { IfOk result (λ survey. AreSurveyed pair.now.whole.cells pair.now.part.cells
+        pair.now.gaps.now survey.sources survey.sets.items survey.ball.items survey.verdicts.items) }
 {
     let mut ball = Vec::with_capacity(alloc, MAX_BALL)?;
     grow(&mut ball, targets)?;
-    let cells = pair.part.cells();
-    if !is_round(cells, pair.hole(), &ball) {
-        return Ok(None);
-    }
+    let (whole, cells) = (pair.whole.cells(), pair.part.cells());
+    let is_round = is_round(whole, cells, pair.gaps, &ball);
     let sets = sets_of(alloc, pair)?;
     let marks = marks_of(&pair.part, &ball);
     let mut verdicts = vec![in alloc; Verdict::Open(0); cells.len()]?;
-    judge_all(pair, &ball, Stage { former: 0, marks }, &mut verdicts);
+    let stage = Stage {
+        former: 0,
+        marks,
+        is_round,
+    };
+    judge_all(pair, &ball, stage, &mut verdicts);
     let sources = targets.sources;
-    Ok(Some(Survey {
+    Ok(Survey {
         ball,
         marks,
+        is_round,
         verdicts,
         sources,
         sets,
-    }))
+    })
 }
 
 /// Solves more pairs, as long as they may pay.
@@ -118,41 +126,53 @@ fn first_survey(alloc: Global, pair: &Pair, targets: Targets) -> Result<Option<S
 ///
 /// `AllocError` where memory runs out.
 fn go_on(pair: &mut Pair, survey: &mut Survey) -> Result<(), AllocError>
-    requires can { CanBePair pair.old.whole pair.old.part pair.old.gap }
-    requires surveyed { AreSurveyed pair.old.whole.cells pair.old.part.cells pair.old.gap
+    requires can { CanBePair pair.old.whole pair.old.part pair.old.gaps.now }
+    requires surveyed { AreSurveyed pair.old.whole.cells pair.old.part.cells pair.old.gaps.now
         survey.old.sources survey.old.sets.items survey.old.ball.items survey.old.verdicts.items }
-    ensures can { CanBePair pair.new.whole pair.new.part pair.new.gap }
-    ensures gap { pair.new.gap ≡ pair.old.gap }
+    ensures can { CanBePair pair.new.whole pair.new.part pair.new.gaps.now }
+    ensures gaps { pair.new.gaps.now ≡ pair.old.gaps.now }
     ensures whole { pair.new.whole.cells ≡ pair.old.whole.cells }
     ensures part { pair.new.part.cells ≡ pair.old.part.cells }
     ensures surveyed { OnOk result (AreSurveyed pair.new.whole.cells pair.new.part.cells
-        pair.new.gap survey.new.sources survey.new.sets.items survey.new.ball.items
+        pair.new.gaps.now survey.new.sources survey.new.sets.items survey.new.ball.items
         survey.new.verdicts.items) }
 {
-    let most = MAX_PAIRS.min(survey.verdicts.len() / CELLS_A_PAIR);
-    for _ in 1..most {
-        if count_open(&survey.verdicts) <= MOST_UNDECIDED || !solve_next(pair, survey)? {
+    for turn in 1..MAX_PAIRS {
+        if !pays(survey, turn) || !solve_next(pair, survey)? {
             return Ok(());
         }
     }
     Ok(())
 }
 
+/// Whether another pair may pay after so many. Until the ball is round the gaps nothing is known to stay, and twice as
+/// many are solved.
+fn pays(survey: &Survey, turn: usize) -> bool
+    requires { turn < MAX_PAIRS }
+{
+    let few = if survey.is_round {
+        CELLS_A_PAIR
+    } else {
+        CELLS_A_PAIR / 2
+    };
+    let is_open = !survey.is_round || count_open(&survey.verdicts) > MOST_UNDECIDED;
+    (turn + 1) * few <= survey.verdicts.len() && is_open
+}
+
 /// Solves one pair more, and says whether it did.
 fn solve_next(pair: &mut Pair, survey: &mut Survey) -> Result<bool, AllocError>
-    requires can { CanBePair pair.old.whole pair.old.part pair.old.gap }
-    requires surveyed { AreSurveyed pair.old.whole.cells pair.old.part.cells pair.old.gap
+    requires can { CanBePair pair.old.whole pair.old.part pair.old.gaps.now }
+    requires surveyed { AreSurveyed pair.old.whole.cells pair.old.part.cells pair.old.gaps.now
         survey.old.sources survey.old.sets.items survey.old.ball.items survey.old.verdicts.items }
-    ensures can { CanBePair pair.new.whole pair.new.part pair.new.gap }
-    ensures gap { pair.new.gap ≡ pair.old.gap }
+    ensures can { CanBePair pair.new.whole pair.new.part pair.new.gaps.now }
+    ensures gaps { pair.new.gaps.now ≡ pair.old.gaps.now }
     ensures whole { pair.new.whole.cells ≡ pair.old.whole.cells }
     ensures part { pair.new.part.cells ≡ pair.old.part.cells }
     ensures surveyed { OnOk result (AreSurveyed pair.new.whole.cells pair.new.part.cells
-        pair.new.gap survey.new.sources survey.new.sets.items survey.new.ball.items
+        pair.new.gaps.now survey.new.sources survey.new.sets.items survey.new.ball.items
         survey.new.verdicts.items) }
 {
-    let fails = fails_of(&survey.verdicts, survey.marks);
-    let Some(targets) = next_targets(&pair.part, &survey.ball, fails) else {
+    let Some(targets) = targets_after(pair, survey) else {
         return Ok(false);
     };
     if survey.ball.len() + targets.count > MAX_BALL || !pair.search(targets.sources) {
@@ -162,27 +182,43 @@ fn solve_next(pair: &mut Pair, survey: &mut Survey) -> Result<bool, AllocError>
     Ok(true)
 }
 
+/// The targets of the next pair, if there are some.
+fn targets_after(pair: &Pair, survey: &Survey) -> Option<Targets>
+    requires can { CanBePair pair.now.whole pair.now.part pair.now.gaps.now }
+    ensures { IfSome result (λ targets. AreTargets pair.now.part.cells targets.sources targets.count) }
+{
+    if survey.is_round {
+        let fails = fails_of(&survey.verdicts, survey.marks);
+        next_targets(&pair.part, &survey.ball, fails)
+    } else {
+        round_targets(pair, &survey.ball)
+    }
+}
+
 /// Tells more of all cells, once the next pair is solved.
 fn judge_next(pair: &Pair, targets: Targets, survey: &mut Survey) -> Result<(), AllocError>
-    requires searched { IsPair pair.now.whole pair.now.part pair.now.gap }
+    requires searched { IsPair pair.now.whole pair.now.part pair.now.gaps.now }
     requires targets { AreTargets pair.now.part.cells targets.sources targets.count }
     requires sources { pair.now.part.tile.sources ≡ targets.sources }
     requires few { length survey.old.ball.items + targets.count ≤ 64 }
-    requires surveyed { AreSurveyed pair.now.whole.cells pair.now.part.cells pair.now.gap
+    requires surveyed { AreSurveyed pair.now.whole.cells pair.now.part.cells pair.now.gaps.now
         survey.old.sources survey.old.sets.items survey.old.ball.items survey.old.verdicts.items }
-    ensures { OnOk result (AreSurveyed pair.now.whole.cells pair.now.part.cells pair.now.gap
+    ensures { OnOk result (AreSurveyed pair.now.whole.cells pair.now.part.cells pair.now.gaps.now
         survey.new.sources survey.new.sets.items survey.new.ball.items survey.new.verdicts.items) }
 {
     let former = survey.ball.len();
     grow(&mut survey.ball, targets)?;
     let marks = marks_of(&pair.part, &survey.ball);
-    judge_all(
-        pair,
-        &survey.ball,
-        Stage { former, marks },
-        &mut survey.verdicts,
-    );
+    let (whole, part) = (pair.whole.cells(), pair.part.cells());
+    let is_round = is_round(whole, part, pair.gaps, &survey.ball);
+    let stage = Stage {
+        former,
+        marks,
+        is_round,
+    };
+    judge_all(pair, &survey.ball, stage, &mut survey.verdicts);
     survey.marks = marks;
+    survey.is_round = is_round;
     Ok(())
 }
 
@@ -192,14 +228,15 @@ fn judge_next(pair: &Pair, targets: Targets, survey: &mut Survey) -> Result<(), 
 ///
 /// `AllocError` where memory runs out.
 fn ask_cuts(alloc: Global, pair: &mut Pair, survey: &mut Survey) -> Result<(), AllocError>
-    requires can { CanBePair pair.old.whole pair.old.part pair.old.gap }
-    requires surveyed { AreSurveyed pair.old.whole.cells pair.old.part.cells pair.old.gap
+    requires can { CanBePair pair.old.whole pair.old.part pair.old.gaps.now }
+    requires surveyed { AreSurveyed pair.old.whole.cells pair.old.part.cells pair.old.gaps.now
         survey.old.sources survey.old.sets.items survey.old.ball.items survey.old.verdicts.items }
-    ensures gap { pair.new.gap ≡ pair.old.gap }
+    ensures can { CanBePair pair.new.whole pair.new.part pair.new.gaps.now }
+    ensures gaps { pair.new.gaps.now ≡ pair.old.gaps.now }
     ensures whole { pair.new.whole.cells ≡ pair.old.whole.cells }
     ensures part { pair.new.part.cells ≡ pair.old.part.cells }
     ensures surveyed { OnOk result (AreSurveyed pair.new.whole.cells pair.new.part.cells
-        pair.new.gap survey.new.sources survey.new.sets.items survey.new.ball.items
+        pair.new.gaps.now survey.new.sources survey.new.sets.items survey.new.ball.items
         survey.new.verdicts.items) }
 {
     let most = MAX_CUTS.min((survey.verdicts.len() / CELLS_A_PAIR).saturating_sub(MAX_PAIRS));
@@ -224,15 +261,15 @@ fn ask_next(
     cuts: &mut Cuts,
     survey: &mut Survey,
 ) -> Result<bool, AllocError>
-    requires can { CanBePair pair.old.whole pair.old.part pair.old.gap }
-    requires surveyed { AreSurveyed pair.old.whole.cells pair.old.part.cells pair.old.gap
+    requires can { CanBePair pair.old.whole pair.old.part pair.old.gaps.now }
+    requires surveyed { AreSurveyed pair.old.whole.cells pair.old.part.cells pair.old.gaps.now
         survey.old.sources survey.old.sets.items survey.old.ball.items survey.old.verdicts.items }
-    ensures can { CanBePair pair.new.whole pair.new.part pair.new.gap }
-    ensures gap { pair.new.gap ≡ pair.old.gap }
+    ensures can { CanBePair pair.new.whole pair.new.part pair.new.gaps.now }
+    ensures gaps { pair.new.gaps.now ≡ pair.old.gaps.now }
     ensures whole { pair.new.whole.cells ≡ pair.old.whole.cells }
     ensures part { pair.new.part.cells ≡ pair.old.part.cells }
     ensures surveyed { OnOk result (AreSurveyed pair.new.whole.cells pair.new.part.cells
-        pair.new.gap survey.new.sources survey.new.sets.items survey.new.ball.items
+        pair.new.gaps.now survey.new.sources survey.new.sets.items survey.new.ball.items
         survey.new.verdicts.items) }
 {
     match cuts.next(pair, &survey.verdicts)? {

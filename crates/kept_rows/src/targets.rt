@@ -1,23 +1,21 @@
-//! The cells to which first sets are compared: those round the gap first, and then those beside which most cells fail.
+//! The cells to which first sets are compared: those round the gaps first, and then those beside which most cells fail.
 //! Nothing is believed of a choice but what is checked of it.
 
 ghost use Rattle.std.specs.Prelude.{◌≡◌, ℕ, ◌<◌, ◌≤◌, IsTrue, IfSome, length, slice_index};
 ghost use Rattle.kept_rows.specs.Targets.{AreTargets};
-ghost use Rattle.kept_rows.specs.Pairs.{CanBeSearched};
+ghost use Rattle.kept_rows.specs.Pairs.{CanBePair, CanBeSearched};
 
-use crate::ball::{MAX_BALL, is_among};
+use crate::ball::{MAX_BALL, is_among, is_beside};
+use crate::pair::Pair;
 use crate::side::Side;
 use lane_rows::LANES;
 use moves::{Cell, MAX_PASSABLE};
 
-/// How many of the lanes have cells of the shorter list. The last one has the cell of the gap.
+/// How many of the lanes have cells of the shorter list. The last one has the cell of the first gap.
 pub(crate) const SHARED_LANES: usize = 15;
 
 /// How many cells the first pair gives to the ball at most, so that two more find a lane.
 const MAX_FIRST: usize = 13;
-
-/// How far from the gap the first pair's cells of the ball may be, as far as they find a lane.
-const MAX_REACH: u32 = 1;
 
 /// Places in all lanes, of which so many first ones are for the ball.
 #[derive(Clone, Copy, Debug)]
@@ -66,24 +64,33 @@ impl Targets {
     }
 }
 
-/// The first targets: the cells beside that of the gap for the ball, and those before and behind the gap.
-pub(crate) fn first_targets(cells: &[Cell], hole: Cell, gap: usize) -> Option<Targets>
-    requires { length cells.now ≤ MAX_PASSABLE }
-    ensures { IfSome result (λ targets. AreTargets cells.now targets.sources targets.count) }
+/// The first targets: cells beside those of the gaps for the ball, those next to the gaps in the list first; and then
+/// all that are next to the gaps, as far as they find a lane.
+pub(crate) fn first_targets(pair: &Pair) -> Option<Targets>
+    requires can { CanBePair pair.now.whole pair.now.part pair.now.gaps.now }
+    ensures { IfSome result (λ targets. AreTargets pair.now.part.cells targets.sources targets.count) }
 {
     let mut targets = Targets::none();
-    for reach in 1..MAX_REACH + 1 {
-        add_near(cells, hole, reach, &mut targets);
-    }
+    add_next(pair, true, &mut targets);
+    add_round(pair, &[], MAX_FIRST, &mut targets);
     let count = targets.count;
-    if gap > 0 && gap <= cells.len() {
-        targets.add(gap - 1, SHARED_LANES);
-    }
-    if gap < cells.len() {
-        targets.add(gap, SHARED_LANES);
-    }
+    add_next(pair, false, &mut targets);
     let sources = targets.sources;
-    Targets { sources, count }.checked(cells.len())
+    Targets { sources, count }.checked(pair.part.cells().len())
+}
+
+/// The next targets for a ball that has not all cells beside those of the gaps: some of the others. `None` where there
+/// are none.
+pub(crate) fn round_targets(pair: &Pair, ball: &[u16]) -> Option<Targets>
+    requires can { CanBePair pair.now.whole pair.now.part pair.now.gaps.now }
+    ensures { IfSome result (λ targets. AreTargets pair.now.part.cells targets.sources targets.count) }
+{
+    let mut targets = Targets::none();
+    add_round(pair, ball, SHARED_LANES, &mut targets);
+    if targets.count == 0 {
+        return None;
+    }
+    targets.checked(pair.part.cells().len())
 }
 
 /// The next targets for a ball: the cells beside those of it at which most undecided cells fail. `None` where none
@@ -106,6 +113,64 @@ pub(crate) fn next_targets(part: &Side, ball: &[u16], fails: [u32; MAX_BALL]) ->
     }
     fill(part, ball, &mut targets);
     targets.checked(part.cells().len())
+}
+
+/// Adds the cells next to the gaps in the shorter list, all of them or those that are beside a gap's cell.
+fn add_next(pair: &Pair, beside: bool, targets: &mut Targets)
+    requires can { CanBePair pair.now.whole pair.now.part pair.now.gaps.now }
+    requires count { targets.old.count < 16 }
+    ensures { targets.new.count < 16 }
+{
+    let (whole, cells) = (pair.whole.cells(), pair.part.cells());
+    for (number, gap) in pair.gaps.iter().enumerate() {
+        if *gap < whole.len() {
+            let behind = gap.saturating_sub(number);
+            add_one(cells, whole[*gap], behind.wrapping_sub(1), beside, targets);
+            add_one(cells, whole[*gap], behind, beside, targets);
+        }
+    }
+}
+
+/// Adds a cell next to a gap, if it is one, and is beside the gap's cell where that is asked for. Without that it may
+/// have one of the last lanes.
+fn add_one(cells: &[Cell], hole: Cell, place: usize, beside: bool, targets: &mut Targets)
+    requires few { length cells.now ≤ MAX_PASSABLE }
+    requires count { targets.old.count < 16 }
+    ensures { targets.new.count < 16 }
+{
+    if place >= cells.len() || beside && !is_beside(hole, cells[place]) {
+        return;
+    }
+    targets.add(place, if beside { MAX_FIRST } else { SHARED_LANES });
+}
+
+/// Adds the cells beside those of the gaps that are not in the ball.
+fn add_round(pair: &Pair, ball: &[u16], limit: usize, targets: &mut Targets)
+    requires can { CanBePair pair.now.whole pair.now.part pair.now.gaps.now }
+    requires limit { limit < 16 }
+    requires count { targets.old.count < 16 }
+    ensures { targets.new.count < 16 }
+{
+    let (whole, cells) = (pair.whole.cells(), pair.part.cells());
+    for gap in pair.gaps.iter() {
+        if *gap < whole.len() {
+            add_round_one(cells, whole[*gap], ball, limit, targets);
+        }
+    }
+}
+
+/// Adds the cells beside one that are not in the ball.
+fn add_round_one(cells: &[Cell], hole: Cell, ball: &[u16], limit: usize, targets: &mut Targets)
+    requires few { length cells.now ≤ MAX_PASSABLE }
+    requires limit { limit < 16 }
+    requires count { targets.old.count < 16 }
+    ensures { targets.new.count < 16 }
+{
+    for (place, cell) in cells.iter().enumerate() {
+        if is_beside(hole, *cell) && !is_among(ball, ball.len(), place) {
+            targets.add(place, limit);
+        }
+    }
 }
 
 /// Fills the other lanes with cells beside those that have one.
@@ -159,27 +224,6 @@ fn add_ends(ends: [u16; 8], count: usize, ball: &[u16], targets: &mut Targets)
             targets.add(place, SHARED_LANES);
         }
     }
-}
-
-/// Adds the cells that are so near to the gap.
-fn add_near(cells: &[Cell], hole: Cell, reach: u32, targets: &mut Targets)
-    requires few { length cells.now ≤ MAX_PASSABLE }
-    requires reach { reach ≤ MAX_REACH }
-    requires count { targets.old.count < 16 }
-    ensures { targets.new.count < 16 }
-{
-    for (place, cell) in cells.iter().enumerate() {
-        if is_within(hole, *cell, reach) {
-            targets.add(place, MAX_FIRST);
-        }
-    }
-}
-
-/// Whether two cells are at most so many columns and rows apart.
-fn is_within(a: Cell, b: Cell, reach: u32) -> bool
-    requires { reach ≤ MAX_REACH }
-{
-    u32::from(a.x.abs_diff(b.x)) <= reach && u32::from(a.y.abs_diff(b.y)) <= reach
 }
 
 /// Whether all places are among so many.

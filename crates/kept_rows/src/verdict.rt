@@ -23,21 +23,22 @@ pub(crate) enum Verdict {
     Kept,
 }
 
-/// How a ball has grown: how many cells it had before the last pair of tiles, and the bits of those cells of it now
-/// from which a move leads out of it.
+/// How a ball has grown: how many cells it had before the last pair of tiles, the bits of those cells of it now from
+/// which a move leads out of it, and whether all cells beside those of the gaps are in it.
 #[derive(Clone, Copy, Debug)]
 pub(crate) struct Stage {
     pub former: usize,
     pub marks: u64,
+    pub is_round: bool,
 }
 
 /// Tells more of all cells, by a pair of tiles from the last cells of the ball.
 pub(crate) fn judge_all(pair: &Pair, ball: &[u16], stage: Stage, verdicts: &mut Vec<Verdict>)
-    requires stage { IsStage pair.now.whole pair.now.part pair.now.gap ball.now
-        stage.former stage.marks }
-    requires judged { AreJudged pair.now.whole.cells pair.now.part.cells pair.now.gap ball.now
+    requires stage { IsStage pair.now.whole pair.now.part pair.now.gaps.now ball.now
+        stage.former stage.marks stage.is_round }
+    requires judged { AreJudged pair.now.whole.cells pair.now.part.cells ball.now
         stage.former verdicts.old.items }
-    ensures { AreJudged pair.now.whole.cells pair.now.part.cells pair.now.gap ball.now
+    ensures { AreJudged pair.now.whole.cells pair.now.part.cells ball.now
         (length ball.now) verdicts.new.items }
 {
     for place in 0..verdicts.len() {
@@ -63,12 +64,12 @@ pub(crate) fn is_kept(verdict: Verdict) -> bool
 
 /// Tells more of a cell.
 fn judge(pair: &Pair, ball: &[u16], stage: Stage, place: usize, verdict: Verdict) -> Verdict
-    requires stage { IsStage pair.now.whole pair.now.part pair.now.gap ball.now
-        stage.former stage.marks }
+    requires stage { IsStage pair.now.whole pair.now.part pair.now.gaps.now ball.now
+        stage.former stage.marks stage.is_round }
     requires place { place < length pair.now.part.cells }
-    requires holds { Holds pair.now.whole.cells pair.now.part.cells pair.now.gap ball.now
+    requires holds { Holds pair.now.whole.cells pair.now.part.cells ball.now
         stage.former place verdict }
-    ensures { Holds pair.now.whole.cells pair.now.part.cells pair.now.gap ball.now
+    ensures { Holds pair.now.whole.cells pair.now.part.cells ball.now
         (length ball.now) place result }
 {
     match verdict {
@@ -80,18 +81,18 @@ fn judge(pair: &Pair, ball: &[u16], stage: Stage, place: usize, verdict: Verdict
 
 /// Tells more of a cell of which nothing is decided.
 fn decide(pair: &Pair, ball: &[u16], stage: Stage, place: usize, costs: u64) -> Verdict
-    requires stage { IsStage pair.now.whole pair.now.part pair.now.gap ball.now
-        stage.former stage.marks }
+    requires stage { IsStage pair.now.whole pair.now.part pair.now.gaps.now ball.now
+        stage.former stage.marks stage.is_round }
     requires place { place < length pair.now.part.cells }
-    requires open { IsOpen pair.now.whole.cells pair.now.part.cells pair.now.gap ball.now
+    requires open { IsOpen pair.now.whole.cells pair.now.part.cells ball.now
         stage.former place costs }
-    ensures { Holds pair.now.whole.cells pair.now.part.cells pair.now.gap ball.now
+    ensures { Holds pair.now.whole.cells pair.now.part.cells ball.now
         (length ball.now) place result }
 {
     let Some(costs) = compare(pair, ball, stage, place, costs) else {
         return Verdict::Lost;
     };
-    if has_all(costs, stage.marks) {
+    if stage.is_round && has_all(costs, stage.marks) {
         Verdict::Kept
     } else {
         Verdict::Open(costs)
@@ -101,16 +102,16 @@ fn decide(pair: &Pair, ball: &[u16], stage: Stage, place: usize, costs: u64) -> 
 /// Compares first sets and costs from a cell to the last cells of the ball: the bits of all cells of the ball to which
 /// costs stay, or `None` where a first set differs.
 fn compare(pair: &Pair, ball: &[u16], stage: Stage, place: usize, costs: u64) -> Option<u64>
-    requires stage { IsStage pair.now.whole pair.now.part pair.now.gap ball.now
-        stage.former stage.marks }
+    requires stage { IsStage pair.now.whole pair.now.part pair.now.gaps.now ball.now
+        stage.former stage.marks stage.is_round }
     requires place { place < length pair.now.part.cells }
-    requires open { IsOpen pair.now.whole.cells pair.now.part.cells pair.now.gap ball.now
+    requires open { IsOpen pair.now.whole.cells pair.now.part.cells ball.now
         stage.former place costs }
-    ensures { IfSome result (IsOpen pair.now.whole.cells pair.now.part.cells pair.now.gap ball.now
+    ensures { IfSome result (IsOpen pair.now.whole.cells pair.now.part.cells ball.now
         (length ball.now) place) }
 {
     let count = ball.len() - stage.former;
-    let there = place_past(pair.gap, place);
+    let there = place_past(pair.gaps, place);
     let sets = pair.whole.first_sets(there);
     if differ(sets, pair.part.first_sets(place), count) {
         return None;
