@@ -1,17 +1,13 @@
 -- A row that is known before it is built.
-use Rattle.std.proofs.Common.{ℕ, ◌<◌, ◌≤◌, List, length, map, arith}
+use Rattle.std.proofs.Common.{ℕ, ◌<◌, List, length, map}
 use Rattle.std.proofs.lemmas.List.Elements.{Contains-get_or}
 use Rattle.std.proofs.lemmas.List.Sorted.{IsPermutation-sym}
 use Rattle.run_pack.specs.Runs.{run_of_word}
-use Rattle.run_pack.proofs.RowLemmas.{length-row}
-use Rattle.run_pack.proofs.Words.{All-move_below, All-start_below}
 use Rattle.moves.specs.declared.Cell.{Cell}
-use Rattle.moves.specs.declared.TheConstants.{MAX_PASSABLE}
 use Rattle.moves.specs.Maps.{Map}
 use Rattle.moves.specs.ComponentLaws.{HasJust}
 use Rattle.moves.specs.FirstSetLists.{cell_of}
 use Rattle.row_store.specs.Rows.{IsRowFrom}
-use Rattle.row_store.specs.Pools.{CanBeKept}
 use Rattle.row_store.proofs.RowLaws.{HasJust-permuted, components_keep_each_row}
 use Rattle.build_pool.specs.Places.{AreComponent}
 use Rattle.build_pool.specs.Pieces.{AreWordsOver}
@@ -26,16 +22,3 @@ module _ (m : Map) (cells : List Cell) (place : ℕ) (words : List ℕ) (is : Ar
       let just_cells : HasJust part cells = HasJust-permuted part cells is.component (IsPermutation-sym cells is.component is.order) just in
       (components_keep_each_row m is.component cells part is.is is.order just_cells (cell_of cells place) (map run_of_word words)
       (Contains-get_or cells place (record { x = 0; y = 0 }) within)).0 (over.row.over part just_cells)
-
-  -- and can be kept as words again
-  pub known_kept : length cells ≤ MAX_PASSABLE → CanBeKept (map run_of_word words)
-  known_kept few =
-      let row = known_row in
-      let size = row.first.whole in
-      let starts = All-start_below (map run_of_word words) row.sets row.tight in
-      let moves = All-move_below (map run_of_word words) row.sets row.tight in
-      record {
-        few = omega (arith, length-row (map run_of_word words) (length row.sets) row.tight.row, few);
-        starts = λ k d inside. omega (arith, starts k d inside, few);
-        moves = λ k d inside. omega (arith, moves k d inside);
-      }

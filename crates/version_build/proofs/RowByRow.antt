@@ -1,11 +1,11 @@
 -- A version that is built row by row: a part for each component of its map.
-use Rattle.std.proofs.Common.{◌≡◌, ℕ, suc, ◌+◌, ◌-◌, ◌<◌, ◌≤◌, List, [], ◌∷◌, ◌++◌, ◌↔◌, length, get_or, slice_index, set, take, drop, map, Option, None, Some, IfSome, IfNone, All, refl, sym, ap, subst, ◌∙◌, inl, inr, arith}
+use Rattle.std.proofs.Common.{◌≡◌, ℕ, suc, ◌+◌, ◌-◌, ◌<◌, ◌≤◌, List, [], ◌∷◌, ◌++◌, length, get_or, set, drop, map, Option, None, Some, IfSome, IfNone, All, refl, sym, ap, subst, ◌∙◌, inl, inr, arith}
 use Rattle.std.specs.List.{sum_by}
 use Rattle.std.specs.List.Sorted.{IsPermutation}
 use Rattle.std.specs.Option.{option_map}
 use Rattle.std.proofs.lemmas.Bool.{cases_eq, cases_lt}
-use Rattle.std.proofs.lemmas.List.{take_more, length-take-le, length_push, get_or_push, get_or_append_left, get_or-map, length-map, length-drop, length-set, get_or-set_same, get_or-set_other}
-use Rattle.std.proofs.lemmas.List.Elements.{Contains-get_or, All-from_get_or, All-push}
+use Rattle.std.proofs.lemmas.List.{length_push, get_or_push, get_or_append_left, get_or-map, length-map, length-drop, length-set, get_or-set_same, get_or-set_other}
+use Rattle.std.proofs.lemmas.List.Elements.{Contains-get_or, All-from_get_or}
 use Rattle.std.proofs.lemmas.List.Sorted.{IsPermutation-sym, length_permutation}
 use Rattle.std.proofs.lemmas.List.Sums.{sum_by-set, sum_by-le, sum_by-append, sum_by-cons, sum_by_more_le}
 use Rattle.std.proofs.Math.Seq.{drop-cons}
@@ -15,10 +15,7 @@ use Rattle.moves.specs.declared.TheConstants.{MAX_PASSABLE}
 use Rattle.moves.specs.Maps.{Map, IsSearchable}
 use Rattle.moves.specs.Components.{IsComponent, IsComponentList}
 use Rattle.moves.specs.ComponentLaws.{HasJust}
-use Rattle.moves.specs.FirstSetLists.{cell_of, AreFirstSets}
-use Rattle.moves.specs.FirstSets.{IsFirstMove}
-use Rattle.moves.specs.MoveSets.{Has}
-use Rattle.moves.specs.declared.Move.{Move}
+use Rattle.moves.specs.FirstSetLists.{cell_of}
 use Rattle.cell_order.specs.declared.OrderKind.{OrderKind}
 use Rattle.cell_order.specs.Orders.{ordered}
 use Rattle.cell_order.proofs.Permuted.{orders_are_permutations}
@@ -214,36 +211,6 @@ none_left parts upto done all =
     let zero_each : All (λ part. rows_left part ≤ 0) parts = All-from_get_or (λ part. rows_left part ≤ 0) parts no_part (λ k within. let none = done k (omega arith) in omega arith) in
     let sum = sum_by-le rows_left 0 parts zero_each in
     omega arith
-
--- ---- the sets of a row, written one after the other
-
-pub sets_none : (map : Map) (from : Cell) (cells : List Cell) → AreFirstSets map from (take 0 cells) []
-sets_none map from cells = record { whole = refl; bytes = λ k d within. absurd (omega arith); each = λ place within. absurd (omega arith) }
-
-pub sets_more : (map : Map) (from : Cell) (cells : List Cell) (sets : List ℕ) (upto value : ℕ) → AreFirstSets map from (take upto cells) sets → upto < length cells → value < 256
-    → ((move : Move) → Has value move ↔ IsFirstMove map from (cell_of cells upto) move) → AreFirstSets map from (take (upto + 1) cells) (sets ++ value ∷ [])
-sets_more map from cells sets upto value p less byte first =
-    let corner : Cell = record { x = 0; y = 0 } in
-    let more : take (upto + 1) cells ≡ take upto cells ++ cell_of cells upto ∷ [] = take_more cells upto corner less in
-    let short : length (take upto cells) ≡ upto = length-take-le upto cells (omega arith) in
-    let long : length sets ≡ upto = p.whole ∙ short in
-    let next : List Cell = take upto cells ++ cell_of cells upto ∷ [] in
-    rw more (record {
-      whole = omega (arith, length_push sets value, length_push (take upto cells) (cell_of cells upto), p.whole);
-      bytes = All-push (λ s. s < 256) sets value p.bytes byte;
-      each = λ place within move.
-          elim (cases_lt place upto) [
-            | inl early ↦
-                let cell : cell_of next place ≡ cell_of (take upto cells) place = get_or_append_left (take upto cells) (cell_of cells upto ∷ []) corner place (omega arith) in
-                let set_is : slice_index (sets ++ value ∷ []) place ≡ slice_index sets place = get_or_append_left sets (value ∷ []) 0 place (omega arith) in
-                rw (cell, set_is) (p.each place (omega arith) move)
-            | inr late ↦
-                let same : upto ≡ place = omega (arith, length_push (take upto cells) (cell_of cells upto)) in
-                let cell : cell_of next place ≡ cell_of cells upto = get_or_push (take upto cells) (cell_of cells upto) corner place (short ∙ same) in
-                let set_is : slice_index (sets ++ value ∷ []) place ≡ value = get_or_push sets value 0 place (long ∙ same) in
-                rw (cell, set_is) (first move)
-          ];
-    })
 
 -- ---- after the last row
 

@@ -15,7 +15,7 @@ use Rattle.row_store.specs.Comps.{Comp}
 use Rattle.versions.specs.Databases.{component_at, IsKeptAs}
 use Rattle.versions.specs.Counts.{is_among, cells_kept, cells_built, AreCounts}
 use Rattle.version_build.specs.Plans.{IsShared, ArePrepared, cells_missing}
-use Rattle.version_build.proofs.Counted.{sum_is, length_within}
+use Rattle.versions.proofs.Counting.{sum_is, length_within}
 use Rattle.version_build.proofs.Missing.{missing_in, missing_more}
 
 -- kept and built make all

@@ -1,6 +1,6 @@
 //! The components of a former version that those to be built came of.
 //!
-//! One edit blocks or frees one cell, and most rows of its component stay as they were. So what is built begins from
+//! An edit blocks or frees a few cells, and most rows of their component stay as they were. So what is built begins from
 //! the rows of the component that it came of. These are hints, and no proof speaks of them: a row that is known is
 //! right whatever it was found from.
 
@@ -20,9 +20,9 @@ use std::alloc::{AllocError, Global};
 use std::sync::Arc;
 use versions::Version;
 
-/// How many of a component's first cells tell which one it came of. The first may have been freed just now, and was in
-/// none then.
-const FIRST_CELLS: usize = 2;
+/// How many of a component's cells, spread over its list, tell which one it came of. Some may have been freed just now,
+/// and were in none then; and some may be of a small one that an edit joined to it.
+const PROBES: usize = 8;
 
 /// For each component of a map the former version's that it came of, where that is known and worth a look.
 #[derive(Drop)]
@@ -74,7 +74,7 @@ fn is_kept(kept: &[Option<Arc<CompData>>], label: usize) -> bool {
     }
 }
 
-/// The former version's component that has one of the first cells; `None` for a component that is kept or small.
+/// What a component came of; `None` for one that is kept or small.
 fn base_of(
     former: &Version,
     cells: &[Cell],
@@ -83,12 +83,42 @@ fn base_of(
     if is_kept || cells.len() < FEW_CELLS {
         return Ok(None);
     }
-    for cell in cells.iter().take(FIRST_CELLS) {
-        if let Some(comp) = comp_with(former, *cell) {
-            return Ok(Some(Arc::try_clone(comp)?));
+    match greatest_with(former, cells) {
+        Some(comp) => Ok(Some(Arc::try_clone(comp)?)),
+        None => Ok(None),
+    }
+}
+
+/// The greatest of the former version's components that have one of some cells, spread over a list.
+fn greatest_with<'a>(former: &'a Version, cells: &[Cell]) -> Option<&'a Arc<CompData>> {
+    let mut greatest = None;
+    for number in 0..PROBES {
+        let place = number.wrapping_mul(cells.len() / PROBES);
+        if place < cells.len() {
+            greatest = greater(greatest, comp_with(former, cells[place]));
         }
     }
-    Ok(None)
+    greatest
+}
+
+/// The one of two components that has more cells, the first where they have as many.
+fn greater<'a>(
+    first: Option<&'a Arc<CompData>>,
+    second: Option<&'a Arc<CompData>>,
+) -> Option<&'a Arc<CompData>> {
+    if count_of(second) > count_of(first) {
+        second
+    } else {
+        first
+    }
+}
+
+/// How many cells a component has, if there is one.
+fn count_of(comp: Option<&Arc<CompData>>) -> usize {
+    match comp {
+        Some(comp) => comp.cells().len(),
+        None => 0,
+    }
 }
 
 /// The former version's component that has the cell.

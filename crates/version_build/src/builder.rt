@@ -3,8 +3,9 @@
 ghost use Rattle.std.specs.Prelude.{◌≡◌, ◌+◌, ◌<◌, IfOk, OnOk, OnErr};
 ghost use Rattle.versions.specs.Databases.{IsVersion};
 
-use crate::parts::{Desk, Part, comps_of, first_open, parts_of};
+use crate::parts::{Part, comps_of, first_open, parts_of};
 use crate::plans::{BuildReport, Plan};
+use build_pool::PlainSearch;
 use cell_order::OrderKind;
 use components::Labels;
 use moves::Grid;
@@ -26,7 +27,8 @@ pub struct Builder {
     at: usize,
     /// How many rows are not yet built.
     left: u32,
-    desk: Desk,
+    /// What finds the rows that are not known.
+    plain: PlainSearch,
 }
 
 impl Model for Builder {
@@ -41,7 +43,7 @@ impl Model for Builder {
     } };
 
     ghost invariant = { λ b. IsUnderWay b.grid b.kind b.labels b.parts.items b.at b.left
-        × (b.grid.width * b.grid.height ≤ b.desk.search.room) × (b.grid.width * b.grid.height ≤ b.desk.sets.room) };
+        × (b.grid.width * b.grid.height ≤ b.plain.room) };
 }
 
 impl Builder {
@@ -63,8 +65,9 @@ impl Builder {
             bases,
         } = plan;
         let (kind, report) = (prepared.kind, prepared.report);
-        let room = (grid.width() * grid.height()) as usize;
-        let desk = Desk::new(alloc, room, report.built as usize)?;
+        // That the map lies inside the limits is known from its width.
+        let _ = grid.width();
+        let plain = PlainSearch::over(alloc, &grid, report.built as usize)?;
         let parts = parts_of(alloc, kind, &labels, prepared.comps, &bases)?;
         Ok(Builder {
             alloc,
@@ -76,7 +79,7 @@ impl Builder {
             parts,
             at: 0,
             left: report.built,
-            desk,
+            plain,
         })
     }
 
@@ -99,7 +102,7 @@ impl Builder {
         ensures refused { OnErr result (self.new ≡ self.old) }
     {
         self.at = first_open(&self.parts, self.at);
-        self.parts[self.at].push_row(&self.grid, &mut self.desk)?;
+        self.parts[self.at].push_row(&self.grid, &mut self.plain)?;
         self.left -= 1;
         Ok(())
     }

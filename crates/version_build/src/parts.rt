@@ -4,11 +4,8 @@ ghost use Rattle.std.specs.Prelude.{◌≡◌, ℕ, ◌+◌, ◌*◌, ◌<◌, �
 ghost use Rattle.std.specs.Prelude.{IfOk, IfSome, IfNone, OnOk, OnErr, IsTrue};
 ghost use Rattle.std.specs.Arc.{arc_value};
 ghost use Rattle.std.specs.Option.{option_map};
-ghost use Rattle.run_pack.specs.Runs.{run_of_word};
 ghost use Rattle.moves.specs.Maps.{IsSearchable};
-ghost use Rattle.moves.specs.FirstSetLists.{cell_of, AreFirstSets};
 ghost use Rattle.row_store.specs.Comps.{IsComp};
-ghost use Rattle.row_store.specs.Pools.{CanBeKept};
 ghost use Rattle.build_pool.specs.Places.{AreComponent, CanBeBuilt};
 ghost use Rattle.build_pool.specs.Pieces.{AreSome, AreWordsOver};
 ghost use Rattle.versions.specs.Databases.{IsKeptAs};
@@ -16,46 +13,14 @@ ghost use Rattle.version_build.specs.Plans.{ArePrepared, CanAllBeBuilt};
 ghost use Rattle.version_build.specs.Builders.{AreBegun, PushesRow, comp_of, part_at, part_from, rows_left};
 
 use crate::bases::{Base, Bases};
+use build_pool::PlainSearch;
 use cell_order::{OrderKind, order_of};
 use components::Labels;
-use first_sets::FirstSets;
-use grid_search::Search;
 use moves::{Cell, Grid, MAX_PASSABLE};
 use row_store::{CompData, RowPool};
-use run_pack::{Run, run_of};
 use std::alloc::{AllocError, Global};
 use std::marker::Model;
 use std::sync::Arc;
-
-/// What a row is made with, taken once.
-#[derive(Drop)]
-pub(crate) struct Desk {
-    search: Search,
-    sets: FirstSets,
-    /// The first sets of a row that is searched.
-    bytes: Vec<u8>,
-    /// The runs of a row that is known.
-    runs: Vec<Run>,
-}
-
-impl Desk {
-    /// For a map of so many cells, of which so many have no row yet.
-    ///
-    /// # Errors
-    ///
-    /// `AllocError` where memory runs out.
-    pub(crate) fn new(alloc: Global, room: usize, left: usize) -> Result<Desk, AllocError>
-        ensures search { IfOk result (λ desk. room ≤ desk.search.room) }
-        ensures sets { IfOk result (λ desk. room ≤ desk.sets.room) }
-    {
-        Ok(Desk {
-            search: Search::new(alloc, room)?,
-            sets: FirstSets::new(alloc, room)?,
-            bytes: Vec::with_capacity(alloc, left)?,
-            runs: Vec::new(alloc),
-        })
-    }
-}
 
 /// One component: the former version's, or its cells in their order and the rows that are built so far.
 #[derive(Drop)]
@@ -137,33 +102,28 @@ impl Part {
     }
 
     /// Takes over the row of the next cell where it is known, and else builds it.
-    pub(crate) fn push_row(&mut self, grid: &Grid, desk: &mut Desk) -> Result<(), AllocError>
+    pub(crate) fn push_row(
+        &mut self,
+        grid: &Grid,
+        plain: &mut PlainSearch,
+    ) -> Result<(), AllocError>
         requires component { AreComponent grid.now self.old.cells }
         requires searchable { IsSearchable grid.now }
         requires few { length self.old.cells ≤ MAX_PASSABLE }
         requires left { length self.old.rows < length self.old.cells }
-        requires search { grid.now.width * grid.now.height ≤ desk.old.search.room }
-        requires sets { grid.now.width * grid.now.height ≤ desk.old.sets.room }
+        requires room { grid.now.width * grid.now.height ≤ plain.old.room }
         ensures ok { OnOk result (PushesRow grid.now self.old self.new) }
         ensures refused { OnErr result (self.new ≡ self.old) }
-        ensures search { desk.new.search.room ≡ desk.old.search.room }
-        ensures sets { desk.new.sets.room ≡ desk.old.sets.room }
+        ensures room { plain.new.room ≡ plain.old.room }
     {
         let place = self.rows.len();
         if let Some(words) = known_words(&self.known, &self.cells, place) {
-            push_words(&mut self.rows, words, &mut desk.runs)?;
+            self.rows.push_words(words)?;
             self.shrink_if_done();
             return Ok(());
         }
-        write_sets(
-            grid,
-            &self.cells,
-            place,
-            &mut desk.search,
-            &mut desk.sets,
-            &mut desk.bytes,
-        )?;
-        self.rows.push_sets(&desk.bytes)?;
+        plain.find(grid, &self.cells, place)?;
+        self.rows.push_sets(plain.sets())?;
         self.shrink_if_done();
         Ok(())
     }
@@ -268,47 +228,4 @@ fn known_words<'a>(known: &'a Option<RowPool>, cells: &[Cell], place: usize) -> 
     }
     let words = rows.row(place);
     if words.is_empty() { None } else { Some(words) }
-}
-
-/// Adds the row that these words keep. The runs are room for it.
-fn push_words(rows: &mut RowPool, words: &[u32], runs: &mut Vec<Run>) -> Result<(), AllocError>
-    requires rows { length rows.old < MAX_PASSABLE }
-    requires words { CanBeKept (map run_of_word words.now) }
-    ensures ok { OnOk result (rows.new ≡ rows.old ++ map run_of_word words.now ∷ []) }
-    ensures refused { OnErr result (rows.new ≡ rows.old) }
-{
-    runs.clear();
-    for word in words {
-        runs.push(run_of(*word))?;
-    }
-    rows.push_row(runs)
-}
-
-/// Searches from the cell at a place, and writes its first sets to the cells in their order.
-fn write_sets(
-    grid: &Grid,
-    cells: &[Cell],
-    place: usize,
-    search: &mut Search,
-    sets: &mut FirstSets,
-    bytes: &mut Vec<u8>,
-) -> Result<(), AllocError>
-    requires component { AreComponent grid.now cells.now }
-    requires searchable { IsSearchable grid.now }
-    requires place { place < length cells.now }
-    requires search { grid.now.width * grid.now.height ≤ search.old.room }
-    requires sets { grid.now.width * grid.now.height ≤ sets.old.room }
-    ensures search { search.new.room ≡ search.old.room }
-    ensures sets { sets.new.room ≡ sets.old.room }
-    ensures bytes { OnOk result
-        (AreFirstSets grid.now (cell_of cells.now place) cells.now bytes.new.items) }
-{
-    let source = cells[place];
-    search.from_source(grid, source);
-    sets.fill(grid, search, source);
-    bytes.clear();
-    for cell in cells {
-        bytes.push(sets.set_of(*cell).mask())?;
-    }
-    Ok(())
 }

@@ -1,5 +1,5 @@
 use Rattle.std.proofs.Common.{◌-◌, ◌<◌, length, ap, inl, inr, arith}
-use Rattle.version_build.proofs.Counted.{count_small}
+use Rattle.versions.proofs.Counting.{count_small}
 use Rattle.version_build.proofs.Sharing.{room_shared, sharing_next, shared_counts, shared_missing, shared_sum}
 use Rattle.version_build.proofs.planning.share.Goals as goal
 use Rattle.version_build.proofs.planning.share.Goals.{then-is_some, else-is_some}

@@ -2,7 +2,7 @@ use Rattle.std.proofs.Common.{◌≡◌, ◌+◌, None, All, length, map, sym, a
 use Rattle.std.specs.Arc.{arc_value}
 use Rattle.std.specs.Option.{option_map}
 use Rattle.std.proofs.lemmas.List.{length-map, length_push}
-use Rattle.version_build.proofs.Counted.{sum_is}
+use Rattle.versions.proofs.Counting.{sum_is}
 use Rattle.version_build.proofs.Missing.{missing_all}
 use Rattle.version_build.proofs.Sharing.{none_prepared, none_push}
 use Rattle.version_build.proofs.planning.share_none.Goals as goal

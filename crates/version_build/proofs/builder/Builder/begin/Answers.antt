@@ -1,4 +1,4 @@
-use Rattle.std.proofs.Common.{rules}
+use Rattle.std.proofs.Common.{arith}
 use Rattle.version_build.proofs.Counted.{can_be_built}
 use Rattle.version_build.proofs.RowByRow.{under_way_begun}
 use Rattle.version_build.proofs.builder.Builder.begin.Goals as goal
@@ -12,6 +12,5 @@ invariant_of-result c = (
   under_way_begun _ _ _ _ _ _ c.plan.invariant.searchable
       (λ label less. can_be_built _ c.width.ensures.limits c.width.ensures.whole _ c.plan.invariant.listed label less c.plan.invariant.searchable)
       c.plan.invariant.listed c.plan.invariant.prepared c.in_ok-parts.ensures c.plan.invariant.missing,
-  search rules,
-  search rules,
+  omega (arith, c.in_ok-plain.ensures),
 )

@@ -26,6 +26,5 @@ invariant_of-self-2 c =
     let read = c.index_mut.ensures.value ∙ get_or_default c.self.inside.parts.items c.first_open-self-inside.result c.index_mut.result.now no_part less in
     let push = rw read at c.in_ok-push_row.ensures.ok in (
       under_way_more _ _ _ _ _ _ c.self.invariant.0 _ less some done _ push,
-      rw c.push_row.ensures.search c.self.invariant.1,
-      rw c.push_row.ensures.sets c.self.invariant.2,
+      rw c.push_row.ensures.room c.self.invariant.1,
     )

@@ -5,14 +5,11 @@ use Rattle.run_pack.specs.declared.Run.{Run}
 use Rattle.run_pack.specs.Runs.{run_of_word}
 use Rattle.build_pool.proofs.Connecting.{packable}
 use Rattle.version_build.specs.Builders.{Parted}
-use Rattle.version_build.proofs.Knowing.{known_kept, known_row}
+use Rattle.version_build.proofs.Knowing.{known_row}
 use Rattle.version_build.proofs.parts.Part.push_row.Goals as goal
 
-pub push_words-requires-clause-words : goal.push_words-requires-clause-words
-push_words-requires-clause-words c =
-    let cells : c.deref.result.now ≡ c.args.self.now.cells = c.deref.ensures.value ∙ ap (λ p. p.cells) c.self.view_is in
-    let place : c.len-place.result ≡ length c.args.self.now.rows = c.len-place.ensures ∙ ap (λ p. length p.rows) c.self.view_is in
-    known_kept _ _ _ _ c.requires.component c.requires.left (rw (cells, place) at c.in-Some.ensures) c.requires.few
+pub push_words-requires-clause-few : goal.push_words-requires-clause-few
+push_words-requires-clause-few c = c.in-Some.ensures.few
 
 pub returns-in-Some-clause-ok : goal.returns-in-Some-clause-ok
 returns-in-Some-clause-ok c =
@@ -30,5 +27,5 @@ pub push_sets-requires-clause-sets : goal.push_sets-requires-clause-sets
 push_sets-requires-clause-sets c =
     let cells : c.deref-2.result.now ≡ c.args.self.now.cells = c.deref-2.ensures.value ∙ ap (λ p. p.cells) c.self.view_is in
     let place : c.len-place.result ≡ length c.args.self.now.rows = c.len-place.ensures ∙ ap (λ p. length p.rows) c.self.view_is in
-    let first = rw (cells, place) at c.in_ok-write_sets.ensures.bytes in
-    rw c.deref-3.ensures.value (packable _ _ c.requires.component _ _ c.requires.left c.requires.few first)
+    let first = rw (cells, place) at c.in_ok-find.ensures.first in
+    rw c.sets.ensures (packable _ _ c.requires.component _ _ c.requires.left c.requires.few first)
