@@ -1,38 +1,19 @@
 -- Parts of the first version of a map.
-use Rattle.std.proofs.Common.{◌≡◌, ℕ, suc, ◌+◌, ◌*◌, ◌<◌, ◌≤◌, List, [], ◌∷◌, length, map, take, drop, All, refl, sym, ap, subst, ◌∙◌, arith}
+use Rattle.std.proofs.Common.{◌≡◌, ℕ, suc, ◌+◌, ◌*◌, ◌<◌, ◌≤◌, List, [], ◌∷◌, length, take, drop, All, refl, sym, ap, subst, ◌∙◌, arith}
 use Rattle.std.specs.List.{flat_map}
 use Rattle.std.proofs.lemmas.List.{length-append, length-map, length-drop, length-take-le, take_at, drop_at}
 use Rattle.std.proofs.lemmas.List.Elements.{All-drop, All-from_get_or, All-take}
 use Rattle.run_pack.specs.declared.Run.{Run}
-use Rattle.run_pack.specs.Runs.{AppendsRow, IsTight, run_of_word, word_of}
+use Rattle.run_pack.specs.Runs.{word_of}
 use Rattle.run_pack.proofs.RowLemmas.{length-row}
 use Rattle.moves.specs.declared.Cell.{Cell}
-use Rattle.moves.specs.declared.TheConstants.{MAX_PASSABLE}
-use Rattle.moves.specs.Maps.{Map}
-use Rattle.moves.specs.FirstSetLists.{cell_of, AreFirstSets}
 use Rattle.row_store.specs.Rows.{AreRows}
 use Rattle.row_store.specs.Comps.{IsComp}
-use Rattle.build_pool.specs.Places.{AreComponent}
-use Rattle.build_pool.specs.Pieces.{AreWordsOver}
 use Rattle.versions.specs.Databases.{Versioned, comp_at}
-use Rattle.walk_rows.proofs.Keeping.{row_over_cells}
 use Rattle.bake_parts.specs.declared.sources.Sources.{Sources}
 use Rattle.bake_parts.specs.Faults.{IsTooSmallFor}
 use Rattle.bake_parts.specs.Parts.{IsFirstVersion, counted_row, counted_rows, part_of}
 use Rattle.bake_parts.specs.Plans.{ArePlaces, IsComponentOf, IsMostFor, IsPartIn, Planned, PutsRows, WritesPart}
-
--- the words of a row that was found by a plain search
-pub plain_words : (m : Map) (cells : List Cell) (p : AreComponent m cells) (place : ℕ) (within : place < length cells) → length cells ≤ MAX_PASSABLE → (sets words : List ℕ)
-    → AreFirstSets m (cell_of cells place) cells sets → AppendsRow [] words sets → AreWordsOver cells place words
-plain_words m cells p place within few sets words first put =
-    let tight : IsTight (map run_of_word words) sets = subst (λ ws. IsTight (map run_of_word ws) sets) (sym put.behind) put.packed.tight in
-    let short = length-row (map run_of_word words) (length sets) tight.row in
-    let size = length-map words run_of_word in
-    let whole = first.whole in
-    record {
-      few = omega arith;
-      row = row_over_cells m cells p place within (map run_of_word words) (record { sets = sets; first = first; tight = tight });
-    }
 
 -- rows with few runs are few words
 counted_short : (most : ℕ) (rows : List (List Run)) → All (λ row. length row ≤ most) rows → length (flat_map counted_row rows) ≤ length rows * (1 + most)

@@ -111,10 +111,8 @@ pub record IsReady (cells : List Cell) (bench : Bench) : Type 0 where
   pub rows : bench.has_rows ≡ true → ArePackedOver cells bench.tiles
 
 -- there is room for a plain search over the map
-pub record HasRoom (on : Map) (cells : List Cell) (plain : Plain) : Type 0 where
-  pub search : on.width * on.height ≤ plain.search.room
-  pub sets : on.width * on.height ≤ plain.sets.room
-  pub bytes : length plain.bytes.items ≡ length cells
+abbrev pub HasRoom : Map → Plain → Type 0
+HasRoom on plain = on.width * on.height ≤ plain.search.room
 
-abbrev pub MayHaveRoom : Map → List Cell → Option Plain → Type 0
-MayHaveRoom on cells plain = IfSome plain (HasRoom on cells)
+abbrev pub MayHaveRoom : Map → Option Plain → Type 0
+MayHaveRoom on plain = IfSome plain (HasRoom on)

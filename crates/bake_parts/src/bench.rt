@@ -95,10 +95,10 @@ impl Bench {
         requires few { length component.now ≤ MAX_PASSABLE }
         requires place { place < length component.now }
         requires ready { IsReady component.now self.old }
-        requires plain { MayHaveRoom grid.now component.now self.old.plain }
+        requires plain { MayHaveRoom grid.now self.old.plain }
         requires at { at < 2 ^ 62 }
         ensures ready { OnOk result (IsReady component.now self.new) }
-        ensures plain { OnOk result (MayHaveRoom grid.now component.now self.new.plain) }
+        ensures plain { OnOk result (MayHaveRoom grid.now self.new.plain) }
         ensures row { IfOk result (λ end.
             PutsRow component.now place at end room.old room.new) }
     {
@@ -175,10 +175,10 @@ impl Bench {
         requires few { length component.now ≤ MAX_PASSABLE }
         requires place { place < length component.now }
         requires ready { IsReady component.now self.old }
-        requires plain { MayHaveRoom grid.now component.now self.old.plain }
+        requires plain { MayHaveRoom grid.now self.old.plain }
         requires at { at < 2 ^ 62 }
         ensures ready { OnOk result (IsReady component.now self.new) }
-        ensures plain { OnOk result (MayHaveRoom grid.now component.now self.new.plain) }
+        ensures plain { OnOk result (MayHaveRoom grid.now self.new.plain) }
         ensures row { IfOk result (λ end.
             PutsRow component.now place at end room.old room.new) }
     {
@@ -192,9 +192,9 @@ impl Bench {
     /// The memory for a plain search, which is taken the first time.
     fn take_plain(&mut self, grid: &Grid, component: &Component) -> Result<Plain, AllocError>
         requires ready { IsReady component.now self.old }
-        requires plain { MayHaveRoom grid.now component.now self.old.plain }
+        requires plain { MayHaveRoom grid.now self.old.plain }
         ensures ready { IsReady component.now self.new }
-        ensures room { IfOk result (HasRoom grid.now component.now) }
+        ensures room { IfOk result (HasRoom grid.now) }
     {
         match self.plain.take() {
             Some(plain) => Ok(plain),

@@ -7,21 +7,15 @@ ghost use Rattle.build_pool.specs.Pieces.{AreWordsOver};
 ghost use Rattle.bake_parts.specs.Plans.{HasRoom};
 
 use crate::component::Component;
-use build_pool::write_sets;
-use first_sets::FirstSets;
-use grid_search::Search;
+use build_pool::PlainSearch;
 use moves::{Grid, MAX_PASSABLE};
 use run_pack::append_words;
 use std::alloc::{AllocError, Global};
 
-/// What a plain search needs.
+/// A plain search, and the row that was found last.
 #[derive(Drop)]
 pub(crate) struct Plain {
-    search: Search,
-    sets: FirstSets,
-    /// The sets of the row under way.
-    bytes: Vec<u8>,
-    /// The row that was found last.
+    search: PlainSearch,
     words: Vec<u32>,
 }
 
@@ -32,13 +26,10 @@ impl Plain {
         grid: &Grid,
         component: &Component,
     ) -> Result<Plain, AllocError>
-        ensures { IfOk result (HasRoom grid.now component.now) }
+        ensures { IfOk result (HasRoom grid.now) }
     {
-        let room = (grid.width() * grid.height()) as usize;
         Ok(Plain {
-            search: Search::new(alloc, room)?,
-            sets: FirstSets::new(alloc, room)?,
-            bytes: vec![in alloc; 0; component.cells().len()]?,
+            search: PlainSearch::over(alloc, grid, component.cells().len())?,
             words: Vec::new(alloc),
         })
     }
@@ -58,20 +49,13 @@ impl Plain {
         requires searchable { IsSearchable grid.now }
         requires few { length component.now ≤ MAX_PASSABLE }
         requires place { place < length component.now }
-        requires room { HasRoom grid.now component.now self.old }
-        ensures room { OnOk result (HasRoom grid.now component.now self.new) }
+        requires room { HasRoom grid.now self.old }
+        ensures room { OnOk result (HasRoom grid.now self.new) }
         ensures row { OnOk result (AreWordsOver component.now place self.new.words.items) }
     {
-        write_sets(
-            grid,
-            component.cells(),
-            place,
-            &mut self.search,
-            &mut self.sets,
-            self.bytes.as_mut_slice(),
-        );
+        self.search.find(grid, component.cells(), place)?;
         self.words.clear();
-        append_words(&mut self.words, &self.bytes)?;
+        append_words(&mut self.words, self.search.sets())?;
         Ok(())
     }
 

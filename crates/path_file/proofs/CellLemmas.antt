@@ -1,20 +1,17 @@
 -- The cells of a component: how many they are, and in which order they stand.
-use Rattle.std.proofs.Common.{◌≡◌, ◌≢◌, ℕ, ◌*◌, ◌<◌, ◌≤◌, Bool, false, cond, List, [], ◌∷◌, length, get_or, map, All, refl, sym, ap, ◌∙◌, subst, arith}
+use Rattle.std.proofs.Common.{◌≡◌, ◌≢◌, ℕ, ◌*◌, ◌<◌, ◌≤◌, Bool, cond, List, [], ◌∷◌, length, get_or, All, refl, sym, ap, subst, arith}
 use Rattle.std.specs.Bool.{Decides}
 use Rattle.std.specs.Cmp.{IsEquivalence}
-use Rattle.std.specs.List.{AllPairs, Contains, sum_by, count_by, filter, range_with_len}
+use Rattle.std.specs.List.{AllPairs, Contains}
 use Rattle.std.specs.List.Sorted.{IsPermutation}
 use Rattle.std.proofs.lemmas.Bool.Decides.{same_from_decides}
-use Rattle.std.proofs.lemmas.List.{get_or_default, length-map, same_lists}
-use Rattle.std.proofs.lemmas.List.FromFn.{get_or-map-range_with_len, length-map-range_with_len}
 use Rattle.std.proofs.lemmas.List.Sorted.{All-permutation, Contains-permutation, IsPermutation-sym, length_permutation}
-use Rattle.std.proofs.lemmas.List.Sums.{length-filter, sum_by-cons}
 use Rattle.std.proofs.lemmas.Map.Keys.{IsDistinct-IsPermutation}
 use Rattle.std.proofs.lemmas.Map.Made.{AllPairs-from_IsDistinct, IsDistinct-from_AllPairs, length-le_from_is_member}
 use Rattle.moves.specs.declared.Cell.{Cell}
 use Rattle.moves.specs.declared.Move.{Move}
 use Rattle.moves.specs.declared.TheConstants.{MAX_PASSABLE}
-use Rattle.moves.specs.Maps.{Map, IsPassable, IsWithinLimits, cell_at, is_cell, is_passable, passable_cells, passable_count, passable_of}
+use Rattle.moves.specs.Maps.{Map, IsPassable, IsWithinLimits, is_cell, is_passable, passable_cells, passable_count}
 use Rattle.moves.specs.Components.{IsComponent, IsComponentList}
 use Rattle.moves.specs.Rectangles.{IsOnMap}
 use Rattle.moves.specs.StraightPaths.{GoesThrough}
@@ -26,35 +23,15 @@ use Rattle.cell_order.specs.Orders.{ordered}
 use Rattle.cell_order.proofs.Permuted.{orders_are_permutations}
 use Rattle.row_check.specs.Walks.{AreComponentCells}
 use Rattle.versions.specs.Databases.{component_at}
+use Rattle.versions.proofs.Counting.{count_listed, sum_by_map}
 use Rattle.path_file.specs.Fields.{free_in}
 use Rattle.path_file.specs.Readings.{CanBeOrdered}
 
 -- ---- how many cells are passable
 
-sum_by_map : {X Y : Type 0} (f : Y → ℕ) (g : X → Y) (xs : List X) → sum_by f (map g xs) ≡ sum_by (λ x. f (g x)) xs
-sum_by_map f g [] = refl
-sum_by_map f g (x ∷ xs) = omega (arith, sum_by-cons f (g x) (map g xs), sum_by_map f g xs, sum_by-cons (λ y. f (g y)) x xs)
-
 -- the passable cells of a map are those of its terrain
 pub count_is_free : (m : Map) → passable_count m ≡ free_in m.terrain
 count_is_free m = sum_by_map (λ (mark : Bool). cond {A = ℕ} mark 1 0) is_passable m.terrain
-
-marks_again : (marks : List Bool) → map (λ place. get_or marks place false) (range_with_len 0 (length marks)) ≡ marks
-marks_again marks =
-    let f : ℕ → Bool = λ place. get_or marks place false in
-    let size : length (map f (range_with_len 0 (length marks))) ≡ length marks = length-map-range_with_len f 0 (length marks) in
-    same_lists _ marks size (λ k d less.
-    let within : k < length marks = omega arith in
-    get_or-map-range_with_len f 0 (length marks) k k d within (omega arith) ∙ get_or_default marks k false d within)
-
-count_listed : (m : Map) → length (passable_cells m) ≡ passable_count m
-count_listed m =
-    let p : ℕ → Bool = λ place. get_or (passable_of m) place false in
-    let places = range_with_len 0 (length m.terrain) in
-    let again : map p places ≡ passable_of m =
-    ap (λ n. map p (range_with_len 0 n)) (sym (length-map m.terrain is_passable)) ∙ marks_again (passable_of m) in
-    length-map (filter p places) (cell_at m.width) ∙ length-filter p places ∙ sym (sum_by_map (λ (mark : Bool). cond {A = ℕ} mark 1 0) p places)
-    ∙ ap (count_by (λ mark. mark)) again
 
 cells_decide : (a b : Cell) → Decides (is_cell a b) (a ≡ b)
 cells_decide a b = (λ yes_it_is. sym (is_cell-true a b yes_it_is), λ same. is_cell-same a b (sym same))

@@ -1,8 +1,9 @@
 -- The first set of two cells that a path joins can be decided, move by move, and so it exists as a byte.
-use Rattle.std.proofs.Common.{◌≡◌, ℕ, zero, suc, ◌+◌, ◌*◌, ◌%◌, ◌^◌, ◌<◌, ◌≤◌, ◌⊎◌, ◌↔◌, List, [], ◌∷◌, ◌++◌, length, take, sym, ap, subst, ◌∙◌, inl, inr, arith}
+use Rattle.std.proofs.Common.{◌≡◌, ℕ, zero, suc, ◌+◌, ◌*◌, ◌%◌, ◌^◌, ◌<◌, ◌≤◌, ◌⊎◌, ◌↔◌, List, [], ◌∷◌, ◌++◌, length, slice_index, take, refl, sym, ap, subst, ◌∙◌, inl, inr, arith}
 use Rattle.std.specs.Prelude.{bit_or}
-use Rattle.std.proofs.lemmas.Bool.{cases_eq}
-use Rattle.std.proofs.lemmas.List.{take_all}
+use Rattle.std.proofs.lemmas.Bool.{cases_eq, cases_lt}
+use Rattle.std.proofs.lemmas.List.{get_or_append_left, get_or_push, length-take-le, length_push, take_all, take_more}
+use Rattle.std.proofs.lemmas.List.Elements.{All-push}
 use Rattle.root_cost.specs.declared.Cost.{Cost}
 use Rattle.root_cost.specs.Costs.{IsAtMost, plus_step}
 use Rattle.moves.specs.declared.Cell.{Cell}
@@ -20,7 +21,6 @@ use Rattle.moves.proofs.Masks.{MaskBelow, mask_none, mask_yes, mask_no, mask_don
 use Rattle.moves.proofs.MoveLaws.{legal_back, same_move, same_target}
 use Rattle.moves.proofs.MovesInSets.{Has-bit_set, move_with}
 use Rattle.moves.proofs.TableLaws.{same_or_apart}
-use Rattle.version_build.proofs.RowByRow.{sets_none, sets_more}
 use Rattle.walk_rows.proofs.TightRows.{byte_from_bits}
 
 abbrev Decided : Type 0 → Type 0
@@ -101,6 +101,35 @@ module _ (map : Map) (from to : Cell) (reach : Reaches map from to) where
             let done = mask_done (IsFirstMove map from to) 8 mask.0 (omega arith) (omega arith) mask.1 move in
             (λ has. done.0 (bits.0 has), λ first. bits.1 (done.1 first))),
       )
+
+-- the first sets to no cells, and to one cell more
+sets_none : (map : Map) (from : Cell) (cells : List Cell) → AreFirstSets map from (take 0 cells) []
+sets_none map from cells = record { whole = refl; bytes = λ k d within. absurd (omega arith); each = λ place within. absurd (omega arith) }
+
+sets_more : (map : Map) (from : Cell) (cells : List Cell) (sets : List ℕ) (upto value : ℕ) → AreFirstSets map from (take upto cells) sets → upto < length cells → value < 256
+    → ((move : Move) → Has value move ↔ IsFirstMove map from (cell_of cells upto) move) → AreFirstSets map from (take (upto + 1) cells) (sets ++ value ∷ [])
+sets_more map from cells sets upto value p less byte first =
+    let corner : Cell = record { x = 0; y = 0 } in
+    let more : take (upto + 1) cells ≡ take upto cells ++ cell_of cells upto ∷ [] = take_more cells upto corner less in
+    let short : length (take upto cells) ≡ upto = length-take-le upto cells (omega arith) in
+    let long : length sets ≡ upto = p.whole ∙ short in
+    let next : List Cell = take upto cells ++ cell_of cells upto ∷ [] in
+    rw more (record {
+      whole = omega (arith, length_push sets value, length_push (take upto cells) (cell_of cells upto), p.whole);
+      bytes = All-push (λ s. s < 256) sets value p.bytes byte;
+      each = λ place within move.
+          elim (cases_lt place upto) [
+            | inl early ↦
+                let cell : cell_of next place ≡ cell_of (take upto cells) place = get_or_append_left (take upto cells) (cell_of cells upto ∷ []) corner place (omega arith) in
+                let set_is : slice_index (sets ++ value ∷ []) place ≡ slice_index sets place = get_or_append_left sets (value ∷ []) 0 place (omega arith) in
+                rw (cell, set_is) (p.each place (omega arith) move)
+            | inr late ↦
+                let same : upto ≡ place = omega (arith, length_push (take upto cells) (cell_of cells upto)) in
+                let cell : cell_of next place ≡ cell_of cells upto = get_or_push (take upto cells) (cell_of cells upto) corner place (short ∙ same) in
+                let set_is : slice_index (sets ++ value ∷ []) place ≡ value = get_or_push sets value 0 place (long ∙ same) in
+                rw (cell, set_is) (first move)
+          ];
+    })
 
 module _ (map : Map) (from : Cell) (cells : List Cell) (reach : (place : ℕ) → place < length cells → Reaches map from (cell_of cells place)) where
   sets_upto : (upto : ℕ) → upto ≤ length cells → (sets : List ℕ) × AreFirstSets map from (take upto cells) sets

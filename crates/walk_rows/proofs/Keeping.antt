@@ -1,18 +1,20 @@
 -- The move that is found in the row of a cell is kept there, and begins a best path.
-use Rattle.std.proofs.Common.{◌≡◌, ℕ, ◌<◌, List, length, map, refl, sym, subst}
+use Rattle.std.proofs.Common.{◌≡◌, ℕ, ◌<◌, ◌≤◌, List, [], length, map, refl, sym, subst, arith}
+use Rattle.std.proofs.lemmas.List.{length-map}
 use Rattle.std.proofs.lemmas.List.Elements.{Contains-get_or}
 use Rattle.run_pack.specs.declared.Run.{Run}
-use Rattle.run_pack.specs.Runs.{IsFound, IsRow, IsCoveringMove, Rises, run_of_word}
-use Rattle.run_pack.proofs.Words.{All-move_below}
+use Rattle.run_pack.specs.Runs.{AppendsRow, IsFound, IsRow, IsTight, IsCoveringMove, Rises, run_of_word}
+use Rattle.run_pack.proofs.RowLemmas.{length-row}
 use Rattle.moves.specs.declared.Cell.{Cell}
 use Rattle.moves.specs.declared.Move.{Move}
+use Rattle.moves.specs.declared.TheConstants.{MAX_PASSABLE}
 use Rattle.moves.specs.Maps.{Map}
 use Rattle.moves.specs.Moves.{number_of}
-use Rattle.moves.specs.FirstSetLists.{cell_of}
+use Rattle.moves.specs.FirstSetLists.{cell_of, AreFirstSets}
 use Rattle.row_store.specs.Rows.{row_at, IsRowFrom}
 use Rattle.row_store.proofs.RowLaws.{components_keep_each_row, same_just, same_rows_from}
 use Rattle.build_pool.specs.Places.{AreComponent, AreSources}
-use Rattle.build_pool.specs.Pieces.{IsRowOver}
+use Rattle.build_pool.specs.Pieces.{AreWordsOver, IsRowOver}
 use Rattle.walk_rows.specs.Walks.{AreWordsFrom, IsKeptOver}
 
 -- ---- what is found in a row is kept
@@ -50,8 +52,15 @@ module _ (m : Map) (cells : List Cell) (p : AreComponent m cells) (place : ℕ) 
         (components_keep_each_row m p.component cells part p.is p.order just (cell_of cells place) row (Contains-get_or cells place (record { x = 0; y = 0 }) within)).1 is;
   }
 
-  pub found_below : (to number : ℕ) → IsFound row to number → number < 8
-  found_below to number found =
-      let last = found.last in
-      let below = All-move_below row is.sets is.tight last.run (record { start = 0; mv = 0 }) last.last.within in
-      subst (λ n. n < 8) (sym last.is) below
+-- the words of a row that was found by a plain search
+pub packed_words : (m : Map) (cells : List Cell) (p : AreComponent m cells) (place : ℕ) (within : place < length cells) → length cells ≤ MAX_PASSABLE → (sets words : List ℕ)
+    → AreFirstSets m (cell_of cells place) cells sets → AppendsRow [] words sets → AreWordsOver cells place words
+packed_words m cells p place within few sets words first put =
+    let tight : IsTight (map run_of_word words) sets = subst (λ ws. IsTight (map run_of_word ws) sets) (sym put.behind) put.packed.tight in
+    let short = length-row (map run_of_word words) (length sets) tight.row in
+    let size = length-map words run_of_word in
+    let whole = first.whole in
+    record {
+      few = omega arith;
+      row = row_over_cells m cells p place within (map run_of_word words) (record { sets = sets; first = first; tight = tight });
+    }

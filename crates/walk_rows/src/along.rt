@@ -8,12 +8,10 @@ ghost use Rattle.build_pool.specs.Places.{AreSources, AreWithNear};
 ghost use Rattle.walk_rows.specs.Walks.{AreWordsFrom, CanBeWalked, IsKeptOver, IsReady, SpellsOver};
 
 use crate::bench::Workbench;
-use build_pool::one_row;
-use first_sets::FirstSets;
-use grid_search::Search;
+use build_pool::PlainSearch;
 use lane_rows::Near;
 use moves::{Cell, Grid, Move};
-use run_pack::{find_move, find_word_move};
+use run_pack::{append_words, find_word_move};
 use std::alloc::{AllocError, Global};
 
 /// The moves that the rows of the cells spell from one of them to another.
@@ -128,10 +126,9 @@ fn plain_move(
     requires to { to < length cells.now }
     ensures { IfOk result (IsKeptOver cells.now (cell_of cells.now place) (cell_of cells.now to)) }
 {
-    let room = (grid.width() * grid.height()) as usize;
-    let mut search = Search::new(alloc, room)?;
-    let mut sets = FirstSets::new(alloc, room)?;
-    let row = one_row(alloc, cells, place as u32, &mut search, &mut sets, grid)?;
-    let number = find_move(&row, to as u32);
-    Ok(Move::of(number).unwrap_or_default())
+    let mut plain = PlainSearch::over(alloc, grid, cells.len())?;
+    plain.find(grid, cells, place)?;
+    let mut words = Vec::new(alloc);
+    append_words(&mut words, plain.sets())?;
+    Ok(move_in(cells, cells[place], &words, to))
 }

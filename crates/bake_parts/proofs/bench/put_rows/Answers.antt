@@ -10,7 +10,7 @@ loop-index-init c =
       rows = rows_none c.args.component.now c.args.sources c.args.room.now c.put-at.new.room c.put-at.result c.put-at.ensures.end
           (c.put-at.ensures.front c.args.room.now [] refl (front_none c.args.room.now));
       ready = c.in_ok-bench.ensures.ready;
-      plain = subst (λ p. MayHaveRoom c.args.grid.now c.args.component.now p) (sym c.in_ok-bench.ensures.none) tt;
+      plain = subst (λ p. MayHaveRoom c.args.grid.now p) (sym c.in_ok-bench.ensures.none) tt;
     }
 
 pub loop-index-preserved : goal.loop-index-preserved

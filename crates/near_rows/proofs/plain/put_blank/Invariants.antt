@@ -5,7 +5,6 @@ use Rattle.near_rows.proofs.plain.put_blank.Given as goal
 abbrev pub invariant-loop-place : goal.invariant-loop-place
 invariant-loop-place l = record {
   done : AreDone l.grid l.cells l.place l.near;
-  search : l.grid.width * l.grid.height ≤ l.plain.search.room;
-  room : l.grid.width * l.grid.height ≤ l.plain.sets.room;
-  sets : length l.sets.items ≡ length l.cells;
+  room : l.grid.width * l.grid.height ≤ l.plain.room;
+  wide : length l.wide.items ≡ length l.cells;
 }

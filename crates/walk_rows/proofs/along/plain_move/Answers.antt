@@ -1,11 +1,18 @@
-use Rattle.row_store.proofs.CompLaws.{found_by_number}
-use Rattle.walk_rows.proofs.Keeping.{found_below, kept_from_row, row_over_cells}
+use Rattle.std.proofs.Common.{refl}
+use Rattle.build_pool.proofs.Connecting.{packable}
+use Rattle.walk_rows.proofs.Keeping.{packed_words}
 use Rattle.walk_rows.proofs.along.plain_move.Goals as goal
 
-pub returns : goal.returns
-returns c =
-    let row = c.in_ok-row.ensures.row in
-    let found = rw c.deref.ensures.value at c.find_move-number.ensures.found in
-    let below = found_below _ _ c.requires.cells.component c.args.place c.requires.place _ row c.args.to _ found in
-    kept_from_row _ c.args.place c.args.to _ _ c.requires.place c.requires.to (row_over_cells _ _ c.requires.cells.component c.args.place c.requires.place _ row)
-    (found_by_number _ _ _ _ c.of.ensures below c.unwrap_or_default.ensures _ _ c.args.to c.deref.ensures.value c.find_move-number.ensures.found)
+pub append_words-requires : goal.append_words-requires
+append_words-requires c =
+    rw c.sets.ensures (packable _ _ c.requires.cells.component _ _ c.requires.place c.requires.cells.sources.few c.in_ok-find.ensures.first)
+
+pub move_in-requires-clause-words : goal.move_in-requires-clause-words
+move_in-requires-clause-words c = record {
+  place = c.args.place;
+  at = record { within = c.requires.place; there = refl };
+  are =
+      rw c.deref.ensures.value
+      (packed_words _ _ c.requires.cells.component c.args.place c.requires.place c.requires.cells.sources.few _ _ c.in_ok-find.ensures.first
+      (rw (c.sets.ensures, c.new-words.ensures.items) at c.in_ok-append_words.ensures.ok));
+}
