@@ -2,8 +2,9 @@
 use Rattle.std.specs.Prelude.{ℕ, ◌≡◌, ◌+◌, ◌-◌, List, [], ◌∷◌, ◌++◌, map, All, Bool, true, false, ◌==◌, Option, Some, None, Result, Ok, Err}
 use Rattle.std.specs.List.{list_any}
 use Rattle.wire.specs.Causes.{one_more}
-use Rattle.wire.specs.LinkInMemory.{LinkInMemory, new_link}
-use Rattle.wire.specs.Talks.{EndedTalk}
+use Rattle.wire.specs.Knocks.{AtDoor}
+use Rattle.wire.specs.LinkInMemory.{LinkInMemory, link_told, new_link, talk_of}
+use Rattle.wire.specs.Talks.{EndedTalk, talk_over}
 use Rattle.wire.specs.declared.door.Knock.{Knock}
 use Rattle.wire.specs.declared.door.Knock.TheVariants.{Conn, Quiet, Closed}
 use Rattle.wire.specs.declared.faults.Failed.{Failed}
@@ -93,12 +94,14 @@ at_port door port = record door { port = Some port }
 
 -- the talk of a connection that was handed back
 abbrev pub ended_talk : LinkInMemory → EndedTalk
-ended_talk link = record {
-  talk = record { input = link.input.whole; left = link.input.left; sent = Some link.output.held };
-  read_faults = link.faults;
-  write_faults = link.output.faults;
-}
+ended_talk link = talk_over (link_told link) (talk_of link)
 
--- what a door in memory tells: all talks that are over
-abbrev pub talks_of : DoorInMemory → Option (List EndedTalk)
-talks_of door = Some (map ended_talk door.ended)
+-- what a door in memory tells: all
+abbrev pub door_told : DoorInMemory → AtDoor
+door_told door = record {
+  talks = Some (map ended_talk door.ended);
+  lent = door.lent;
+  closed = door.closed;
+  faults = door.faults;
+  port = door.port;
+}

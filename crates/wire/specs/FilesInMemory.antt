@@ -3,6 +3,7 @@ use Rattle.std.specs.Prelude.{◌≡◌, ◌≢◌, ℕ, ◌+◌, List, All, All
 use Rattle.std.specs.List.{list_any, position_or_len}
 use Rattle.std.specs.declared.alloc.Global.{Global}
 use Rattle.wire.specs.Causes.{one_more}
+use Rattle.wire.specs.Contents.{AtFiles}
 
 -- the files, each a name and its bytes, the numbers of the reads that are to fail (the first is 1),
 -- how many reads there were, and the counts of faults: one for each file, and a last one for all
@@ -72,3 +73,8 @@ with_fault_at memory name = record memory {
   calls = one_more memory.calls;
   faults = set memory.faults (place_of memory.files name) (one_more (faults_of memory name));
 }
+
+-- what files in memory tell: all
+abbrev pub files_told : FilesInMemory → AtFiles
+files_told memory =
+    record { content = content_of memory.files; faults = faults_of memory }

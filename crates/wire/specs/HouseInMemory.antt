@@ -1,10 +1,10 @@
 -- Houses in memory, as contracts see them, and what a call does to one.
-use Rattle.std.specs.Prelude.{ℕ, ◌≡◌, ◌+◌, ◌<◌, List, [], ◌∷◌, ◌++◌, length, take, drop, map, filter, All, Bool, false, ◌==◌, ◌||◌, not, cond, nat_lt, Option, Some, None, count_by}
+use Rattle.std.specs.Prelude.{ℕ, ◌≡◌, ◌+◌, List, [], ◌∷◌, ◌++◌, take, drop, map, filter, All, Bool, false, ◌==◌, ◌||◌, not, cond, nat_lt, Option, Some, None, count_by}
 use Rattle.std.specs.List.{list_any}
 use Rattle.wire.specs.Causes.{one_more}
 use Rattle.wire.specs.DoorInMemory.{DoorInMemory, new_door, at_port, AreNewLinks, IsNewLink}
 use Rattle.wire.specs.LinkInMemory.{LinkInMemory}
-use Rattle.wire.specs.Houses.{Lendings, no_lendings, count_if, rose_once}
+use Rattle.wire.specs.Houses.{AtHouse, Lendings, no_lendings, count_if, rose_once}
 use Rattle.wire.specs.declared.house.DoorsAsked.{DoorsAsked}
 
 -- the doors that it will give and the link, each with its port, the numbers of the calls that are to
@@ -145,4 +145,15 @@ with_hung_up house link = record house {
   };
   read_faults = count_if (not (link.faults == 0)) house.read_faults;
   write_faults = count_if (not (link.output.faults == 0)) house.write_faults;
+}
+
+-- what a house in memory tells: all
+abbrev pub house_told : HouseInMemory → AtHouse DoorInMemory LinkInMemory
+house_told house = record {
+  asked = house.asked;
+  called = house.called;
+  lent = Some house.lent;
+  door_faults = house.door_faults;
+  read_faults = house.read_faults;
+  write_faults = house.write_faults;
 }

@@ -1,8 +1,9 @@
 -- What a house keeps of its doors and links, and of what was asked of it.
-use Rattle.std.specs.Prelude.{ℕ, ◌≡◌, ◌≢◌, ◌+◌, ◌<◌, ◌≤◌, List, [], ◌∷◌, ◌++◌, length, All, Bool, ◌==◌, not, cond, Option, Some, option_map, IfSome, IsSome}
+use Rattle.std.specs.Prelude.{ℕ, ◌≡◌, ◌≢◌, ◌+◌, ◌<◌, ◌≤◌, List, [], ◌∷◌, ◌++◌, length, All, Bool, false, ◌==◌, not, cond, Option, Some, None, option_map, IfSome, IsSome}
 use Rattle.std.specs.List.{list_any}
-use Rattle.wire.specs.Causes.{one_more}
-use Rattle.wire.specs.Talks.{Talk, EndedTalk}
+use Rattle.wire.specs.Causes.{one_more, Rose}
+use Rattle.wire.specs.Knocks.{AtDoor}
+use Rattle.wire.specs.Talks.{AtLink}
 use Rattle.wire.specs.declared.house.DoorsAsked.{DoorsAsked}
 
 -- a link that was handed back, and the port of the call that gave it
@@ -58,16 +59,19 @@ module _ {D C : Type 0} where
   HasLentLink told = IfSome told (λ lent. length lent.links_back < lent.links_given)
 
   -- a house that tells its doors gives doors that tell their port
-  abbrev pub TellsPort : Option (Lendings D C) → Option ℕ → ℕ → Type 0
-  TellsPort told at port = IfSome told (λ _. at ≡ Some port)
+  abbrev pub TellsPort : Option (Lendings D C) → AtDoor → ℕ → Type 0
+  TellsPort told door port = IfSome told (λ _. door.port ≡ Some port)
 
   -- a house that tells its links gives links that tell their talk
-  abbrev pub TellsTalk : Option (Lendings D C) → Option Talk → Type 0
-  TellsTalk told talk = IfSome told (λ _. IsSome talk)
+  abbrev pub TellsTalk : Option (Lendings D C) → AtLink → Type 0
+  TellsTalk told link = IfSome told (λ _. IsSome link.talk)
 
--- a door that tells its talks has none yet
-abbrev pub HasNoTalk : Option (List EndedTalk) → Type 0
-HasNoTalk talks = IfSome talks (λ told. told ≡ [])
+-- a door at which nobody has knocked: none has failed, none has answered Closed, and where it tells
+-- its talks, it has none
+pub record IsUnknocked (door : AtDoor) : Type 0 where
+  pub no_fault : door.faults ≡ 0
+  pub no_talk : IfSome door.talks (λ told. told ≡ [])
+  pub unclosed : door.closed ≡ false
 
 -- no doors were asked for at this port
 abbrev pub IsNewPort : List DoorsAsked → ℕ → Type 0
@@ -80,3 +84,81 @@ count_if came count = cond came (one_more count) count
 -- whether one of these counts is above 0
 abbrev pub rose_once : {D : Type 0} → (D → ℕ) → List D → Bool
 rose_once faults doors = list_any (λ door. not (faults door == 0)) doors
+
+-- what is known of a house: the requests for doors, in order, the port at which it called, if it
+-- did, what it gave and what was handed back, where it tells it, how often `doors` has failed or
+-- doors were handed back of which one had failed, how often `call` has failed or a link was handed
+-- back that had failed to receive, and how often one that had failed to send
+pub record AtHouse (D C : Type 0) : Type 0 where
+  pub asked : List DoorsAsked
+  pub called : Option ℕ
+  pub lent : Option (Lendings D C)
+  pub door_faults : ℕ
+  pub read_faults : ℕ
+  pub write_faults : ℕ
+
+-- a house that does not tell what it gave
+abbrev pub untold_house : {D C : Type 0} → List DoorsAsked → Option ℕ → ℕ → ℕ → ℕ → AtHouse D C
+untold_house asked called door_faults read_faults write_faults = record {
+  asked = asked;
+  called = called;
+  lent = None;
+  door_faults = door_faults;
+  read_faults = read_faults;
+  write_faults = write_faults;
+}
+
+module _ {D C : Type 0} where
+  -- after so many doors were asked for at this port
+  abbrev pub with_asked : AtHouse D C → ℕ → ℕ → AtHouse D C
+  with_asked house port count =
+      record house { asked = house.asked ++ record { port = port; count = count } ∷ [] }
+
+  -- after so many doors were asked for at this port, and given
+  abbrev pub with_doors_lent : AtHouse D C → ℕ → ℕ → AtHouse D C
+  with_doors_lent house port count = record house {
+    asked = house.asked ++ record { port = port; count = count } ∷ [];
+    lent = with_doors_given house.lent count;
+  }
+
+  -- a request for doors that gives none: it is known, and faults of doors may have been counted
+  pub record GivesNone (old : AtHouse D C) (port count : ℕ) (new : AtHouse D C) : Type 0 where
+    pub later : old.door_faults ≤ new.door_faults
+    pub rest : new ≡ record (with_asked old port count) { door_faults = new.door_faults }
+
+  -- after a call at this port that gave a link
+  abbrev pub with_called : AtHouse D C → ℕ → AtHouse D C
+  with_called house port =
+      record house { called = Some port; lent = with_link_given house.lent }
+
+  -- a call at this port that gives no link: faults of reading were counted
+  pub record FailsToCall (old : AtHouse D C) (port : ℕ) (new : AtHouse D C) : Type 0 where
+    pub rose : Rose old.read_faults new.read_faults
+    pub later : old.read_faults ≤ new.read_faults
+    pub rest : new ≡ record old { called = Some port; read_faults = new.read_faults }
+
+  -- after these doors were handed back, of each of which this is known
+  abbrev pub with_doors_shut : (D → AtDoor) → AtHouse D C → List D → AtHouse D C
+  with_doors_shut at house doors = record house {
+    lent = with_doors_back house.lent doors;
+    door_faults = count_if (rose_once (λ door. (at door).faults) doors) house.door_faults;
+  }
+
+  -- after this link was handed back, of which this is known
+  abbrev pub with_hung_up : (C → AtLink) → AtHouse D C → C → AtHouse D C
+  with_hung_up at house link = record house {
+    lent = with_link_back house.lent house.called link;
+    read_faults = count_if (not ((at link).read_faults == 0)) house.read_faults;
+    write_faults = count_if (not ((at link).write_faults == 0)) house.write_faults;
+  }
+
+  -- nothing but doors was asked for between the two
+  pub record OnlyDoors (old new : AtHouse D C) : Type 0 where
+    pub called : new.called ≡ old.called
+    pub reads : new.read_faults ≡ old.read_faults
+    pub writes : new.write_faults ≡ old.write_faults
+
+  -- nothing but a call was asked for between the two
+  pub record OnlyCalls (old new : AtHouse D C) : Type 0 where
+    pub asked : new.asked ≡ old.asked
+    pub door_faults : new.door_faults ≡ old.door_faults

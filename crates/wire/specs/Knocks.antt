@@ -1,6 +1,6 @@
 -- What a knock at a door says of the door and of the connection that it gave, if it gave one.
-use Rattle.std.specs.Prelude.{ℕ, ◌≡◌, ◌+◌, ◌<◌, List, Bool, true, false, Option, IfSome, IsSome, Result, Ok, Err}
-use Rattle.wire.specs.Talks.{Talk, EndedTalk}
+use Rattle.std.specs.Prelude.{ℕ, ◌≡◌, ◌+◌, ◌-◌, ◌<◌, ◌||◌, List, Bool, true, false, Option, None, IfSome, IsSome, Result, Ok, Err}
+use Rattle.wire.specs.Talks.{AtLink, EndedTalk, with_ended}
 use Rattle.wire.specs.declared.door.Knock.{Knock}
 use Rattle.wire.specs.declared.door.Knock.TheVariants.{Conn, Quiet, Closed}
 
@@ -33,14 +33,40 @@ abbrev pub says_closed : {C E : Type 0} → Result (Knock C) E → Bool
 says_closed (Ok found) = is_closed found
 says_closed (Err error) = false
 
--- a door that tells its talks gives connections that tell theirs
-abbrev pub TellsToo : Option (List EndedTalk) → Option Talk → Type 0
-TellsToo talks told = IfSome talks (λ _. IsSome told)
+-- what is known of a door: the talks over its connections that were handed back, where it tells
+-- them, and then how many connections it gave that are not handed back yet; whether a knock has
+-- answered Closed, how often a knock has failed, and the port at which it was given, where it tells it
+pub record AtDoor : Type 0 where
+  pub talks : Option (List EndedTalk)
+  pub lent : ℕ
+  pub closed : Bool
+  pub faults : ℕ
+  pub port : Option ℕ
 
--- a door that tells its talks has lent so many connections more
-abbrev pub LendsMore : Option (List EndedTalk) → ℕ → ℕ → ℕ → Type 0
-LendsMore talks before after more = IfSome talks (λ _. after ≡ before + more)
+-- a door that tells nothing but how often a knock has failed
+abbrev pub untold_door : ℕ → AtDoor
+untold_door faults =
+    record { talks = None; lent = 0; closed = false; faults = faults; port = None }
+
+-- a door that tells its talks gives connections that tell theirs
+abbrev pub TellsToo : AtDoor → AtLink → Type 0
+TellsToo door conn = IfSome door.talks (λ _. IsSome conn.talk)
 
 -- a door that tells its talks has lent a connection that is not handed back yet
-abbrev pub HasLent : Option (List EndedTalk) → ℕ → Type 0
-HasLent talks lent = IfSome talks (λ _. 0 < lent)
+abbrev pub HasLent : AtDoor → Type 0
+HasLent door = IfSome door.talks (λ _. 0 < door.lent)
+
+-- what a knock with this answer does: a connection that it gave is lent, and it may have closed
+pub record IsKnock {C E : Type 0} (old : AtDoor) (result : Result (Knock C) E) (new : AtDoor) : Type 0 where
+  pub talks : new.talks ≡ old.talks
+  pub lent : IfSome old.talks (λ _. new.lent ≡ old.lent + conns_given result)
+  pub closed : new.closed ≡ (old.closed || says_closed result)
+  pub port : new.port ≡ old.port
+
+-- what handing a connection back does: its talk is over, and it is lent no more
+pub record IsBack (old : AtDoor) (conn : AtLink) (new : AtDoor) : Type 0 where
+  pub talks : new.talks ≡ with_ended old.talks conn
+  pub lent : IfSome old.talks (λ _. new.lent ≡ old.lent - 1)
+  pub closed : new.closed ≡ old.closed
+  pub faults : new.faults ≡ old.faults
+  pub port : new.port ≡ old.port

@@ -1,9 +1,9 @@
 -- Links in memory, as contracts see them, and what a call does to them.
-use Rattle.std.specs.Prelude.{ℕ, ◌-◌, ◌^◌, ◌<◌, min, List, [], length, drop, All, Bool, ◌==◌, Option, Some, None, slice_index_or}
+use Rattle.std.specs.Prelude.{ℕ, ◌-◌, ◌^◌, ◌<◌, min, List, [], length, drop, All, Bool, ◌==◌, Some, None, slice_index_or}
 use Rattle.std.specs.List.{list_any}
 use Rattle.wire.specs.Causes.{one_more}
 use Rattle.wire.specs.SinkInMemory.{SinkInMemory, new_sink}
-use Rattle.wire.specs.Talks.{Talk}
+use Rattle.wire.specs.Talks.{AtLink, Talk}
 
 -- bytes that are read from the front: the whole, and what is left
 pub record InputInMemory : Type 0 where
@@ -67,11 +67,23 @@ with_read_fault link =
 abbrev pub with_output : LinkInMemory → SinkInMemory → LinkInMemory
 with_output link output = record link { output = output }
 
--- what a link in memory tells of its talk: all
-abbrev pub talk_of : LinkInMemory → Option Talk
+-- the whole talk over a link in memory
+abbrev pub talk_of : LinkInMemory → Talk
 talk_of link =
-    Some (record { input = link.input.whole; left = link.input.left; sent = Some link.output.held })
+    record { input = link.input.whole; left = link.input.left; sent = Some link.output.held }
 
--- what a link tells that drops what it is given: no bytes sent
-abbrev pub talk_unsent : InputInMemory → Option Talk
-talk_unsent input = Some (record { input = input.whole; left = input.left; sent = None })
+-- what a link in memory tells: all
+abbrev pub link_told : LinkInMemory → AtLink
+link_told link = record {
+  talk = Some (talk_of link);
+  read_faults = link.faults;
+  write_faults = link.output.faults;
+}
+
+-- what a link tells that never fails and drops what it is given: no bytes sent
+abbrev pub link_untold : InputInMemory → AtLink
+link_untold input = record {
+  talk = Some (record { input = input.whole; left = input.left; sent = None });
+  read_faults = 0;
+  write_faults = 0;
+}

@@ -1,5 +1,5 @@
 -- What an ear hears, and what it keeps of it.
-use Rattle.std.specs.Prelude.{ℕ, ◌-◌, Bool, true, false, ◌||◌, ◌==◌, not, cond}
+use Rattle.std.specs.Prelude.{ℕ, ◌-◌, Bool, true, false, ◌||◌, ◌==◌, cond}
 use Rattle.wire.specs.Causes.{one_more}
 use Rattle.wire.specs.declared.bell.Ring.{Ring}
 use Rattle.wire.specs.declared.bell.Ring.TheVariants.{Rung, Shut}
@@ -13,6 +13,16 @@ rings_in Shut count = count
 abbrev pub says_shut : Ring → Bool
 says_shut Rung = false
 says_shut Shut = true
+
+-- what is known of an ear: how often it answered Rung, and whether it answered Shut
+pub record AtEar : Type 0 where
+  pub rung : ℕ
+  pub over : Bool
+
+-- the ear after it answered this
+abbrev pub with_heard : AtEar → Ring → AtEar
+with_heard ear ring =
+    record { rung = rings_in ring ear.rung; over = ear.over || says_shut ring }
 
 -- an ear that counts: how many rings it still hears, how many it heard, and whether it heard that
 -- the bell was shut

@@ -1,6 +1,7 @@
 -- What is told of a talk over a link. `None` where nothing of it is told.
-use Rattle.std.specs.Prelude.{ℕ, ◌≡◌, ◌<◌, ◌≤◌, ◌↔◌, List, [], ◌∷◌, ◌++◌, length, take, drop, Option, Some, None, option_map, IfSome}
+use Rattle.std.specs.Prelude.{ℕ, ◌≡◌, ◌<◌, ◌≤◌, ◌↔◌, List, [], ◌∷◌, ◌++◌, length, take, drop, Option, option_map, option_and_then, IfSome}
 use Rattle.std.specs.Io.KnownBytes.{append_known}
+use Rattle.wire.specs.Causes.{Rose}
 
 -- one side of a talk: the whole input, what is left of it, and the bytes sent, where those are told
 pub record Talk : Type 0 where
@@ -46,15 +47,56 @@ abbrev pub IsFresh : Option Talk → Type 0
 IsFresh told =
     IfSome told (λ talk. (talk.left ≡ talk.input) × IfSome talk.sent (λ bytes. bytes ≡ []))
 
+-- what is known of a link: its talk, where it tells it, and how often a recv and a send have failed
+pub record AtLink : Type 0 where
+  pub talk : Option Talk
+  pub read_faults : ℕ
+  pub write_faults : ℕ
+
+-- a link on which nothing was taken, nothing sent, and no call has failed
+pub record IsUnused (link : AtLink) : Type 0 where
+  pub fresh : IsFresh link.talk
+  pub no_read_fault : link.read_faults ≡ 0
+  pub no_write_fault : link.write_faults ≡ 0
+
+-- a fault has its cause in the count of recvs that failed
+abbrev pub ReadFails : AtLink → AtLink → Type 0
+ReadFails old new = Rose old.read_faults new.read_faults
+
+-- a fault has its cause in the count of sends that failed
+abbrev pub WriteFails : AtLink → AtLink → Type 0
+WriteFails old new = Rose old.write_faults new.write_faults
+
+-- no send has failed between the two
+pub record OnlyReads (old new : AtLink) : Type 0 where
+  pub later : old.read_faults ≤ new.read_faults
+  pub other : new.write_faults ≡ old.write_faults
+
+-- no recv has failed between the two
+pub record OnlyWrites (old new : AtLink) : Type 0 where
+  pub later : old.write_faults ≤ new.write_faults
+  pub other : new.read_faults ≡ old.read_faults
+
+-- neither count has fallen
+pub record IsLater (old new : AtLink) : Type 0 where
+  pub reads : old.read_faults ≤ new.read_faults
+  pub writes : old.write_faults ≤ new.write_faults
+
 -- a talk that is over: what it was, and how often a recv and a send of it failed
 pub record EndedTalk : Type 0 where
   pub talk : Talk
   pub read_faults : ℕ
   pub write_faults : ℕ
 
--- the talks that are over, and one more, where all are told
-abbrev pub with_ended : Option (List EndedTalk) → Option Talk → ℕ → ℕ → Option (List EndedTalk)
-with_ended (Some talks) (Some talk) read_faults write_faults = Some
-    (talks ++ record { talk = talk; read_faults = read_faults; write_faults = write_faults } ∷ [])
-with_ended (Some talks) None read_faults write_faults = None
-with_ended None told read_faults write_faults = None
+-- this talk, over the link as it is known at its end
+abbrev pub talk_over : AtLink → Talk → EndedTalk
+talk_over link talk = record {
+  talk = talk;
+  read_faults = link.read_faults;
+  write_faults = link.write_faults;
+}
+
+-- the talks that are over, and that of this link as one more, where all are told
+abbrev pub with_ended : Option (List EndedTalk) → AtLink → Option (List EndedTalk)
+with_ended talks link = option_and_then
+    (λ told. option_map (λ talk. told ++ talk_over link talk ∷ []) link.talk) talks

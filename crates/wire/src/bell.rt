@@ -1,6 +1,6 @@
 //! What wakes a waiting builder.
-ghost use Rattle.std.specs.Prelude.{◌≡◌, ◌||◌, ℕ, Bool};
-ghost use Rattle.wire.specs.Rings.{rings_in, says_shut};
+ghost use Rattle.std.specs.Prelude.{◌≡◌};
+ghost use Rattle.wire.specs.Rings.{AtEar, with_heard};
 
 use std::sync::Wait;
 
@@ -42,16 +42,13 @@ pub trait Bell: Sync {
 
 /// Where a bell is heard.
 pub trait Ear: Send {
-    /// How often it answered `Rung`. The count stands still at the greatest `u64`.
-    ghost rung: { Self → ℕ };
-
-    /// Whether it answered `Shut`.
-    ghost over: { Self → Bool };
+    /// What is known of it: how often it answered `Rung`, a count that stands still at the greatest
+    /// `u64`, and whether it answered `Shut`.
+    ghost at: { Self → AtEar };
 
     /// Waits until the bell is rung or shut.
     fn wait<R: Wait>(&mut self, rt: &R) -> Ring
-        ensures rung { rung self.new ≡ rings_in result (rung self.old) }
-        ensures over { over self.new ≡ (over self.old || says_shut result) };
+        ensures heard { at self.new ≡ with_heard (at self.old) result };
 }
 
 /// A bell that wakes nobody.

@@ -1,7 +1,7 @@
 //! Files to be read, by name.
-ghost use Rattle.std.specs.Prelude.{◌≡◌, ◌≤◌, ℕ, List, Option, vec_len, IfOk, OnOk, IsErrOf};
-ghost use Rattle.wire.specs.Causes.{NoneFell, Rose};
-ghost use Rattle.wire.specs.Contents.{Tells, TellsAtMost, TellsMoreThan, TellsTheSame};
+ghost use Rattle.std.specs.Prelude.{◌≡◌, ◌≤◌, vec_len, IfOk, OnOk, IsErrOf};
+ghost use Rattle.wire.specs.Causes.{Rose};
+ghost use Rattle.wire.specs.Contents.{AreRead, AtFiles, Tells, TellsAtMost, TellsMoreThan};
 ghost use Rattle.wire.specs.declared.files.FileError.TheVariants.{NoMemory};
 
 use std::alloc::{AllocError, Global};
@@ -31,11 +31,8 @@ impl From<AllocError> for FileError {
 
 /// Files that are read whole, by name.
 pub trait Files {
-    /// The bytes that a name holds, where they are told.
-    ghost content: { Self → List ℕ → Option (List ℕ) };
-
-    /// How often reading a name has failed.
-    ghost faults: { Self → List ℕ → ℕ };
+    /// What is known of them: the bytes that each name holds, where they are told, and the faults.
+    ghost at: { Self → AtFiles };
 
     /// All bytes of a file, of which there may be `limit`.
     fn read_all(&mut self, alloc: Global, name: &str, limit: usize) -> Result<Vec<u8>, FileError>
@@ -43,14 +40,13 @@ pub trait Files {
         ensures within { IfOk result (λ bytes. vec_len bytes ≤ limit) }
 
         // Where the content is told, Ok gives it, and it is too long exactly above the limit.
-        ensures bytes { IfOk result (λ bytes. Tells (content self.old name.now) bytes.items) }
-        ensures fits { OnOk result (TellsAtMost (content self.old name.now) limit) }
+        ensures bytes { IfOk result (λ bytes. Tells ((at self.old).content name.now) bytes.items) }
+        ensures fits { OnOk result (TellsAtMost ((at self.old).content name.now) limit) }
         ensures too_long { IsErrOf result FileError.TooLong
-            → TellsMoreThan (content self.old name.now) limit }
+            → TellsMoreThan ((at self.old).content name.now) limit }
 
         // A fault has its cause in the count of this very name.
         ensures cause { IsErrOf result FileError.Failed
-            → Rose (faults self.old name.now) (faults self.new name.now) }
-        ensures later { NoneFell (faults self.old) (faults self.new) }
-        ensures kept { TellsTheSame (content self.old) (content self.new) };
+            → Rose ((at self.old).faults name.now) ((at self.new).faults name.now) }
+        ensures read { AreRead (at self.old) (at self.new) };
 }

@@ -87,9 +87,7 @@ pub struct HostEar<'a> {
 }
 
 impl<'a> Ear for HostEar<'a> {
-    ghost rung = { λ ear. ear.rung };
-
-    ghost over = { λ ear. ear.over };
+    ghost at = { λ ear. record { rung = ear.rung; over = ear.over } };
 
     fn wait<R: Wait>(&mut self, rt: &R) -> Ring {
         let heard = self.bell.heard.lock(rt);

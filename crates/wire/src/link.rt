@@ -1,21 +1,15 @@
 //! Both directions of a connection.
-ghost use Rattle.std.specs.Prelude.{◌≡◌, ◌<◌, ◌≤◌, ℕ, Option, length, take, IfOk, OnOk, OnErr};
-ghost use Rattle.wire.specs.Causes.{Rose};
-ghost use Rattle.wire.specs.Talks.{Talk, with_taken, with_sent};
+ghost use Rattle.std.specs.Prelude.{◌≡◌, ◌<◌, ◌≤◌, length, take, IfOk, OnOk, OnErr};
+ghost use Rattle.wire.specs.Talks.{AtLink, with_taken, with_sent};
 ghost use Rattle.wire.specs.Talks.{HasLeft, EndsAtZero, FillsRoom, KeepsRoom, SendsPrefix};
+ghost use Rattle.wire.specs.Talks.{OnlyReads, OnlyWrites, ReadFails, WriteFails};
 
 use crate::Failed;
 
 /// A connection: bytes come in, and bytes are sent. It counts the faults of each direction apart.
 pub trait Link: Send {
-    /// What came in and what was sent, where it tells it.
-    ghost talk: { Self → Option Talk };
-
-    /// How often a `recv` has failed.
-    ghost read_faults: { Self → ℕ };
-
-    /// How often a `send` has failed.
-    ghost write_faults: { Self → ℕ };
+    /// What is known of it: what came in and what was sent, where it tells it, and its faults.
+    ghost at: { Self → AtLink };
 
     /// Puts the next bytes that come in at the front of `room`, and says how many; 0 is the end. A
     /// recv that fails takes nothing.
@@ -26,17 +20,17 @@ pub trait Link: Send {
 
         // Where the talk is told, the bytes are the front of what was left, and the room is
         // unchanged behind them; none come exactly at the end.
-        ensures left { IfOk result (λ count. HasLeft (talk self.old) count) }
-        ensures room { IfOk result (λ count. FillsRoom (talk self.old) count room.old room.new) }
-        ensures end { IfOk result (λ count. EndsAtZero (talk self.old) count) }
-        ensures taken { IfOk result (λ count. talk self.new ≡ with_taken (talk self.old) count) }
-        ensures kept { OnErr result (talk self.new ≡ talk self.old) }
-        ensures unfilled { OnErr result (KeepsRoom (talk self.old) room.old room.new) }
+        ensures left { IfOk result (λ count. HasLeft (at self.old).talk count) }
+        ensures room { IfOk result (λ count. FillsRoom (at self.old).talk count room.old room.new) }
+        ensures end { IfOk result (λ count. EndsAtZero (at self.old).talk count) }
+        ensures taken { IfOk result (λ count.
+            (at self.new).talk ≡ with_taken (at self.old).talk count) }
+        ensures kept { OnErr result ((at self.new).talk ≡ (at self.old).talk) }
+        ensures unfilled { OnErr result (KeepsRoom (at self.old).talk room.old room.new) }
 
         // A fault has its cause in the count of this direction.
-        ensures cause { OnErr result (Rose (read_faults self.old) (read_faults self.new)) }
-        ensures later { read_faults self.old ≤ read_faults self.new }
-        ensures other { write_faults self.new ≡ write_faults self.old };
+        ensures cause { OnErr result (ReadFails (at self.old) (at self.new)) }
+        ensures counts { OnlyReads (at self.old) (at self.new) };
 
     /// Sends the first bytes of `piece`, and says how many. To take none of a piece that is not
     /// empty is a fault. A send that fails sends nothing.
@@ -44,23 +38,22 @@ pub trait Link: Send {
         ensures count { IfOk result (λ count. count ≤ length piece.now) }
         ensures some { IfOk result (λ count. 0 < length piece.now → 0 < count) }
         ensures sent { IfOk result (λ count.
-            talk self.new ≡ with_sent (talk self.old) (take count piece.now)) }
-        ensures kept { OnErr result (talk self.new ≡ talk self.old) }
+            (at self.new).talk ≡ with_sent (at self.old).talk (take count piece.now)) }
+        ensures kept { OnErr result ((at self.new).talk ≡ (at self.old).talk) }
 
-        ensures cause { OnErr result (Rose (write_faults self.old) (write_faults self.new)) }
-        ensures later { write_faults self.old ≤ write_faults self.new }
-        ensures other { read_faults self.new ≡ read_faults self.old };
+        ensures cause { OnErr result (WriteFails (at self.old) (at self.new)) }
+        ensures counts { OnlyWrites (at self.old) (at self.new) };
 }
 
 /// Sends a whole text, in as many pieces as the link takes it in. After a fault a first part of the
 /// text has been sent, which is less than the whole: the fault met a piece that was not empty.
 pub fn send_all<L: Link>(link: &mut L, text: &[u8]) -> Result<(), Failed>
-    ensures sent { OnOk result (L.talk link.new ≡ with_sent (L.talk link.old) text.now) }
-    ensures prefix { OnErr result (SendsPrefix (L.talk link.old) (L.talk link.new) text.now) }
+    ensures sent { OnOk result ((L.at link.new).talk ≡ with_sent (L.at link.old).talk text.now) }
+    ensures prefix { OnErr result
+        (SendsPrefix (L.at link.old).talk (L.at link.new).talk text.now) }
 
-    ensures cause { OnErr result (Rose (L.write_faults link.old) (L.write_faults link.new)) }
-    ensures later { L.write_faults link.old ≤ L.write_faults link.new }
-    ensures other { L.read_faults link.new ≡ L.read_faults link.old }
+    ensures cause { OnErr result (WriteFails (L.at link.old) (L.at link.new)) }
+    ensures counts { OnlyWrites (L.at link.old) (L.at link.new) }
 {
     let mut sent = 0;
     while sent < text.len() {

@@ -2,7 +2,7 @@
 ghost use Rattle.std.specs.Prelude.{◌≡◌, ◌<◌, ◌≤◌, ◌||◌, Some, IfOk, OnOk, OnErr};
 ghost use Rattle.wire.specs.Causes.{Rose};
 ghost use Rattle.wire.specs.Knocks.{IfConn, conns_given, says_closed};
-ghost use Rattle.wire.specs.DoorInMemory.{Knocks, AreNewLinks, IsNewLink, talks_of, with_done};
+ghost use Rattle.wire.specs.DoorInMemory.{Knocks, AreNewLinks, IsNewLink, door_told, with_done};
 
 use crate::faults::{count_fault, is_planned};
 use crate::{Door, Failed, Knock, MemLink};
@@ -115,15 +115,7 @@ impl MemDoor {
 impl Door for MemDoor {
     type Conn = MemLink;
 
-    ghost talks = { talks_of };
-
-    ghost lent = { λ door. door.lent };
-
-    ghost closed = { λ door. door.closed };
-
-    ghost faults = { λ door. door.faults };
-
-    ghost port = { λ door. door.port };
+    ghost at = { door_told };
 
     fn knock(&mut self) -> Result<Knock<MemLink>, Failed>
         ensures answer { Knocks self.old self.new result }

@@ -98,11 +98,9 @@ fn copy_within(alloc: Global, bytes: &[u8], limit: usize) -> Result<Vec<u8>, Fil
 }
 
 impl Files for MemFiles {
-    ghost use Rattle.wire.specs.FilesInMemory.{content_of, faults_of, read_fails, with_read, with_fault_at};
+    ghost use Rattle.wire.specs.FilesInMemory.{content_of, faults_of, files_told, read_fails, with_read, with_fault_at};
 
-    ghost content = { λ memory. content_of memory.files };
-
-    ghost faults = { faults_of };
+    ghost at = { files_told };
 
     fn read_all(&mut self, alloc: Global, name: &str, limit: usize) -> Result<Vec<u8>, FileError>
         ensures within { IfOk result (λ bytes. vec_len bytes ≤ limit) }

@@ -4,7 +4,7 @@ ghost use Rattle.wire.specs.Causes.{one_more, Rose};
 ghost use Rattle.wire.specs.DoorInMemory.{IsNewLink};
 ghost use Rattle.wire.specs.Houses.{HasLentDoors, HasLentLink, IsNewPort, link_back, rose_once};
 ghost use Rattle.wire.specs.HouseInMemory.{AreGivenDoors, AreGone, AreNewDoors, IsNewDoor, IsNewLinkAt};
-ghost use Rattle.wire.specs.HouseInMemory.{call_fails, count_at, doors_at, doors_fail, first_at};
+ghost use Rattle.wire.specs.HouseInMemory.{call_fails, count_at, doors_at, doors_fail, first_at, house_told};
 ghost use Rattle.wire.specs.HouseInMemory.{with_asked, with_call, with_call_fault, with_doors, with_doors_fault, with_hung_up, with_shut};
 
 use crate::faults::{count_fault, is_planned};
@@ -212,17 +212,7 @@ impl House for MemHouse {
 
     type Door = MemDoor;
 
-    ghost asked = { λ house. house.asked };
-
-    ghost called = { λ house. house.called };
-
-    ghost lent = { λ house. Some house.lent };
-
-    ghost door_faults = { λ house. house.door_faults };
-
-    ghost read_faults = { λ house. house.read_faults };
-
-    ghost write_faults = { λ house. house.write_faults };
+    ghost at = { house_told };
 
     fn doors(&mut self, alloc: Global, port: u16, count: u32) -> Result<Vec<MemDoor>, HouseError>
         requires once { length self.old.asked ≤ 1 }

@@ -1,7 +1,7 @@
 //! A link in memory, with planned faults.
 ghost use Rattle.std.specs.Prelude.{◌≡◌, ◌<◌, ◌≤◌, ◌++◌, ◌↔◌, [], length, take, drop, IfOk, OnErr, IsErr, IsTrue};
 ghost use Rattle.wire.specs.SinkInMemory.{next_count, put_fails, with_piece, with_fault};
-ghost use Rattle.wire.specs.LinkInMemory.{talk_of, next_given, recv_fails, with_recv, with_read_fault, with_output};
+ghost use Rattle.wire.specs.LinkInMemory.{link_told, next_given, recv_fails, with_recv, with_read_fault, with_output};
 
 use crate::faults::{count_fault, cut_at, is_planned};
 use crate::unread::Unread;
@@ -97,11 +97,7 @@ impl MemLink {
 }
 
 impl Link for MemLink {
-    ghost talk = { talk_of };
-
-    ghost read_faults = { λ link. link.faults };
-
-    ghost write_faults = { λ link. link.output.faults };
+    ghost at = { link_told };
 
     fn recv(&mut self, room: &mut [u8]) -> Result<usize, Failed>
         requires room { 0 < length room.old }

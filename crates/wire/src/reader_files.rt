@@ -60,9 +60,10 @@ impl<O: Opener> ReaderFiles<O> {
 }
 
 impl<O: Opener> Files for ReaderFiles<O> {
-    ghost content = { λ files. O.content files.opener };
-
-    ghost faults = { λ files _. files.faults };
+    ghost at = { λ files. record {
+      content = O.content files.opener;
+      faults = λ _. files.faults;
+    } };
 
     fn read_all(&mut self, alloc: Global, name: &str, limit: usize) -> Result<Vec<u8>, FileError>
         ensures within { IfOk result (λ bytes. vec_len bytes ≤ limit) }

@@ -1,6 +1,6 @@
 //! A link that never fails and keeps nothing of what is sent.
 ghost use Rattle.std.specs.Prelude.{◌≡◌, ◌<◌, ◌++◌, Ok, min, length, take, drop, IfOk};
-ghost use Rattle.wire.specs.LinkInMemory.{talk_unsent, with_read_of};
+ghost use Rattle.wire.specs.LinkInMemory.{link_untold, with_read_of};
 
 use crate::unread::Unread;
 use crate::{Failed, Link};
@@ -42,11 +42,7 @@ impl SteadyLink {
 }
 
 impl Link for SteadyLink {
-    ghost talk = { talk_unsent };
-
-    ghost read_faults = { λ _. 0 };
-
-    ghost write_faults = { λ _. 0 };
+    ghost at = { link_untold };
 
     fn recv(&mut self, room: &mut [u8]) -> Result<usize, Failed>
         requires room { 0 < length room.old }

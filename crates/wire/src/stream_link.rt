@@ -45,11 +45,11 @@ impl<I: Read, O: Write> StreamLink<I, O> {
 }
 
 impl<I: Read + Send, O: Write + Send> Link for StreamLink<I, O> {
-    ghost talk = { λ _. None };
-
-    ghost read_faults = { λ link. link.faults };
-
-    ghost write_faults = { λ link. link.output.faults };
+    ghost at = { λ link. record {
+      talk = None;
+      read_faults = link.faults;
+      write_faults = link.output.faults;
+    } };
 
     fn recv(&mut self, room: &mut [u8]) -> Result<usize, Failed>
         requires room { 0 < length room.old }

@@ -53,11 +53,11 @@ impl<'a, R> TcpCall<'a, R> {
 }
 
 impl<'a, R: Clock + Eprint + Sync> Link for TcpCall<'a, R> {
-    ghost talk = { λ _. None };
-
-    ghost read_faults = { λ link. link.read_faults };
-
-    ghost write_faults = { λ link. link.write_faults };
+    ghost at = { λ link. record {
+      talk = None;
+      read_faults = link.read_faults;
+      write_faults = link.write_faults;
+    } };
 
     fn recv(&mut self, room: &mut [u8]) -> Result<usize, Failed> {
         let outcome = self.stream.receive(room);

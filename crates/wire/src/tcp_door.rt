@@ -1,6 +1,6 @@
 //! A door at a port of this machine.
-ghost use Rattle.std.specs.Prelude.{◌≡◌, false, None, Ok};
-ghost use Rattle.wire.specs.Knocks.{IfFound, is_closed};
+ghost use Rattle.std.specs.Prelude.{◌≡◌, false, Ok};
+ghost use Rattle.wire.specs.Knocks.{IfFound, is_closed, untold_door};
 
 use crate::faults::count_fault;
 use crate::front::Front;
@@ -62,15 +62,7 @@ fn welcome<'a, R: Clock + Eprint>(
 impl<'a, R: Clock + Eprint + Sync> Door for TcpDoor<'a, R> {
     type Conn = TcpLink<'a, R>;
 
-    ghost talks = { λ _. None };
-
-    ghost lent = { λ _. 0 };
-
-    ghost closed = { λ _. false };
-
-    ghost faults = { λ door. door.faults };
-
-    ghost port = { λ _. None };
+    ghost at = { λ door. untold_door door.faults };
 
     fn knock(&mut self) -> Result<Knock<TcpLink<'a, R>>, Failed> {
         match self.front.accept() {

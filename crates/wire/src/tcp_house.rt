@@ -1,6 +1,6 @@
 //! Doors at ports of this machine, and calls at them.
 ghost use Rattle.std.specs.Prelude.{◌≡◌, ◌≤◌, [], All, None, vec_len, IfOk};
-ghost use Rattle.wire.specs.Houses.{count_if, rose_once};
+ghost use Rattle.wire.specs.Houses.{count_if, rose_once, untold_house};
 
 use crate::faults::count_fault;
 use crate::front::{Front, Stopping};
@@ -147,17 +147,8 @@ where
 
     type Door = TcpDoor<'a, R>;
 
-    ghost asked = { λ house. house.asked.items };
-
-    ghost called = { λ house. house.called };
-
-    ghost lent = { λ _. None };
-
-    ghost door_faults = { λ house. house.door_faults };
-
-    ghost read_faults = { λ house. house.read_faults };
-
-    ghost write_faults = { λ house. house.write_faults };
+    ghost at = { λ house. untold_house
+        house.asked.items house.called house.door_faults house.read_faults house.write_faults };
 
     fn doors(
         &mut self,

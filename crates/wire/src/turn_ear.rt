@@ -45,9 +45,7 @@ impl TurnEar {
 }
 
 impl Ear for TurnEar {
-    ghost rung = { λ ear. ear.rung };
-
-    ghost over = { λ ear. ear.over };
+    ghost at = { λ ear. record { rung = ear.rung; over = ear.over } };
 
     fn wait<R: Wait>(&mut self, _rt: &R) -> Ring
         ensures answer { result ≡ next_ring self.old }
