@@ -1,10 +1,10 @@
 -- Which version a pass holds while a feed goes on.
-use Rattle.std.proofs.Common.{◌≡◌, ◌⊎◌, Bool, true, false, IsTrue, IsFalse, inl, inr, refl, sym, subst, ap, ◌∙◌}
+use Rattle.std.proofs.Common.{Bool, true, false, IsTrue, IsFalse, inl, inr, refl, ap, ◌∙◌}
 use Rattle.versions.specs.Databases.{Versioned}
 use Rattle.path_core.specs.Passes.{BeginsWith}
 use Rattle.path_core.proofs.Passing.{begins_itself, begins_then}
 use Rattle.path_board.specs.declared.pass.Pass.{Pass}
-use Rattle.path_board.specs.Passes.{held_of, seen_of, IsUpToDate, KeepsHeld, KeepsOlder}
+use Rattle.path_board.specs.Passes.{seen_of, IsUpToDate, KeepsHeld, KeepsOlder}
 use Rattle.feed_node.specs.Looking.{HoldsSince}
 
 pub since_itself : (pass : Pass) → HoldsSince pass pass

@@ -5,8 +5,7 @@ use Rattle.path_core.specs.declared.entry.Entry.{Entry}
 use Rattle.follow_proto.specs.declared.TheConstants.{ASK_SIZE}
 use Rattle.follow_proto.specs.declared.kinds.TheConstants.{ASK}
 use Rattle.follow_proto.specs.Feeds.{start_bytes}
-use Rattle.wire.specs.Causes.{Rose}
-use Rattle.wire.specs.Talks.{Talk}
+use Rattle.wire.specs.Talks.{Talk, AtLink, ReadFails, WriteFails}
 use Rattle.path_client.specs.Taking.{NothingLeft}
 use Rattle.path_client.specs.Asking.{IsFirstPart, Passes}
 use Rattle.path_board.specs.declared.pass.Pass.{Pass}
@@ -70,7 +69,7 @@ abbrev pub Feeds : Map → Sight → Option Talk → Result FeedEnded FeedFault 
 Feeds start from before result to after = FeedsBehind (start_bytes start) from before result to after
 
 -- a fault of the link has its cause in the count of its direction
-abbrev pub HasCause : ℕ → ℕ → ℕ → ℕ → FeedFault → Type 0
-HasCause read_old read_new write_old write_new ReadFault = Rose read_old read_new
-HasCause read_old read_new write_old write_new WriteFault = Rose write_old write_new
-HasCause _ _ _ _ _ = Unit {0}
+abbrev pub HasCause : AtLink → AtLink → FeedFault → Type 0
+HasCause before after ReadFault = ReadFails before after
+HasCause before after WriteFault = WriteFails before after
+HasCause before after _ = Unit {0}

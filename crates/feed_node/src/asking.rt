@@ -3,10 +3,10 @@
 ghost use Rattle.std.specs.Prelude.{◌≡◌, ◌<◌, ◌≤◌, length, take, IfErr, IfOk, IsErrOf, IsFalse, IsTrue, MatchOption, OnErr};
 ghost use Rattle.follow_proto.specs.declared.TheConstants.{ASK_SIZE};
 ghost use Rattle.follow_proto.specs.Feeds.{ask_bytes};
-ghost use Rattle.wire.specs.Causes.{Rose};
 ghost use Rattle.path_client.specs.Taking.{NothingLeft, Takes};
 ghost use Rattle.feed_node.specs.Feeding.{IsBegun};
 ghost use Rattle.feed_node.specs.Asking.{EndsBetween, Judges, LacksAsk, LacksRest};
+ghost use Rattle.wire.specs.Talks.{OnlyReads, ReadFails};
 
 use crate::feeding::FeedFault;
 use follow_proto::kinds::ASK;
@@ -20,13 +20,12 @@ use wire::{Failed, Link};
 /// `Torn` where the input ends inside an ask, `BadAsk` where the next byte is not that of one, and `ReadFault`.
 pub(crate) fn next_ask<L: Link>(link: &mut L) -> Result<Option<Ask>, FeedFault>
     ensures ask { IfOk result (λ found. MatchOption found
-        (EndsBetween (L.talk link.old) (L.talk link.new))
-        (λ ask. Takes (L.talk link.old) (L.talk link.new) (ask_bytes ask.known))) }
-    ensures none { IfErr result (LacksAsk (L.talk link.old) (L.talk link.new)) }
+        (EndsBetween (L.at link.old).talk (L.at link.new).talk)
+        (λ ask. Takes (L.at link.old).talk (L.at link.new).talk (ask_bytes ask.known))) }
+    ensures none { IfErr result (LacksAsk (L.at link.old).talk (L.at link.new).talk) }
     ensures cause { IsErrOf result FeedFault.ReadFault
-        → Rose (L.read_faults link.old) (L.read_faults link.new) }
-    ensures reads { L.read_faults link.old ≤ L.read_faults link.new }
-    ensures writes { L.write_faults link.new ≡ L.write_faults link.old }
+        → ReadFails (L.at link.old) (L.at link.new) }
+    ensures counts { OnlyReads (L.at link.old) (L.at link.new) }
 {
     let mut room = [0; ASK_SIZE];
     match fill(link, room.as_mut_slice()) {
@@ -46,13 +45,12 @@ fn fill<L: Link>(link: &mut L, room: &mut [u8]) -> Result<usize, Failed>
     ensures len { length room.new ≡ ASK_SIZE }
     ensures within { IfOk result (λ have. have ≤ ASK_SIZE) }
     ensures takes { IfOk result (λ have.
-        Takes (L.talk link.old) (L.talk link.new) (take have room.new)) }
+        Takes (L.at link.old).talk (L.at link.new).talk (take have room.new)) }
     ensures end { IfOk result (λ have.
-        IsBegun (take have room.new) → NothingLeft (L.talk link.new)) }
-    ensures part { OnErr result (LacksRest (L.talk link.old) (L.talk link.new)) }
-    ensures cause { OnErr result (Rose (L.read_faults link.old) (L.read_faults link.new)) }
-    ensures reads { L.read_faults link.old ≤ L.read_faults link.new }
-    ensures writes { L.write_faults link.new ≡ L.write_faults link.old }
+        IsBegun (take have room.new) → NothingLeft (L.at link.new).talk) }
+    ensures part { OnErr result (LacksRest (L.at link.old).talk (L.at link.new).talk) }
+    ensures cause { OnErr result (ReadFails (L.at link.old) (L.at link.new)) }
+    ensures counts { OnlyReads (L.at link.old) (L.at link.new) }
 {
     let mut have = 0;
     while is_begun(&room[..have]) {
@@ -86,12 +84,11 @@ fn take_some<L: Link>(link: &mut L, room: &mut [u8]) -> Result<usize, Failed>
     requires { 0 < length room.old }
     ensures count { IfOk result (λ count. count ≤ length room.old) }
     ensures taken { IfOk result (λ count.
-        Takes (L.talk link.old) (L.talk link.new) (take count room.new)) }
-    ensures end { IfOk result (λ count. count ≡ 0 → NothingLeft (L.talk link.new)) }
-    ensures kept { OnErr result (L.talk link.new ≡ L.talk link.old) }
-    ensures cause { OnErr result (Rose (L.read_faults link.old) (L.read_faults link.new)) }
-    ensures reads { L.read_faults link.old ≤ L.read_faults link.new }
-    ensures writes { L.write_faults link.new ≡ L.write_faults link.old }
+        Takes (L.at link.old).talk (L.at link.new).talk (take count room.new)) }
+    ensures end { IfOk result (λ count. count ≡ 0 → NothingLeft (L.at link.new).talk) }
+    ensures kept { OnErr result ((L.at link.new).talk ≡ (L.at link.old).talk) }
+    ensures cause { OnErr result (ReadFails (L.at link.old) (L.at link.new)) }
+    ensures counts { OnlyReads (L.at link.old) (L.at link.new) }
 {
     link.recv(room)
 }

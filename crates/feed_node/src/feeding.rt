@@ -4,10 +4,10 @@ ghost use Rattle.std.specs.Prelude.{◌≡◌, ◌≤◌, [], IfErr, OnErr, OnOk
 ghost use Rattle.path_board.specs.Passes.{base_by, seen_of, IsPassOf, SamePass};
 ghost use Rattle.path_board.specs.SharedBoards.{board_id};
 ghost use Rattle.path_core.specs.Passes.{OthersAdd};
-ghost use Rattle.wire.specs.Causes.{Rose};
 ghost use Rattle.feed_node.specs.Feeding.{sight_of, Feeds, FeedsBehind, HasCause};
 ghost use Rattle.feed_node.specs.Looking.{HoldsSince, IsBacklog};
 ghost use Rattle.feed_node.specs.Turns.{Steps, Tells};
+ghost use Rattle.wire.specs.Talks.{IsLater, OnlyWrites, WriteFails};
 
 use crate::asking::next_ask;
 use crate::backlog::{Backlog, Source, find};
@@ -75,12 +75,10 @@ pub fn feed_link<L: Link, R: Wait>(
     ensures same { SamePass pass.old pass.new }
     ensures none { OthersAdd pass.old.number (seen_of pass.old) (seen_of pass.new) }
     ensures held { HoldsSince pass.old pass.new }
-    ensures feeds { Feeds (base_by pass.old).start (sight_of pass.old) (L.talk link.old) result
-        (sight_of pass.new) (L.talk link.new) }
-    ensures cause { IfErr result (HasCause (L.read_faults link.old) (L.read_faults link.new)
-        (L.write_faults link.old) (L.write_faults link.new)) }
-    ensures reads { L.read_faults link.old ≤ L.read_faults link.new }
-    ensures writes { L.write_faults link.old ≤ L.write_faults link.new }
+    ensures feeds { Feeds (base_by pass.old).start (sight_of pass.old) (L.at link.old).talk result
+        (sight_of pass.new) (L.at link.new).talk }
+    ensures cause { IfErr result (HasCause (L.at link.old) (L.at link.new)) }
+    ensures counts { IsLater (L.at link.old) (L.at link.new) }
 {
     let source = Source { rt, alloc, board };
     let mut parcel = Parcel::new();
@@ -106,12 +104,10 @@ fn answer_asks<L: Link, R: Wait>(
     ensures same { SamePass pass.old pass.new }
     ensures none { OthersAdd pass.old.number (seen_of pass.old) (seen_of pass.new) }
     ensures held { HoldsSince pass.old pass.new }
-    ensures feeds { FeedsBehind [] (sight_of pass.old) (L.talk link.old) result (sight_of pass.new)
-        (L.talk link.new) }
-    ensures cause { IfErr result (HasCause (L.read_faults link.old) (L.read_faults link.new)
-        (L.write_faults link.old) (L.write_faults link.new)) }
-    ensures reads { L.read_faults link.old ≤ L.read_faults link.new }
-    ensures writes { L.write_faults link.old ≤ L.write_faults link.new }
+    ensures feeds { FeedsBehind [] (sight_of pass.old) (L.at link.old).talk result (sight_of pass.new)
+        (L.at link.new).talk }
+    ensures cause { IfErr result (HasCause (L.at link.old) (L.at link.new)) }
+    ensures counts { IsLater (L.at link.old) (L.at link.new) }
 {
     let mut backlog = Backlog::none(source.alloc);
     for _ in 0..MAX_ASKS {
@@ -144,12 +140,10 @@ fn answer_next<L: Link, R: Wait>(
     ensures held { HoldsSince pass.old pass.new }
     ensures backlog { IsBacklog (seen_of pass.new) backlog.new.known backlog.new.edits.edits }
     ensures parcel { OnOk result (parcel.new ≡ []) }
-    ensures steps { Steps (sight_of pass.old) (L.talk link.old) result (sight_of pass.new)
-        (L.talk link.new) }
-    ensures cause { IfErr result (HasCause (L.read_faults link.old) (L.read_faults link.new)
-        (L.write_faults link.old) (L.write_faults link.new)) }
-    ensures reads { L.read_faults link.old ≤ L.read_faults link.new }
-    ensures writes { L.write_faults link.old ≤ L.write_faults link.new }
+    ensures steps { Steps (sight_of pass.old) (L.at link.old).talk result (sight_of pass.new)
+        (L.at link.new).talk }
+    ensures cause { IfErr result (HasCause (L.at link.old) (L.at link.new)) }
+    ensures counts { IsLater (L.at link.old) (L.at link.new) }
 {
     let Some(ask) = next_ask(link)? else {
         return Ok(false);
@@ -181,11 +175,10 @@ fn answer<L: Link, R: Wait>(
     ensures held { HoldsSince pass.old pass.new }
     ensures backlog { IsBacklog (seen_of pass.new) backlog.new.known backlog.new.edits.edits }
     ensures parcel { OnOk result (parcel.new ≡ []) }
-    ensures tells { Tells (sight_of pass.old) known (L.talk link.old) result (sight_of pass.new)
-        (L.talk link.new) }
-    ensures cause { OnErr result (Rose (L.write_faults link.old) (L.write_faults link.new)) }
-    ensures writes { L.write_faults link.old ≤ L.write_faults link.new }
-    ensures reads { L.read_faults link.new ≡ L.read_faults link.old }
+    ensures tells { Tells (sight_of pass.old) known (L.at link.old).talk result (sight_of pass.new)
+        (L.at link.new).talk }
+    ensures cause { OnErr result (WriteFails (L.at link.old) (L.at link.new)) }
+    ensures counts { OnlyWrites (L.at link.old) (L.at link.new) }
 {
     let found = find(source, pass, backlog, known);
     send_found(link, parcel, known, &backlog.edits, &found)

@@ -7,8 +7,7 @@ ghost use Rattle.moves.specs.declared.Terrain.TheVariants.{Blocked};
 ghost use Rattle.query_proto.specs.Frames.{terrain_byte};
 ghost use Rattle.follow_proto.specs.declared.TheConstants.{MAX_SENT};
 ghost use Rattle.follow_proto.specs.Feeds.{all_edit_bytes, edit_bytes, edits_bytes, message_bytes, start_bytes};
-ghost use Rattle.wire.specs.Causes.{Rose};
-ghost use Rattle.wire.specs.Talks.{SendsPrefix, with_sent};
+ghost use Rattle.wire.specs.Talks.{SendsPrefix, with_sent, OnlyWrites, WriteFails};
 ghost use Rattle.feed_node.specs.declared.parcel.TheConstants.{PARCEL};
 ghost use Rattle.feed_node.specs.Looking.{IsInside as IsInBacklog, message_of};
 ghost use Rattle.feed_node.specs.Sending.{SendsSome, Writes};
@@ -33,12 +32,11 @@ pub(crate) fn send_start<L: Link>(
     requires { parcel.old ≡ [] }
     ensures none { OnOk result (parcel.new ≡ []) }
     ensures sent { OnOk result
-        (L.talk link.new ≡ with_sent (L.talk link.old) (start_bytes grid.now)) }
+        ((L.at link.new).talk ≡ with_sent (L.at link.old).talk (start_bytes grid.now)) }
     ensures prefix { OnErr result
-        (SendsPrefix (L.talk link.old) (L.talk link.new) (start_bytes grid.now)) }
-    ensures cause { OnErr result (Rose (L.write_faults link.old) (L.write_faults link.new)) }
-    ensures writes { L.write_faults link.old ≤ L.write_faults link.new }
-    ensures reads { L.read_faults link.new ≡ L.read_faults link.old }
+        (SendsPrefix (L.at link.old).talk (L.at link.new).talk (start_bytes grid.now)) }
+    ensures cause { OnErr result (WriteFails (L.at link.old) (L.at link.new)) }
+    ensures counts { OnlyWrites (L.at link.old) (L.at link.new) }
 {
     put_bytes(link, parcel, &start_head(grid.width(), grid.height()))?;
     put_ground(link, parcel, grid)?;
@@ -60,13 +58,12 @@ pub(crate) fn send_found<L: Link>(
     requires none { parcel.old ≡ [] }
     requires inside { IsInBacklog edits.now.edits found.now }
     ensures none { OnOk result (parcel.new ≡ []) }
-    ensures sent { OnOk result (L.talk link.new ≡ with_sent (L.talk link.old)
+    ensures sent { OnOk result ((L.at link.new).talk ≡ with_sent (L.at link.old).talk
         (message_bytes (message_of known edits.now.edits found.now))) }
-    ensures prefix { OnErr result (SendsPrefix (L.talk link.old) (L.talk link.new)
+    ensures prefix { OnErr result (SendsPrefix (L.at link.old).talk (L.at link.new).talk
         (message_bytes (message_of known edits.now.edits found.now))) }
-    ensures cause { OnErr result (Rose (L.write_faults link.old) (L.write_faults link.new)) }
-    ensures writes { L.write_faults link.old ≤ L.write_faults link.new }
-    ensures reads { L.read_faults link.new ≡ L.read_faults link.old }
+    ensures cause { OnErr result (WriteFails (L.at link.old) (L.at link.new)) }
+    ensures counts { OnlyWrites (L.at link.old) (L.at link.new) }
 {
     match found {
         Finding::Ahead { accepted } => send_all(link, &ahead(*accepted)),
@@ -90,13 +87,12 @@ fn send_edits<L: Link>(
     requires none { parcel.old ≡ [] }
     requires inside { first ≤ length edits.now.edits }
     ensures none { OnOk result (parcel.new ≡ []) }
-    ensures sent { OnOk result (L.talk link.new ≡ with_sent (L.talk link.old)
+    ensures sent { OnOk result ((L.at link.new).talk ≡ with_sent (L.at link.old).talk
         (edits_bytes known (take MAX_SENT (drop first edits.now.edits)))) }
-    ensures prefix { OnErr result (SendsPrefix (L.talk link.old) (L.talk link.new)
+    ensures prefix { OnErr result (SendsPrefix (L.at link.old).talk (L.at link.new).talk
         (edits_bytes known (take MAX_SENT (drop first edits.now.edits)))) }
-    ensures cause { OnErr result (Rose (L.write_faults link.old) (L.write_faults link.new)) }
-    ensures writes { L.write_faults link.old ≤ L.write_faults link.new }
-    ensures reads { L.read_faults link.new ≡ L.read_faults link.old }
+    ensures cause { OnErr result (WriteFails (L.at link.old) (L.at link.new)) }
+    ensures counts { OnlyWrites (L.at link.old) (L.at link.new) }
 {
     let head = edits_head_at(known, edits, first);
     put_bytes(link, parcel, &head.bytes)?;
@@ -110,13 +106,12 @@ fn send_edits<L: Link>(
 ///
 /// `Failed` where the link failed.
 fn put_ground<L: Link>(link: &mut L, parcel: &mut Parcel, grid: &Grid) -> Result<(), Failed>
-    ensures put { OnOk result (Writes (L.talk link.old) (L.talk link.new) parcel.old parcel.new
+    ensures put { OnOk result (Writes (L.at link.old).talk (L.at link.new).talk parcel.old parcel.new
         (map terrain_byte grid.now.terrain)) }
-    ensures prefix { OnErr result (SendsSome (L.talk link.old) (L.talk link.new) parcel.old
+    ensures prefix { OnErr result (SendsSome (L.at link.old).talk (L.at link.new).talk parcel.old
         (map terrain_byte grid.now.terrain)) }
-    ensures cause { OnErr result (Rose (L.write_faults link.old) (L.write_faults link.new)) }
-    ensures writes { L.write_faults link.old ≤ L.write_faults link.new }
-    ensures reads { L.read_faults link.new ≡ L.read_faults link.old }
+    ensures cause { OnErr result (WriteFails (L.at link.old) (L.at link.new)) }
+    ensures counts { OnlyWrites (L.at link.old) (L.at link.new) }
 {
     for place in 0..grid.width() * grid.height() {
         put_bytes(link, parcel, &[byte_at(grid, place)])?;
@@ -158,13 +153,12 @@ fn put_edits<L: Link>(
     count: u32,
 ) -> Result<(), Failed>
     requires { first + count ≤ length edits.now.edits }
-    ensures put { OnOk result (Writes (L.talk link.old) (L.talk link.new) parcel.old parcel.new
+    ensures put { OnOk result (Writes (L.at link.old).talk (L.at link.new).talk parcel.old parcel.new
         (all_edit_bytes (take count (drop first edits.now.edits)))) }
-    ensures prefix { OnErr result (SendsSome (L.talk link.old) (L.talk link.new) parcel.old
+    ensures prefix { OnErr result (SendsSome (L.at link.old).talk (L.at link.new).talk parcel.old
         (all_edit_bytes (take count (drop first edits.now.edits)))) }
-    ensures cause { OnErr result (Rose (L.write_faults link.old) (L.write_faults link.new)) }
-    ensures writes { L.write_faults link.old ≤ L.write_faults link.new }
-    ensures reads { L.read_faults link.new ≡ L.read_faults link.old }
+    ensures cause { OnErr result (WriteFails (L.at link.old) (L.at link.new)) }
+    ensures counts { OnlyWrites (L.at link.old) (L.at link.new) }
 {
     // That each place fits its type is known from here.
     let _len = edits.len();
@@ -185,13 +179,12 @@ fn put_edit<L: Link>(
     changes: &[CellChange],
 ) -> Result<(), Failed>
     requires { length changes.now ≤ MAX_CHANGES }
-    ensures put { OnOk result (Writes (L.talk link.old) (L.talk link.new) parcel.old parcel.new
+    ensures put { OnOk result (Writes (L.at link.old).talk (L.at link.new).talk parcel.old parcel.new
         (edit_bytes changes.now)) }
-    ensures prefix { OnErr result (SendsSome (L.talk link.old) (L.talk link.new) parcel.old
+    ensures prefix { OnErr result (SendsSome (L.at link.old).talk (L.at link.new).talk parcel.old
         (edit_bytes changes.now)) }
-    ensures cause { OnErr result (Rose (L.write_faults link.old) (L.write_faults link.new)) }
-    ensures writes { L.write_faults link.old ≤ L.write_faults link.new }
-    ensures reads { L.read_faults link.new ≡ L.read_faults link.old }
+    ensures cause { OnErr result (WriteFails (L.at link.old) (L.at link.new)) }
+    ensures counts { OnlyWrites (L.at link.old) (L.at link.new) }
 {
     make_room(link, parcel, 1 + 5 * changes.len())?;
     parcel.push_edit(changes);
@@ -205,13 +198,12 @@ fn put_edit<L: Link>(
 /// `Failed` where the link failed.
 fn put_bytes<L: Link>(link: &mut L, parcel: &mut Parcel, bytes: &[u8]) -> Result<(), Failed>
     requires { length bytes.now ≤ PARCEL }
-    ensures put { OnOk result (Writes (L.talk link.old) (L.talk link.new) parcel.old parcel.new
+    ensures put { OnOk result (Writes (L.at link.old).talk (L.at link.new).talk parcel.old parcel.new
         bytes.now) }
-    ensures prefix { OnErr result (SendsSome (L.talk link.old) (L.talk link.new) parcel.old
+    ensures prefix { OnErr result (SendsSome (L.at link.old).talk (L.at link.new).talk parcel.old
         bytes.now) }
-    ensures cause { OnErr result (Rose (L.write_faults link.old) (L.write_faults link.new)) }
-    ensures writes { L.write_faults link.old ≤ L.write_faults link.new }
-    ensures reads { L.read_faults link.new ≡ L.read_faults link.old }
+    ensures cause { OnErr result (WriteFails (L.at link.old) (L.at link.new)) }
+    ensures counts { OnlyWrites (L.at link.old) (L.at link.new) }
 {
     make_room(link, parcel, bytes.len())?;
     parcel.push(bytes);
@@ -226,12 +218,11 @@ fn put_bytes<L: Link>(link: &mut L, parcel: &mut Parcel, bytes: &[u8]) -> Result
 fn make_room<L: Link>(link: &mut L, parcel: &mut Parcel, count: usize) -> Result<(), Failed>
     requires { count ≤ PARCEL }
     ensures room { OnOk result (length parcel.new + count ≤ PARCEL) }
-    ensures put { OnOk result (Writes (L.talk link.old) (L.talk link.new) parcel.old parcel.new
+    ensures put { OnOk result (Writes (L.at link.old).talk (L.at link.new).talk parcel.old parcel.new
         []) }
-    ensures prefix { OnErr result (SendsPrefix (L.talk link.old) (L.talk link.new) parcel.old) }
-    ensures cause { OnErr result (Rose (L.write_faults link.old) (L.write_faults link.new)) }
-    ensures writes { L.write_faults link.old ≤ L.write_faults link.new }
-    ensures reads { L.read_faults link.new ≡ L.read_faults link.old }
+    ensures prefix { OnErr result (SendsPrefix (L.at link.old).talk (L.at link.new).talk parcel.old) }
+    ensures cause { OnErr result (WriteFails (L.at link.old) (L.at link.new)) }
+    ensures counts { OnlyWrites (L.at link.old) (L.at link.new) }
 {
     if parcel.has_room(count) {
         return Ok(());
@@ -246,11 +237,10 @@ fn make_room<L: Link>(link: &mut L, parcel: &mut Parcel, count: usize) -> Result
 /// `Failed` where the link failed before all of it was sent.
 fn flush<L: Link>(link: &mut L, parcel: &mut Parcel) -> Result<(), Failed>
     ensures none { OnOk result (parcel.new ≡ []) }
-    ensures sent { OnOk result (L.talk link.new ≡ with_sent (L.talk link.old) parcel.old) }
-    ensures prefix { OnErr result (SendsPrefix (L.talk link.old) (L.talk link.new) parcel.old) }
-    ensures cause { OnErr result (Rose (L.write_faults link.old) (L.write_faults link.new)) }
-    ensures writes { L.write_faults link.old ≤ L.write_faults link.new }
-    ensures reads { L.read_faults link.new ≡ L.read_faults link.old }
+    ensures sent { OnOk result ((L.at link.new).talk ≡ with_sent (L.at link.old).talk parcel.old) }
+    ensures prefix { OnErr result (SendsPrefix (L.at link.old).talk (L.at link.new).talk parcel.old) }
+    ensures cause { OnErr result (WriteFails (L.at link.old) (L.at link.new)) }
+    ensures counts { OnlyWrites (L.at link.old) (L.at link.new) }
 {
     send_all(link, parcel.as_slice())?;
     parcel.clear();

@@ -1,8 +1,7 @@
 //! A follower at a link: it takes the map, and then asks and takes a message, round by round.
 
 ghost use Rattle.std.specs.Prelude.{◌≡◌, ◌<◌, ◌≤◌, [], None, length, take, IfErr, IfOk, IsErrOf, OnErr, OnOk};
-ghost use Rattle.wire.specs.Causes.{Rose};
-ghost use Rattle.wire.specs.Talks.{SendsPrefix, with_sent};
+ghost use Rattle.wire.specs.Talks.{SendsPrefix, with_sent, IsLater, OnlyReads, OnlyWrites, ReadFails, WriteFails};
 ghost use Rattle.path_client.specs.Taking.{NothingLeft, Takes};
 ghost use Rattle.follow_node.specs.Streams.{new_following, Took};
 ghost use Rattle.follow_node.specs.Links.{ask_of, FailsRound, FailsRounds, FollowsLink, GivesUp, GoesRound, GoesRounds, HeedsFrom};
@@ -50,14 +49,13 @@ pub fn follow_link<L: Link>(
     rounds: u32,
 ) -> Result<(), LinkFault>
     requires new { follower.old ≡ new_following follower.old.order }
-    ensures follows { FollowsLink rounds follower.old (L.talk link.old) result follower.new
-        (L.talk link.new) }
+    ensures follows { FollowsLink rounds follower.old (L.at link.old).talk result follower.new
+        (L.at link.new).talk }
     ensures read_cause { IsErrOf result LinkFault.ReadFault
-        → Rose (L.read_faults link.old) (L.read_faults link.new) }
+        → ReadFails (L.at link.old) (L.at link.new) }
     ensures write_cause { IsErrOf result LinkFault.WriteFault
-        → Rose (L.write_faults link.old) (L.write_faults link.new) }
-    ensures reads { L.read_faults link.old ≤ L.read_faults link.new }
-    ensures writes { L.write_faults link.old ≤ L.write_faults link.new }
+        → WriteFails (L.at link.old) (L.at link.new) }
+    ensures counts { IsLater (L.at link.old) (L.at link.new) }
 {
     let mut room = [0; PIECE];
     match take_message(follower, link, room.as_mut_slice()) {
@@ -80,16 +78,15 @@ fn follow_rounds<L: Link>(
     requires even { follower.old.held ≡ [] }
     requires open { follower.old.fault ≡ None }
     requires room { 0 < length room.old }
-    ensures all { OnOk result (GoesRounds rounds follower.old (L.talk link.old) follower.new
-        (L.talk link.new)) }
-    ensures some { IfErr result (λ fault. FailsRounds rounds follower.old (L.talk link.old) fault
-        follower.new (L.talk link.new)) }
+    ensures all { OnOk result (GoesRounds rounds follower.old (L.at link.old).talk follower.new
+        (L.at link.new).talk) }
+    ensures some { IfErr result (λ fault. FailsRounds rounds follower.old (L.at link.old).talk fault
+        follower.new (L.at link.new).talk) }
     ensures read_cause { IsErrOf result LinkFault.ReadFault
-        → Rose (L.read_faults link.old) (L.read_faults link.new) }
+        → ReadFails (L.at link.old) (L.at link.new) }
     ensures write_cause { IsErrOf result LinkFault.WriteFault
-        → Rose (L.write_faults link.old) (L.write_faults link.new) }
-    ensures reads { L.read_faults link.old ≤ L.read_faults link.new }
-    ensures writes { L.write_faults link.old ≤ L.write_faults link.new }
+        → WriteFails (L.at link.old) (L.at link.new) }
+    ensures counts { IsLater (L.at link.old) (L.at link.new) }
 {
     for _ in 0..rounds {
         match follow_round(follower, link, room) {
@@ -116,16 +113,15 @@ fn follow_round<L: Link>(
     ensures room { length room.new ≡ length room.old }
     ensures even { OnOk result (follower.new.held ≡ []) }
     ensures open { OnOk result (follower.new.fault ≡ None) }
-    ensures goes { OnOk result (GoesRound follower.old (L.talk link.old) follower.new
-        (L.talk link.new)) }
-    ensures fails { IfErr result (λ fault. FailsRound follower.old (L.talk link.old) fault
-        follower.new (L.talk link.new)) }
+    ensures goes { OnOk result (GoesRound follower.old (L.at link.old).talk follower.new
+        (L.at link.new).talk) }
+    ensures fails { IfErr result (λ fault. FailsRound follower.old (L.at link.old).talk fault
+        follower.new (L.at link.new).talk) }
     ensures read_cause { IsErrOf result LinkFault.ReadFault
-        → Rose (L.read_faults link.old) (L.read_faults link.new) }
+        → ReadFails (L.at link.old) (L.at link.new) }
     ensures write_cause { IsErrOf result LinkFault.WriteFault
-        → Rose (L.write_faults link.old) (L.write_faults link.new) }
-    ensures reads { L.read_faults link.old ≤ L.read_faults link.new }
-    ensures writes { L.write_faults link.old ≤ L.write_faults link.new }
+        → WriteFails (L.at link.old) (L.at link.new) }
+    ensures counts { IsLater (L.at link.old) (L.at link.new) }
 {
     match send_ask(follower, link) {
         Ok(()) => take_message(follower, link, room),
@@ -139,11 +135,10 @@ fn follow_round<L: Link>(
 ///
 /// `Failed` where the link failed before all of it was sent.
 fn send_ask<L: Link>(follower: &Follower, link: &mut L) -> Result<(), Failed>
-    ensures sent { OnOk result (L.talk link.new ≡ with_sent (L.talk link.old) (ask_of follower.now)) }
-    ensures part { OnErr result (SendsPrefix (L.talk link.old) (L.talk link.new) (ask_of follower.now)) }
-    ensures cause { OnErr result (Rose (L.write_faults link.old) (L.write_faults link.new)) }
-    ensures writes { L.write_faults link.old ≤ L.write_faults link.new }
-    ensures reads { L.read_faults link.new ≡ L.read_faults link.old }
+    ensures sent { OnOk result ((L.at link.new).talk ≡ with_sent (L.at link.old).talk (ask_of follower.now)) }
+    ensures part { OnErr result (SendsPrefix (L.at link.old).talk (L.at link.new).talk (ask_of follower.now)) }
+    ensures cause { OnErr result (WriteFails (L.at link.old) (L.at link.new)) }
+    ensures counts { OnlyWrites (L.at link.old) (L.at link.new) }
 {
     send_all(link, &follower.ask())
 }
@@ -164,14 +159,13 @@ fn take_message<L: Link>(
     ensures room { length room.new ≡ length room.old }
     ensures even { OnOk result (follower.new.held ≡ []) }
     ensures open { OnOk result (follower.new.fault ≡ None) }
-    ensures heeds { OnOk result (HeedsFrom follower.old (L.talk link.old) follower.new
-        (L.talk link.new)) }
-    ensures stops { IfErr result (λ fault. StopsFrom follower.old (L.talk link.old) fault
-        follower.new (L.talk link.new)) }
+    ensures heeds { OnOk result (HeedsFrom follower.old (L.at link.old).talk follower.new
+        (L.at link.new).talk) }
+    ensures stops { IfErr result (λ fault. StopsFrom follower.old (L.at link.old).talk fault
+        follower.new (L.at link.new).talk) }
     ensures cause { IsErrOf result LinkFault.ReadFault
-        → Rose (L.read_faults link.old) (L.read_faults link.new) }
-    ensures reads { L.read_faults link.old ≤ L.read_faults link.new }
-    ensures writes { L.write_faults link.new ≡ L.write_faults link.old }
+        → ReadFails (L.at link.old) (L.at link.new) }
+    ensures counts { OnlyReads (L.at link.old) (L.at link.new) }
 {
     let mut wanted = SIZE_BYTES;
     while wanted > 0 {
@@ -199,14 +193,13 @@ fn take_piece<L: Link>(
     requires wanted { 0 < wanted }
     ensures room { length room.new ≡ length room.old }
     ensures open { OnOk result (follower.new.fault ≡ None) }
-    ensures piece { OnOk result (TakesPiece wanted follower.old (L.talk link.old) follower.new
-        (L.talk link.new)) }
+    ensures piece { OnOk result (TakesPiece wanted follower.old (L.at link.old).talk follower.new
+        (L.at link.new).talk) }
     ensures none { IfErr result (λ fault. LacksPiece wanted (length follower.old.held) follower.old
-        (L.talk link.old) fault follower.new (L.talk link.new)) }
+        (L.at link.old).talk fault follower.new (L.at link.new).talk) }
     ensures cause { IsErrOf result LinkFault.ReadFault
-        → Rose (L.read_faults link.old) (L.read_faults link.new) }
-    ensures reads { L.read_faults link.old ≤ L.read_faults link.new }
-    ensures writes { L.write_faults link.new ≡ L.write_faults link.old }
+        → ReadFails (L.at link.old) (L.at link.new) }
+    ensures counts { OnlyReads (L.at link.old) (L.at link.new) }
 {
     let most = wanted.min(room.len());
     match take_some(link, &mut room[..most]) {
@@ -244,12 +237,11 @@ fn take_some<L: Link>(link: &mut L, room: &mut [u8]) -> Result<usize, Failed>
     requires { 0 < length room.old }
     ensures count { IfOk result (λ count. count ≤ length room.old) }
     ensures taken { IfOk result (λ count.
-        Takes (L.talk link.old) (L.talk link.new) (take count room.new)) }
-    ensures end { IfOk result (λ count. count ≡ 0 → NothingLeft (L.talk link.new)) }
-    ensures kept { OnErr result (L.talk link.new ≡ L.talk link.old) }
-    ensures cause { OnErr result (Rose (L.read_faults link.old) (L.read_faults link.new)) }
-    ensures reads { L.read_faults link.old ≤ L.read_faults link.new }
-    ensures writes { L.write_faults link.new ≡ L.write_faults link.old }
+        Takes (L.at link.old).talk (L.at link.new).talk (take count room.new)) }
+    ensures end { IfOk result (λ count. count ≡ 0 → NothingLeft (L.at link.new).talk) }
+    ensures kept { OnErr result ((L.at link.new).talk ≡ (L.at link.old).talk) }
+    ensures cause { OnErr result (ReadFails (L.at link.old) (L.at link.new)) }
+    ensures counts { OnlyReads (L.at link.old) (L.at link.new) }
 {
     link.recv(room)
 }

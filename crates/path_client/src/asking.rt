@@ -3,8 +3,8 @@
 ghost use Rattle.std.specs.Prelude.{◌≡◌, ◌≢◌, ◌≤◌, IfErr, IsErrOf, OnErr, OnOk};
 ghost use Rattle.query_proto.specs.declared.replies.Reply.TheVariants.{Welcome};
 ghost use Rattle.query_proto.specs.Frames.{kind_of};
-ghost use Rattle.wire.specs.Causes.{Rose};
 ghost use Rattle.path_client.specs.Asking.{Asked, Exchanged, IsGreeted, IsNotGreeted, SendsRequest, SendsRequestPart};
+ghost use Rattle.wire.specs.Talks.{IsLater, OnlyWrites, ReadFails, WriteFails};
 
 use crate::hearing::hear;
 use crate::{ClientFault, Heard};
@@ -24,13 +24,12 @@ use wire::{Failed, Link, send_all};
 /// - `ReadFault` and `WriteFault` only where the link's count of that direction rose in this call.
 /// - `NoMemory` for want of memory.
 pub fn ask<L: Link>(alloc: Global, link: &mut L, request: Request) -> Result<Heard, ClientFault>
-    ensures asked { Asked request (L.talk link.old) result (L.talk link.new) }
+    ensures asked { Asked request (L.at link.old).talk result (L.at link.new).talk }
     ensures read_cause { IsErrOf result ClientFault.ReadFault
-        → Rose (L.read_faults link.old) (L.read_faults link.new) }
+        → ReadFails (L.at link.old) (L.at link.new) }
     ensures write_cause { IsErrOf result ClientFault.WriteFault
-        → Rose (L.write_faults link.old) (L.write_faults link.new) }
-    ensures read_later { L.read_faults link.old ≤ L.read_faults link.new }
-    ensures write_later { L.write_faults link.old ≤ L.write_faults link.new }
+        → WriteFails (L.at link.old) (L.at link.new) }
+    ensures counts { IsLater (L.at link.old) (L.at link.new) }
 {
     if fits(&request, Proto::One) {
         return exchange(alloc, link, &request);
@@ -43,14 +42,13 @@ pub fn ask<L: Link>(alloc: Global, link: &mut L, request: Request) -> Result<Hea
 
 /// Asks for the second protocol.
 fn greet<L: Link>(alloc: Global, link: &mut L) -> Result<(), ClientFault>
-    ensures greeted { OnOk result (IsGreeted (L.talk link.old) (L.talk link.new)) }
-    ensures other { IfErr result (IsNotGreeted (L.talk link.old) (L.talk link.new)) }
+    ensures greeted { OnOk result (IsGreeted (L.at link.old).talk (L.at link.new).talk) }
+    ensures other { IfErr result (IsNotGreeted (L.at link.old).talk (L.at link.new).talk) }
     ensures read_cause { IsErrOf result ClientFault.ReadFault
-        → Rose (L.read_faults link.old) (L.read_faults link.new) }
+        → ReadFails (L.at link.old) (L.at link.new) }
     ensures write_cause { IsErrOf result ClientFault.WriteFault
-        → Rose (L.write_faults link.old) (L.write_faults link.new) }
-    ensures read_later { L.read_faults link.old ≤ L.read_faults link.new }
-    ensures write_later { L.write_faults link.old ≤ L.write_faults link.new }
+        → WriteFails (L.at link.old) (L.at link.new) }
+    ensures counts { IsLater (L.at link.old) (L.at link.new) }
 {
     match exchange(alloc, link, &Request::Hello) {
         Ok(heard) => welcomed(heard.reply),
@@ -72,13 +70,12 @@ fn welcomed(reply: Reply) -> Result<(), ClientFault>
 
 /// Sends a request and hears the answer, whatever the protocol.
 fn exchange<L: Link>(alloc: Global, link: &mut L, request: &Request) -> Result<Heard, ClientFault>
-    ensures exchanged { Exchanged request.now (L.talk link.old) result (L.talk link.new) }
+    ensures exchanged { Exchanged request.now (L.at link.old).talk result (L.at link.new).talk }
     ensures read_cause { IsErrOf result ClientFault.ReadFault
-        → Rose (L.read_faults link.old) (L.read_faults link.new) }
+        → ReadFails (L.at link.old) (L.at link.new) }
     ensures write_cause { IsErrOf result ClientFault.WriteFault
-        → Rose (L.write_faults link.old) (L.write_faults link.new) }
-    ensures read_later { L.read_faults link.old ≤ L.read_faults link.new }
-    ensures write_later { L.write_faults link.old ≤ L.write_faults link.new }
+        → WriteFails (L.at link.old) (L.at link.new) }
+    ensures counts { IsLater (L.at link.old) (L.at link.new) }
 {
     match send_request(link, request) {
         Ok(()) => hear(alloc, link),
@@ -88,11 +85,10 @@ fn exchange<L: Link>(alloc: Global, link: &mut L, request: &Request) -> Result<H
 
 /// Sends a request as it is sent, its frame behind its length.
 fn send_request<L: Link>(link: &mut L, request: &Request) -> Result<(), Failed>
-    ensures whole { OnOk result (SendsRequest request.now (L.talk link.old) (L.talk link.new)) }
-    ensures part { OnErr result (SendsRequestPart request.now (L.talk link.old) (L.talk link.new)) }
-    ensures cause { OnErr result (Rose (L.write_faults link.old) (L.write_faults link.new)) }
-    ensures later { L.write_faults link.old ≤ L.write_faults link.new }
-    ensures other { L.read_faults link.new ≡ L.read_faults link.old }
+    ensures whole { OnOk result (SendsRequest request.now (L.at link.old).talk (L.at link.new).talk) }
+    ensures part { OnErr result (SendsRequestPart request.now (L.at link.old).talk (L.at link.new).talk) }
+    ensures cause { OnErr result (WriteFails (L.at link.old) (L.at link.new)) }
+    ensures counts { OnlyWrites (L.at link.old) (L.at link.new) }
 {
     let mut room = [0; REQUEST_ROOM];
     let size = encode_request(request, &mut room);

@@ -3,8 +3,8 @@
 ghost use Rattle.std.specs.Prelude.{◌≡◌, ◌≤◌, length, IfErr, IfOk, IsErrOf};
 ghost use Rattle.byteorder.specs.Endian.{big_bytes};
 ghost use Rattle.query_proto.specs.Frames.{IsReplyFrame};
-ghost use Rattle.wire.specs.Causes.{Rose};
 ghost use Rattle.path_client.specs.Asking.{HearsFrom, HearsNothing, IsHeardIn, NotHeardIn, TakesSize};
+ghost use Rattle.wire.specs.Talks.{OnlyReads, ReadFails};
 
 use crate::taking::fill;
 use crate::{ClientFault, Heard, MoveList};
@@ -20,11 +20,10 @@ const SIZE_BYTES: usize = 4;
 /// Hears an answer and takes no byte more. It takes memory for the frame once its length is known and allowed, and for
 /// the moves once the frame is known to be a reply's.
 pub(crate) fn hear<L: Link>(alloc: Global, link: &mut L) -> Result<Heard, ClientFault>
-    ensures heard { IfOk result (λ heard. HearsFrom (L.talk link.old) (L.talk link.new) heard.reply heard.moves) }
-    ensures fault { IfErr result (HearsNothing (L.talk link.old) (L.talk link.new)) }
-    ensures cause { IsErrOf result ClientFault.ReadFault → Rose (L.read_faults link.old) (L.read_faults link.new) }
-    ensures later { L.read_faults link.old ≤ L.read_faults link.new }
-    ensures other { L.write_faults link.new ≡ L.write_faults link.old }
+    ensures heard { IfOk result (λ heard. HearsFrom (L.at link.old).talk (L.at link.new).talk heard.reply heard.moves) }
+    ensures fault { IfErr result (HearsNothing (L.at link.old).talk (L.at link.new).talk) }
+    ensures cause { IsErrOf result ClientFault.ReadFault → ReadFails (L.at link.old) (L.at link.new) }
+    ensures counts { OnlyReads (L.at link.old) (L.at link.new) }
 {
     let size = hear_size(link)?;
     let mut frame = vec![in alloc; 0; size]?;
@@ -34,11 +33,10 @@ pub(crate) fn hear<L: Link>(alloc: Global, link: &mut L) -> Result<Heard, Client
 
 /// Hears the length of an answer's frame.
 fn hear_size<L: Link>(link: &mut L) -> Result<usize, ClientFault>
-    ensures size { IfOk result (TakesSize (L.talk link.old) (L.talk link.new)) }
-    ensures fault { IfErr result (HearsNothing (L.talk link.old) (L.talk link.new)) }
-    ensures cause { IsErrOf result ClientFault.ReadFault → Rose (L.read_faults link.old) (L.read_faults link.new) }
-    ensures later { L.read_faults link.old ≤ L.read_faults link.new }
-    ensures other { L.write_faults link.new ≡ L.write_faults link.old }
+    ensures size { IfOk result (TakesSize (L.at link.old).talk (L.at link.new).talk) }
+    ensures fault { IfErr result (HearsNothing (L.at link.old).talk (L.at link.new).talk) }
+    ensures cause { IsErrOf result ClientFault.ReadFault → ReadFails (L.at link.old) (L.at link.new) }
+    ensures counts { OnlyReads (L.at link.old) (L.at link.new) }
 {
     let mut bytes = [0; SIZE_BYTES];
     fill(link, bytes.as_mut_slice(), 0)?;

@@ -1,8 +1,8 @@
 //! Bytes that are taken of a link.
 
 ghost use Rattle.std.specs.Prelude.{◌≡◌, ◌+◌, ◌<◌, ◌≤◌, ◌^◌, length, take, IfErr, IfOk, IsErrOf, OnOk};
-ghost use Rattle.wire.specs.Causes.{Rose};
 ghost use Rattle.path_client.specs.Taking.{Takes, TakesPart};
+ghost use Rattle.wire.specs.Talks.{OnlyReads, ReadFails};
 
 use crate::ClientFault;
 use wire::{Failed, Link};
@@ -14,11 +14,10 @@ use wire::{Failed, Link};
 /// `Closed`, with the bytes that are held then, exactly where the link ends before the room is full, and `ReadFault`.
 pub(crate) fn fill<L: Link>(link: &mut L, room: &mut [u8], held: u32) -> Result<(), ClientFault>
     requires { held + length room.old < 2 ^ 32 }
-    ensures all { OnOk result (Takes (L.talk link.old) (L.talk link.new) room.new) }
-    ensures part { IfErr result (TakesPart (L.talk link.old) (L.talk link.new) (length room.old) held) }
-    ensures cause { IsErrOf result ClientFault.ReadFault → Rose (L.read_faults link.old) (L.read_faults link.new) }
-    ensures later { L.read_faults link.old ≤ L.read_faults link.new }
-    ensures other { L.write_faults link.new ≡ L.write_faults link.old }
+    ensures all { OnOk result (Takes (L.at link.old).talk (L.at link.new).talk room.new) }
+    ensures part { IfErr result (TakesPart (L.at link.old).talk (L.at link.new).talk (length room.old) held) }
+    ensures cause { IsErrOf result ClientFault.ReadFault → ReadFails (L.at link.old) (L.at link.new) }
+    ensures counts { OnlyReads (L.at link.old) (L.at link.new) }
 {
     let mut count = 0;
     while count < room.len() {
@@ -32,11 +31,10 @@ fn take_some<L: Link>(link: &mut L, room: &mut [u8], held: u32) -> Result<usize,
     requires { 0 < length room.old }
     ensures some { IfOk result (λ count. 0 < count) }
     ensures count { IfOk result (λ count. count ≤ length room.old) }
-    ensures taken { IfOk result (λ count. Takes (L.talk link.old) (L.talk link.new) (take count room.new)) }
-    ensures none { IfErr result (TakesPart (L.talk link.old) (L.talk link.new) (length room.old) held) }
-    ensures cause { IsErrOf result ClientFault.ReadFault → Rose (L.read_faults link.old) (L.read_faults link.new) }
-    ensures later { L.read_faults link.old ≤ L.read_faults link.new }
-    ensures other { L.write_faults link.new ≡ L.write_faults link.old }
+    ensures taken { IfOk result (λ count. Takes (L.at link.old).talk (L.at link.new).talk (take count room.new)) }
+    ensures none { IfErr result (TakesPart (L.at link.old).talk (L.at link.new).talk (length room.old) held) }
+    ensures cause { IsErrOf result ClientFault.ReadFault → ReadFails (L.at link.old) (L.at link.new) }
+    ensures counts { OnlyReads (L.at link.old) (L.at link.new) }
 {
     match link.recv(room) {
         Ok(0) => Err(ClientFault::Closed { have: held }),

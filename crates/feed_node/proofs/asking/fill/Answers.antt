@@ -1,5 +1,6 @@
-use Rattle.std.proofs.Common.{◌≡◌, ◌+◌, ◌-◌, length, take, sym, subst, arith, rules}
+use Rattle.std.proofs.Common.{◌≡◌, ◌+◌, ◌-◌, length, take, sym, subst, arith}
 use borrow.Rule.Slice.PartMut.{put_mid}
+use Rattle.wire.proofs.Counting.{reads_on}
 use Rattle.path_client.specs.Taking.{Takes}
 use Rattle.path_client.proofs.Pieces.{filled, takes_more}
 use Rattle.feed_node.proofs.asking.fill.Goals as goal
@@ -9,8 +10,8 @@ returns-then-count-eq0-clause-takes g c =
     let room = c.loop-link.room in
     let have = c.loop-link.have in
     let zero : have + c.in_ok-count.count ≡ have = omega (arith, c.if-count-eq0.true) in
-    subst (λ n. Takes (g.L.Link.talk c.args.link.now) (g.L.Link.talk c.take_some.new.link) (take n (put_mid have (length room - have) room c.take_some.new.room))) zero
-    (subst (λ l. Takes (g.L.Link.talk c.args.link.now) (g.L.Link.talk c.take_some.new.link) l)
+    subst (λ n. Takes (g.L.Link.at c.args.link.now).talk (g.L.Link.at c.take_some.new.link).talk (take n (put_mid have (length room - have) room c.take_some.new.room))) zero
+    (subst (λ l. Takes (g.L.Link.at c.args.link.now).talk (g.L.Link.at c.take_some.new.link).talk l)
     (sym (filled room c.take_some.new.room have (length room - have) c.in_ok-count.count (omega arith) (omega (arith, c.in_ok-count.ensures.count))))
     (takes_more _ _ _ _ _ c.loop-link.invariant.takes c.in_ok-count.ensures.taken))
 
@@ -20,10 +21,9 @@ loop-link-preserved g c =
     let have = c.loop-link.have in
     record {
       within = omega (arith, c.in_ok-count.ensures.count);
-      takes = subst (λ l. Takes (g.L.Link.talk c.args.link.now) (g.L.Link.talk c.take_some.new.link) l)
+      takes = subst (λ l. Takes (g.L.Link.at c.args.link.now).talk (g.L.Link.at c.take_some.new.link).talk l)
           (sym (filled room c.take_some.new.room have (length room - have) c.in_ok-count.count (omega arith)
           (omega (arith, c.in_ok-count.ensures.count))))
           (takes_more _ _ _ _ _ c.loop-link.invariant.takes c.in_ok-count.ensures.taken);
-      later = omega (arith, c.in_ok-count.ensures.reads);
-      other = search rules;
+      counts = reads_on _ _ _ c.loop-link.invariant.counts c.in_ok-count.ensures.counts;
     }

@@ -1,4 +1,5 @@
 use Rattle.std.proofs.Common.{Ok, refl, subst, ◌∙◌, arith}
+use Rattle.wire.proofs.Counting.{later_on, no_calls}
 use Rattle.path_core.specs.Passes.{OthersAdd}
 use Rattle.path_core.proofs.Passing.{others_begin, others_none, others_then}
 use Rattle.path_board.specs.Passes.{seen_of}
@@ -17,8 +18,7 @@ loop-init g c = record {
   held = since_itself c.args.pass.now;
   backlog = backlog_none _ _ _ c.none-backlog.ensures.known c.none-backlog.ensures.edits;
   parcel = c.requires.none;
-  reads = omega arith;
-  writes = omega arith;
+  counts = no_calls _;
 }
 
 pub returns-in-Err-clause-none : goal.returns-in-Err-clause-none
@@ -45,7 +45,7 @@ loop-preserved g c =
     let q = c.in-Ok-true.ensures.same in
     record {
       fed = fed_more _ (sight_of c.loop.pass) _ _ _ _ c.loop.counter c.loop.invariant.fed
-          (subst (λ b. Steps (sight_of c.loop.pass) (g.L.Link.talk c.loop.link) (Ok b) (sight_of c.answer_next.new.pass) (g.L.Link.talk c.answer_next.new.link))
+          (subst (λ b. Steps (sight_of c.loop.pass) (g.L.Link.at c.loop.link).talk (Ok b) (sight_of c.answer_next.new.pass) (g.L.Link.at c.answer_next.new.link).talk)
           c.in-Ok-true.field-0-test c.in-Ok-true.ensures.steps);
       same = record { board = q.board ∙ p.board; number = q.number ∙ p.number; base = q.base ∙ p.base; made = q.made ∙ p.made };
       none = others_then _ _ (seen_of c.loop.pass) _ c.loop.invariant.none
@@ -54,6 +54,5 @@ loop-preserved g c =
           c.in-Ok-true.ensures.held;
       backlog = c.in-Ok-true.ensures.backlog;
       parcel = c.in-Ok-true.ensures.parcel;
-      reads = omega (arith, c.loop.invariant.reads, c.in-Ok-true.ensures.reads);
-      writes = omega (arith, c.loop.invariant.writes, c.in-Ok-true.ensures.writes);
+      counts = later_on _ _ _ c.loop.invariant.counts c.in-Ok-true.ensures.counts;
     }

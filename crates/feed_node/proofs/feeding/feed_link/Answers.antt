@@ -8,11 +8,11 @@ use Rattle.feed_node.proofs.feeding.feed_link.Goals as goal
 pub returns-in-Ok-clause-feeds : goal.returns-in-Ok-clause-feeds
 returns-in-Ok-clause-feeds g c =
     fed_behind (start_bytes (base_by c.args.pass.now).start) _ _ _ _ _ c.answer_asks.result
-    (subst (λ m. g.L.Link.talk c.send_start.new.link ≡ with_sent (g.L.Link.talk c.args.link.now) (start_bytes m)) (c.grid.ensures.map ∙ c.requires.start) c.in-Ok.ensures.sent)
+    (subst (λ m. (g.L.Link.at c.send_start.new.link).talk ≡ with_sent (g.L.Link.at c.args.link.now).talk (start_bytes m)) (c.grid.ensures.map ∙ c.requires.start) c.in-Ok.ensures.sent)
     c.answer_asks.ensures.feeds
 
 pub returns-in-Err-clause-feeds : goal.returns-in-Err-clause-feeds
 returns-in-Err-clause-feeds g c =
     start_unsent (start_bytes (base_by c.args.pass.now).start) _ _ _
-    (subst (λ m. SendsPrefix (g.L.Link.talk c.args.link.now) (g.L.Link.talk c.send_start.new.link) (start_bytes m)) (c.grid.ensures.map ∙ c.requires.start)
+    (subst (λ m. SendsPrefix (g.L.Link.at c.args.link.now).talk (g.L.Link.at c.send_start.new.link).talk (start_bytes m)) (c.grid.ensures.map ∙ c.requires.start)
     c.in-Err.ensures.prefix)

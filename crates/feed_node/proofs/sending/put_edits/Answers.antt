@@ -1,5 +1,6 @@
 use Rattle.std.proofs.Common.{◌≡◌, List, [], drop, take, sym, subst, ap, ◌∙◌, arith}
 use Rattle.std.proofs.lemmas.List.{get_or-drop, get_or-take, length-drop, length-take-le, take-take}
+use Rattle.wire.proofs.Counting.{writes_on}
 use Rattle.edit_log.specs.declared.edit.CellChange.{CellChange}
 use Rattle.follow_proto.specs.Feeds.{all_edit_bytes, edit_bytes}
 use Rattle.feed_node.specs.Sending.{Writes}
@@ -17,7 +18,7 @@ returns-in_err-put_edit-clause-prefix g c =
     let is = c.changes_at.ensures.changes ∙ sym (get_or-drop c.args.first c.args.edits.now.edits place []) ∙ sym (get_or-take count xs place [] (omega (arith, c.loop-place-test.true))) in
     on_err c.from_residual.result _
     (each_refused edit_bytes (take count xs) [] _ _ _ _ _ place
-    (subst (λ l. Writes (g.L.Link.talk c.args.link.now) (g.L.Link.talk c.loop-place.link) c.args.parcel.now c.loop-place.parcel (all_edit_bytes l)) (sym same) c.loop-place.invariant.written)
+    (subst (λ l. Writes (g.L.Link.at c.args.link.now).talk (g.L.Link.at c.loop-place.link).talk c.args.parcel.now c.loop-place.parcel (all_edit_bytes l)) (sym same) c.loop-place.invariant.written)
     (omega (arith, long, c.loop-place-test.true)) _ (ap edit_bytes is) c.in_err-put_edit.ensures.prefix)
 
 pub loop-place-preserved : goal.loop-place-preserved
@@ -29,6 +30,5 @@ loop-place-preserved g c =
     record {
       written = each_more edit_bytes xs [] _ _ _ _ _ place c.loop-place.invariant.written (omega (arith, left, c.requires, c.loop-place-test.true)) _ _ (ap edit_bytes is)
           c.in_ok-put_edit.ensures.put;
-      later = omega (arith, c.loop-place.invariant.later, c.in_ok-put_edit.ensures.writes);
-      other = c.in_ok-put_edit.ensures.reads ∙ c.loop-place.invariant.other;
+      counts = writes_on _ _ _ c.loop-place.invariant.counts c.in_ok-put_edit.ensures.counts;
     }

@@ -1,4 +1,5 @@
 use Rattle.std.proofs.Common.{◌∙◌, arith}
+use Rattle.wire.proofs.Counting.{reads_on}
 use Rattle.follow_node.proofs.Messages.{left_falls, piece_begun, taking_more, taking_stops}
 use Rattle.follow_node.proofs.links.take_message.Goals as goal
 
@@ -16,8 +17,7 @@ loop-wanted-preserved g c = record {
   taking = taking_more _ _ _ _ _ c.requires.even c.requires.open c.loop-wanted.invariant.taking (omega (arith, c.loop-wanted-test.true)) _ _ c.in-Ok.ensures.piece
       c.wanted-wanted.result c.wanted-wanted.ensures;
   long = c.in-Ok.ensures.room ∙ c.loop-wanted.invariant.long;
-  reads = omega (arith, c.loop-wanted.invariant.reads, c.in-Ok.ensures.reads);
-  writes = c.in-Ok.ensures.writes ∙ c.loop-wanted.invariant.writes;
+  counts = reads_on _ _ _ c.loop-wanted.invariant.counts c.in-Ok.ensures.counts;
 }
 
 pub returns-in-Err-clause-stops : goal.returns-in-Err-clause-stops

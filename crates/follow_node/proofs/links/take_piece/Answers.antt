@@ -12,6 +12,6 @@ returns-in-Ok-clause-none g c =
     let rest = drop most c.args.room.now in
     let lent = length-take most c.args.room.now in
     piece_stops c.args.wanted _ _ _ _ _ (take count (room ++ rest))
-    (subst (λ l. Takes (g.L.Link.talk c.args.link.now) (g.L.Link.talk c.take_some.new.link) l)
+    (subst (λ l. Takes (g.L.Link.at c.args.link.now).talk (g.L.Link.at c.take_some.new.link).talk l)
     (sym (take-append-le count room rest (omega (arith, c.in-Ok.ensures.count, c.take_some.auto.room)))) c.in-Ok.ensures.taken)
     (omega (arith, length-take count (room ++ rest), c.in-Ok.ensures.count, lent, c.min-most.ensures)) c.give.result c.give.ensures.fault

@@ -1,6 +1,7 @@
-use Rattle.std.proofs.Common.{◌-◌, length, take, sym, subst, arith, rules}
+use Rattle.std.proofs.Common.{◌-◌, length, take, sym, subst, arith}
 use Rattle.std.proofs.lemmas.List.{length-take-le}
 use Rattle.std.proofs.lemmas.Result.{err_from_is_err_and}
+use Rattle.wire.proofs.Counting.{reads_on}
 use Rattle.path_client.specs.Taking.{Takes}
 use Rattle.path_client.proofs.Pieces.{filled, part_more, takes_more}
 use Rattle.path_client.proofs.taking.fill.Goals as goal
@@ -18,10 +19,9 @@ loop-count-preserved g c =
     let count = c.loop-count.count in
     record {
       within = omega (arith, c.in_ok-count.ensures.count);
-      takes = subst (λ l. Takes (g.L.Link.talk c.args.link.now) (g.L.Link.talk c.take_some.new.link) l)
+      takes = subst (λ l. Takes (g.L.Link.at c.args.link.now).talk (g.L.Link.at c.take_some.new.link).talk l)
           (sym (filled room c.take_some.new.room count (length room - count) c.in_ok-count.field-0 (omega arith)
           (omega (arith, c.in_ok-count.ensures.count))))
           (takes_more _ _ _ _ _ c.loop-count.invariant.takes c.in_ok-count.ensures.taken);
-      later = omega (arith, c.in_ok-count.ensures.later);
-      other = search rules;
+      counts = reads_on _ _ _ c.loop-count.invariant.counts c.in_ok-count.ensures.counts;
     }
