@@ -69,26 +69,26 @@ pub fn lead_board<D: Door, B: Bell, E: Ear, R: Threads + Wait + Sync, G: Gate>(
     requires worker { 0 < workers }
     requires workers { workers ≤ MAX_WORKERS }
     requires few { length doors.items ≤ MAX_DOORS }
-    requires open { All (λ door. D.closed door ≡ false) doors.items }
-    requires open_feed { D.closed feed ≡ false }
+    requires open { All (λ door. (D.at door).closed ≡ false) doors.items }
+    requires open_feed { (D.at feed).closed ≡ false }
     requires none { board.history ≡ [] }
     requires start { start.now.map ≡ board.start }
-    requires waiting { E.over ear.old ≡ false }
+    requires waiting { (E.at ear.old).over ≡ false }
     ensures base { IfOk result (λ led. foundation_of led.board ≡ foundation_of board) }
     ensures legal { IfOk result (λ led. IsLegal led.board.start led.board.history) }
     ensures named { IfOk result (λ led. All (λ entry. pass_of entry < length doors.items + 2)
         led.board.history) }
     ensures quiet { IfOk result (λ led. All (λ entry. pass_of entry ≢ length doors.items)
         led.board.history) }
-    ensures served { IfOk result (λ led. AreServed D.talks D.closed D.faults D.port board
+    ensures served { IfOk result (λ led. AreServed D.at board
         doors.items led.doors.items led.board.history) }
-    ensures fed { IfOk result (λ led. IsFed D.talks D.closed D.faults D.port start.now.map board
+    ensures fed { IfOk result (λ led. IsFed D.at start.now.map board
         (length doors.items) feed led.feed led.board.history) }
     ensures built { IfOk result (λ led. IsBuiltBy board (length doors.items + 1) led.builds
-        (E.rung ear.old) (E.rung ear.new) led.board.history) }
-    ensures failed { IfOk result (λ led. FailedSo D.closed D.faults led.failed
+        (E.at ear.old).rung (E.at ear.new).rung led.board.history) }
+    ensures failed { IfOk result (λ led. FailedSo D.at led.failed
         (doors.items ++ feed ∷ []) (led.doors.items ++ led.feed ∷ []) led.board.history) }
-    ensures over { OnOk result (E.over ear.new ≡ true) }
+    ensures over { OnOk result ((E.at ear.new).over ≡ true) }
     ensures refused { IfErr result (λ refused. refused.doors.items ≡ doors.items) }
     ensures feed_back { IfErr result (λ refused. refused.feed ≡ feed) }
     ensures unheard { OnErr result (ear.new ≡ ear.old) }

@@ -15,6 +15,7 @@ use Rattle.session.specs.Doors.{DoorEndsSo}
 use Rattle.session.specs.Seats.{place_of}
 use Rattle.session.specs.Standing.{Place, Shared, Standing}
 use Rattle.session.proofs.Hiring.{back_at, back_long}
+use Rattle.wire.specs.Knocks.{AtDoor}
 
 -- ---- passes by their places
 
@@ -41,26 +42,26 @@ pub default_of : {X : Type 0} (P : Type 0) (xs : List X) → 0 < length xs → (
 default_of P [] some f = absurd (omega (arith, some))
 default_of P (x ∷ xs) some f = f x
 
-module _ {D : Type 0} (talks : D → Option (List EndedTalk)) (closed : D → Bool) (faults : D → ℕ) (port : D → Option ℕ)
+module _ {D : Type 0} (at : D → AtDoor)
     (held : Place → Standing → EndedTalk → Standing → Type 0) (silent : Place → Type 0) where
   -- how a loop ended that did not fail
   ends_well : (before after : D) (pass_before pass_after : Pass) (ended : Option DoorEnded) → (has_failed ended ≡ true → ⊥)
-      → HasRun talks closed faults port held silent pass_before before pass_after after ended → EndsWell closed faults before after pass_after
+      → HasRun at held silent pass_before before pass_after after ended → EndsWell at before after pass_after
   ends_well before after pass_before pass_after ended well run = by_how run.how run.ended_is run.ends
     where
-      by_how : (how : DoorEnded) → ended ≡ Some how → DoorEndsSo how (seen_of pass_after) (closed after) (faults before) (faults after)
-          → EndsWell closed faults before after pass_after
+      by_how : (how : DoorEnded) → ended ≡ Some how → DoorEndsSo how (seen_of pass_after) (at before) (at after)
+          → EndsWell at before after pass_after
       by_how Halting is ends = record { faults_are = ends.2; why = inr ends.0 }
       by_how Closed is ends = record { faults_are = ends.1; why = inl ends.0 }
       by_how Failed is ends = absurd (well (ap has_failed is))
 
   -- the count of a door rose whose loop failed
   rose_there : (before after : D) (pass_before pass_after : Pass) (ended : Option DoorEnded) → has_failed ended ≡ true
-      → HasRun talks closed faults port held silent pass_before before pass_after after ended → Rose (faults before) (faults after)
+      → HasRun at held silent pass_before before pass_after after ended → Rose (at before).faults (at after).faults
   rose_there before after pass_before pass_after ended failed run = by_how run.how (sym (ap has_failed run.ended_is) ∙ failed) run.ends
     where
-      by_how : (how : DoorEnded) → has_failed (Some how) ≡ true → DoorEndsSo how (seen_of pass_after) (closed after) (faults before) (faults after)
-          → Rose (faults before) (faults after)
+      by_how : (how : DoorEnded) → has_failed (Some how) ≡ true → DoorEndsSo how (seen_of pass_after) (at before) (at after)
+          → Rose (at before).faults (at after).faults
       by_how Halting is ends = let clash : false ≡ true = is in absurd (cc)
       by_how Closed is ends = let clash : false ≡ true = is in absurd (cc)
       by_how Failed is ends = ends.1
@@ -82,18 +83,18 @@ all_front P front rest all is each = λ i d early.
     subst P (ap (λ l. get_or l i d) is ∙ get_or_append_left front rest d i early) (each i d (omega (arith, early, long)))
 
 -- all workers may begin
-pub may_begin : {D B C : Type 0} (closed : D → Bool) (fits : Place → Type 0) (crew : List (Worker D B C)) (doors : List D) (passes : List Pass)
-    → backwards crew (λ w. w.door) ≡ doors → backwards crew (λ w. w.seat.pass) ≡ passes → All (λ door. closed door ≡ false) doors
-    → All (λ pass. fits (place_of pass)) passes → (i : ℕ) (worker : Worker D B C) → i < length crew → MayBegin closed fits (get_or crew i worker)
-may_begin closed fits crew doors passes doors_are passes_are shut fit i worker early = record {
-  door_is = read_each (λ door. closed door ≡ false) (λ w. w.door) crew doors doors_are shut i worker early;
+pub may_begin : {D B C : Type 0} (at : D → AtDoor) (fits : Place → Type 0) (crew : List (Worker D B C)) (doors : List D) (passes : List Pass)
+    → backwards crew (λ w. w.door) ≡ doors → backwards crew (λ w. w.seat.pass) ≡ passes → All (λ door. (at door).closed ≡ false) doors
+    → All (λ pass. fits (place_of pass)) passes → (i : ℕ) (worker : Worker D B C) → i < length crew → MayBegin at fits (get_or crew i worker)
+may_begin at fits crew doors passes doors_are passes_are shut fit i worker early = record {
+  door_is = read_each (λ door. (at door).closed ≡ false) (λ w. w.door) crew doors doors_are shut i worker early;
   place_fits = read_each (λ pass. fits (place_of pass)) (λ w. w.seat.pass) crew passes passes_are fit i worker early;
 }
 
-module _ {D B C : Type 0} (talks : D → Option (List EndedTalk)) (closed : D → Bool) (faults : D → ℕ) (port : D → Option ℕ)
+module _ {D B C : Type 0} (at : D → AtDoor)
     (held : Place → Standing → EndedTalk → Standing → Type 0) (silent : Place → Type 0) where
   module _ (crew then : List (Worker D B C)) (doors : List D) (passes : List Pass) (doors_then : List D) (passes_then : List Pass)
-      (ran : HaveAllRun talks closed faults port held silent crew then) (doors_are : backwards crew (λ w. w.door) ≡ doors) (passes_are : backwards crew (λ w. w.seat.pass) ≡ passes)
+      (ran : HaveAllRun at held silent crew then) (doors_are : backwards crew (λ w. w.door) ≡ doors) (passes_are : backwards crew (λ w. w.seat.pass) ≡ passes)
       (doors_come : doors_then ≡ backwards then (λ w. w.door)) (passes_come : passes_then ≡ backwards then (λ w. w.seat.pass)) where
     crew_long : length crew ≡ length doors
     crew_long = sym (back_long crew (λ w. w.door)) ∙ ap length doors_are
@@ -127,15 +128,15 @@ module _ {D B C : Type 0} (talks : D → Option (List EndedTalk)) (closed : D �
     some_worker P i early f = let total = crew_long in default_of P crew (omega (arith, early, total)) f
 
     each_ran : (i : ℕ) (door : D) (pass : Pass) → i < length doors
-        → HasEnded talks closed faults port held silent (get_or passes i pass) (get_or doors i door) (get_or passes_then i pass) (get_or doors_then i door)
+        → HasEnded at held silent (get_or passes i pass) (get_or doors i door) (get_or passes_then i pass) (get_or doors_then i door)
     each_ran i door pass early = some_worker _ i early (λ worker.
         let total = crew_long in
-        at_place (HasEnded talks closed faults port held silent) i door pass worker early (record {
+        at_place (HasEnded at held silent) i door pass worker early (record {
           ended = (get_or then (length crew - 1 - i) worker).ended;
           run = ran.each (length crew - 1 - i) worker (omega (arith, early, total));
         }))
 
-    some_rose : any_of then (λ w. has_failed w.ended) ≡ true → SomeRose closed faults doors doors_then
+    some_rose : any_of then (λ w. has_failed w.ended) ≡ true → SomeRose at doors doors_then
     some_rose failed =
         let found = Any-from_list_any (λ (w : Worker D B C). has_failed w.ended) then failed in
         let k = found.0 in
@@ -144,30 +145,30 @@ module _ {D B C : Type 0} (talks : D → Option (List EndedTalk)) (closed : D �
         let long = ran.long in
         let within = found.2 in
         let back : length crew - 1 - (length crew - 1 - k) ≡ k = omega (arith, within, long) in
-        let rose = rose_there talks closed faults port held silent (get_or crew k w).door (get_or then k w).door (get_or crew k w).seat.pass (get_or then k w).seat.pass (get_or then k w).ended
+        let rose = rose_there at held silent (get_or crew k w).door (get_or then k w).door (get_or crew k w).seat.pass (get_or then k w).seat.pass (get_or then k w).ended
         (ap (λ (x : Worker D B C). has_failed x.ended) found.3 ∙ found.4) (ran.each k w (omega (arith, within, long))) in
         record {
           place = length crew - 1 - k;
           within = omega (arith, within, long, total);
           rose = λ door.
-              at_place (λ _ x _ y. Rose (faults x) (faults y)) (length crew - 1 - k) door (get_or crew k w).seat.pass w (omega (arith, within, long, total))
-              (subst (λ n. Rose (faults (get_or crew n w).door) (faults (get_or then n w).door)) (sym back) rose);
+              at_place (λ _ x _ y. Rose (at x).faults (at y).faults) (length crew - 1 - k) door (get_or crew k w).seat.pass w (omega (arith, within, long, total))
+              (subst (λ n. Rose (at (get_or crew n w).door).faults (at (get_or then n w).door).faults) (sym back) rose);
         }
 
     none_failed : any_of then (λ w. has_failed w.ended) ≡ false → (i : ℕ) (door : D) (pass : Pass) → i < length doors
-        → EndsWell closed faults (get_or doors i door) (get_or doors_then i door) (get_or passes_then i pass)
+        → EndsWell at (get_or doors i door) (get_or doors_then i door) (get_or passes_then i pass)
     none_failed well i door pass early = some_worker _ i early (λ worker.
         let total = crew_long in
         let long = ran.long in
         let k = length crew - 1 - i in
         let within : k < length then = omega (arith, early, total, long) in
-        at_place (λ _ x p y. EndsWell closed faults x y p) i door pass worker early
-        (ends_well talks closed faults port held silent (get_or crew k worker).door (get_or then k worker).door (get_or crew k worker).seat.pass (get_or then k worker).seat.pass
+        at_place (λ _ x p y. EndsWell at x y p) i door pass worker early
+        (ends_well at held silent (get_or crew k worker).door (get_or then k worker).door (get_or crew k worker).seat.pass (get_or then k worker).seat.pass
         (get_or then k worker).ended
         (λ on. let clash : false ≡ true = sym well ∙ list_any_at (λ (w : Worker D B C). has_failed w.ended) then k worker within on in absurd (cc))
         (ran.each k worker (omega (arith, early, total)))))
 
-    pub have_run : (failed : Bool) → failed ≡ any_of then (λ w. has_failed w.ended) → HaveRun talks closed faults port held silent doors passes doors_then passes_then failed
+    pub have_run : (failed : Bool) → failed ≡ any_of then (λ w. has_failed w.ended) → HaveRun at held silent doors passes doors_then passes_then failed
     have_run failed told =
         let total = crew_long in
         let long = ran.long in

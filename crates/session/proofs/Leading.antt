@@ -1,5 +1,5 @@
 -- Talks at a door, one after the other.
-use Rattle.std.proofs.Common.{◌≡◌, ℕ, true, false, ◌||◌, IfErr, IfSome, List, [], ◌∷◌, ◌++◌, length, None, Option, Result, Some, option_map, inl, inr, refl, sym, subst, ap, ◌∙◌}
+use Rattle.std.proofs.Common.{◌≡◌, ℕ, true, false, ◌||◌, Err, IfErr, IfSome, IsSome, List, [], ◌∷◌, ◌++◌, length, None, Ok, Option, Result, Some, option_map, inl, inr, refl, sym, subst, ap, ◌∙◌}
 use Rattle.std.specs.Io.KnownBytes.{append_known}
 use Rattle.std.specs.List.{list_any}
 use Rattle.std.proofs.lemmas.List.{append-nil, append_assoc}
@@ -17,12 +17,14 @@ use Rattle.query_proto.specs.declared.requests.Request.{Request}
 use Rattle.query_proto.specs.declared.requests.Request.TheVariants as request
 use Rattle.edit_log.specs.declared.edit.Edit.{Edit}
 use Rattle.moves.specs.declared.Move.{Move}
-use Rattle.wire.specs.Knocks.{TellsToo}
-use Rattle.wire.specs.Talks.{EndedTalk, IsFresh, Talk, with_ended, with_sent, with_taken}
+use Rattle.wire.specs.Causes.{Rose}
+use Rattle.wire.specs.Knocks.{AtDoor, TellsToo}
+use Rattle.wire.specs.Talks.{AtLink, EndedTalk, IsFresh, IsUnused, Talk, talk_over, with_ended, with_sent, with_taken}
 use Rattle.session.specs.declared.sessions.Ended.{Ended}
 use Rattle.session.specs.declared.sessions.SessionFault.{SessionFault}
+use Rattle.session.specs.declared.sessions.SessionFault.TheVariants as fault
 use Rattle.session.specs.Conversations.{Conversed, Exchange, HasCause, Rests, ServesFrame, ServesRun, bytes_taken, protocol_after}
-use Rattle.session.specs.Doors.{HasGoneOn, HasServed, HasServedOne, HoldsTalk, IsServedTalk, Lead, LeadsOn, LooksBetween, MayGoOn, MovesOn, SameWhereTold, ServesOne, as_begun}
+use Rattle.session.specs.Doors.{HasGoneOn, HasServed, HasServedOne, HoldsTalk, IsServedTalk, Lead, LeadsOn, LooksBetween, MayGoOn, MovesOn, LendsTheSame, ServesOne, as_begun, link_begun, link_ended}
 use Rattle.session.specs.Served.{Serves, ServesChange, ServesStatus, ServesStop}
 use Rattle.session.specs.Standing.{AddsOnlyOwn, HoldsSince, Place, Standing}
 use Rattle.session.proofs.Meanwhile.{Grows, enters_grows, grows_itself, grows_then, meanwhile_begin, meanwhile_grows}
@@ -183,11 +185,11 @@ module _ (held : Place → Standing → EndedTalk → Standing → Type 0) where
     lead = (old, mid, new, rests_none place old, one.served, looks, tt, rests_none place new);
   }
 
-  one_told : (place : Place) (from to : Standing) (talks : List EndedTalk) (told : Option Talk) (reads writes : ℕ)
-      → HoldsTalk held place from told reads writes to → ServesOne held place from talks to (with_ended (Some talks) told reads writes)
-  one_told place from to talks told reads writes p = record {
-    talk = record { talk = p.talk; read_faults = reads; write_faults = writes };
-    after_is = ap (λ t. with_ended (Some talks) t reads writes) p.told_is;
+  one_told : (place : Place) (from to : Standing) (talks : List EndedTalk) (link : AtLink)
+      → HoldsTalk held place from link to → ServesOne held place from talks to (with_ended (Some talks) link)
+  one_told place from to talks link p = record {
+    talk = talk_over link p.talk;
+    after_is = ap (option_map (λ talk. talks ++ talk_over link talk ∷ [])) p.told_is;
     served = p.so;
   }
 
@@ -228,23 +230,30 @@ module _ (held : Place → Standing → EndedTalk → Standing → Type 0) where
     ]
 
     -- a talk was held over a connection, which was handed back
-    pub served_talk : (place : Place) (from to : Standing) (before : Option (List EndedTalk)) (fresh told : Option Talk) (reads writes : ℕ)
-        (after : Option (List EndedTalk)) → TellsToo before fresh → MovesOn silent place from to
-        → IfSome fresh (λ _. HoldsTalk held place from told reads writes to) → after ≡ with_ended before told reads writes
-        → HasServedOne held silent place from before to after
-    served_talk place from to None fresh told reads writes after tells on so is = record { on = on; told = tt }
-    served_talk place from to (Some talks) None told reads writes after tells on so is = let clash : false ≡ true = tells in absurd (cc)
-    served_talk place from to (Some talks) (Some talk) told reads writes after tells on so is =
-        record { on = on; told = subst (ServesOne held place from talks to) (sym is) (one_told place from to talks told reads writes so) }
+    pub served_talk : (place : Place) (from to : Standing) (before : AtDoor) (fresh link : AtLink) (after : Option (List EndedTalk))
+        → TellsToo before fresh → MovesOn silent place from to → IfSome fresh.talk (λ _. HoldsTalk held place from link to)
+        → after ≡ with_ended before.talks link → HasServedOne held silent place from before.talks to after
+    served_talk place from to before fresh link after tells on so is = record { on = on; told = by_talks before.talks fresh.talk tells so is }
+      where
+        by_talks : (told : Option (List EndedTalk)) (first : Option Talk) → IfSome told (λ _. IsSome first)
+            → IfSome first (λ _. HoldsTalk held place from link to) → after ≡ with_ended told link
+            → IfSome told (λ talks. ServesOne held place from talks to after)
+        by_talks None first tells so is = tt
+        by_talks (Some talks) None tells so is = let clash : false ≡ true = tells in absurd (cc)
+        by_talks (Some talks) (Some talk) tells so is = subst (ServesOne held place from talks to) (sym is) (one_told place from to talks link so)
 
-    -- a count that is the same where talks are told stays so
-    pub same_then : (place : Place) (old mid : Standing) (before between : Option (List EndedTalk)) (first second third : ℕ)
-        → HasServed held silent place old before mid between → SameWhereTold before first second → SameWhereTold between second third
-        → SameWhereTold before first third
-    same_then place old mid None between first second third p one two = tt
-    same_then place old mid (Some talks) between first second third p one two =
-        let then : third ≡ second = subst (λ told. SameWhereTold told second third) p.told.after_is two in
-        then ∙ one
+    -- a door that has lent as many as before goes on so
+    pub lends_then : (place : Place) (old mid : Standing) (before between after : AtDoor)
+        → HasServed held silent place old before.talks mid between.talks → LendsTheSame before between → LendsTheSame between after
+        → LendsTheSame before after
+    lends_then place old mid before between after p one two = by_talks before.talks p.told one
+      where
+        by_talks : (told : Option (List EndedTalk)) → IfSome told (λ talks. LeadsOn held place old talks mid between.talks)
+            → IfSome told (λ _. between.lent ≡ before.lent) → IfSome told (λ _. after.lent ≡ before.lent)
+        by_talks None leads one = tt
+        by_talks (Some talks) leads one =
+            let then : after.lent ≡ between.lent = subst (λ t. IfSome t (λ _. after.lent ≡ between.lent)) leads.after_is two in
+            then ∙ one
 
 -- where what one trade holds at a place another does too
 module _ (held other : Place → Standing → EndedTalk → Standing → Type 0) (place : Place)
@@ -266,9 +275,12 @@ module _ (held other : Place → Standing → EndedTalk → Standing → Type 0)
     told = leads_as old before new after p.told;
   }
 
-pub same_told : (told : Option (List EndedTalk)) (count : ℕ) → SameWhereTold told count count
-same_told None count = tt
-same_told (Some talks) count = refl
+pub lends_itself : (door : AtDoor) → LendsTheSame door door
+lends_itself door = by_talks door.talks
+  where
+    by_talks : (told : Option (List EndedTalk)) → IfSome told (λ _. door.lent ≡ door.lent)
+    by_talks None = tt
+    by_talks (Some talks) = refl
 
 -- ---- a session from its first byte on
 
@@ -285,31 +297,37 @@ begun talk told count bytes (whole, none) is =
     λ i. Some (record { input = talk.input; left = whole i; sent = sent i }) in
     same ∙ ap (option_map as_begun) (sym is)
 
-session_ended : (place : Place) (from : Standing) (talk : Talk) (told : Option Talk) (result : Result Ended SessionFault) (to : Standing)
-    (reads writes : ℕ) → IsFresh (Some talk) → Conversed place from (Some talk) result to told → IfErr result (HasCause 0 reads 0 writes)
-    → HoldsTalk IsServedTalk place from told reads writes to
-session_ended place from talk None result to reads writes fresh c cause =
-    let clash : None ≡ with_sent (with_taken (Some talk) (length (bytes_taken c.exchanges ++ c.last))) c.sent = c.passes.after_is in
-    absurd (cc)
-session_ended place from talk (Some now) result to reads writes fresh c cause = record {
-  talk = now;
-  told_is = refl;
-  so = record {
-    result = result;
-    conversed = subst (λ first. Conversed place from first result to (Some now)) (begun talk (Some now) _ _ fresh c.passes.after_is) c;
-    cause = cause;
-  };
-}
+-- a fault has its cause in the counts of a link that had just come in
+cause_begun : (fresh link : AtLink) (talk : Talk) (result : Result Ended SessionFault) → IsUnused fresh → IfErr result (HasCause fresh link)
+    → IfErr result (HasCause (link_begun (talk_over link talk)) (link_ended (talk_over link talk)))
+cause_begun fresh link talk (Ok ended) new cause = tt
+cause_begun fresh link talk (Err (fault.Torn have want)) new cause = tt
+cause_begun fresh link talk (Err (fault.TooLong size)) new cause = tt
+cause_begun fresh link talk (Err fault.ReadFault) new cause = subst (λ n. Rose n link.read_faults) new.no_read_fault cause
+cause_begun fresh link talk (Err fault.WriteFault) new cause = subst (λ n. Rose n link.write_faults) new.no_write_fault cause
 
 -- a session over a link that had just come in
-pub session_held : (place : Place) (from to : Standing) (fresh told : Option Talk) (result : Result Ended SessionFault)
-    (reads_before reads writes_before writes : ℕ) → IsFresh fresh → Conversed place from fresh result to told
-    → IfErr result (HasCause reads_before reads writes_before writes) → reads_before ≡ 0 → writes_before ≡ 0
-    → IfSome fresh (λ _. HoldsTalk IsServedTalk place from told reads writes to)
-session_held place from to None told result reads_before reads writes_before writes new c cause r w = tt
-session_held place from to (Some talk) told result reads_before reads writes_before writes new c cause r w =
-    session_ended place from talk told result to reads writes new c
-    (subst (λ n. IfErr result (HasCause 0 reads n writes)) w (subst (λ n. IfErr result (HasCause n reads writes_before writes)) r cause))
+pub session_held : (place : Place) (from to : Standing) (fresh link : AtLink) (result : Result Ended SessionFault) → IsUnused fresh
+    → Conversed place from fresh.talk result to link.talk → IfErr result (HasCause fresh link)
+    → IfSome fresh.talk (λ _. HoldsTalk IsServedTalk place from link to)
+session_held place from to fresh link result new c cause = by_talks fresh.talk link.talk refl new.fresh c
+  where
+    by_talks : (first told : Option Talk) → link.talk ≡ told → IsFresh first → Conversed place from first result to told
+        → IfSome first (λ _. HoldsTalk IsServedTalk place from link to)
+    by_talks None told is unsaid then = tt
+    by_talks (Some first) None is unsaid then =
+        let clash : None ≡ with_sent (with_taken (Some first) (length (bytes_taken then.exchanges ++ then.last))) then.sent = then.passes.after_is in
+        absurd (cc)
+    by_talks (Some first) (Some now) is unsaid then = record {
+      talk = now;
+      told_is = is;
+      so = record {
+        result = result;
+        conversed = subst (λ talk. Conversed place from talk result to (Some now))
+            (begun first (Some now) (length (bytes_taken then.exchanges ++ then.last)) then.sent unsaid then.passes.after_is) then;
+        cause = cause_begun fresh link now result new cause;
+      };
+    }
 
 pub session_moves : (place : Place) (from to : Standing) (fresh told : Option Talk) (result : Result Ended SessionFault) → Conversed place from fresh result to told
     → MovesOn (λ _. ⊥) place from to

@@ -1,5 +1,5 @@
 -- What a shared board is when it is closed after it was served.
-use Rattle.std.proofs.Common.{◌≡◌, ◌⊎◌, ℕ, ◌+◌, ◌-◌, ◌<◌, Bool, true, false, IsFalse, List, [], ◌∷◌, All, length, get_or, Option, Some, inl, inr, refl, sym, subst, ap, ◌∙◌, arith, length-append}
+use Rattle.std.proofs.Common.{◌≡◌, ◌⊎◌, ℕ, ◌+◌, ◌-◌, ◌<◌, Bool, true, false, IsFalse, List, [], ◌∷◌, All, length, get_or, Some, inl, inr, refl, sym, subst, ap, ◌∙◌, arith, length-append}
 use Rattle.std.specs.List.{list_any}
 use Rattle.std.proofs.Math.Seq.{get_or-append_seam}
 use Rattle.std.proofs.lemmas.Bool.{cases_lt}
@@ -27,6 +27,7 @@ use Rattle.session.specs.ServedBoards.{AreServed, AreServedBy, FailedSo, FitsBoa
 use Rattle.session.specs.Standing.{Place, Standing}
 use Rattle.session.proofs.Crewing.{default_of, same_by_place}
 use Rattle.session.proofs.Leading.{halts_still, served_as}
+use Rattle.wire.specs.Knocks.{AtDoor}
 
 -- a board that halted halts later
 halts_later : (pass : ℕ) (seen history : List Entry) → OthersAdd pass seen history → IsHalting seen → IsHalting history
@@ -55,11 +56,11 @@ pub all_fit : (fits : Place → Type 0) (id : TableId) (board : Boarded) (count 
 all_fit fits id board count passes fit news = λ i d early.
     fit i (place_of (get_or passes i d)) (place_at id board count i (get_or passes i d) (news.each i d early))
 
-module _ {D : Type 0} (talks : D → Option (List EndedTalk)) (closed : D → Bool) (faults : D → ℕ) (port : D → Option ℕ)
+module _ {D : Type 0} (at : D → AtDoor)
     (held : Place → Standing → EndedTalk → Standing → Type 0) (silent : Place → Type 0) (id : TableId) (board : Boarded) (count : ℕ)
     (doors : List D) (passes : List Pass) (doors_after : List D) (passes_after : List Pass) (builds : BuildTotals) (failed : Bool) (rung_before rung_after : ℕ)
     (news : AreNewPasses id board count passes) (some : 0 < length doors)
-    (p : IsParted talks closed faults port held silent doors passes doors_after passes_after builds failed rung_before rung_after) where
+    (p : IsParted at held silent doors passes doors_after passes_after builds failed rung_before rung_after) where
   long_before : length passes ≡ length doors + 1
   long_before = let long = p.long in
       let all : length passes ≡ length p.first + 1 = ap length p.passes_are ∙ length-append p.first (p.builder ∷ []) in omega (arith, long, all)
@@ -116,7 +117,7 @@ module _ {D : Type 0} (talks : D → Option (List EndedTalk)) (closed : D → Bo
     seen_on i early = let b = long_after in
         subst (λ (x : Pass). OthersAdd i (seen_of x) history) (first_after_at i p.builder early) (goes i p.builder (omega (arith, b, early)))
 
-    pub are_served : AreServedBy talks closed faults port held silent board doors doors_after history
+    pub are_served : AreServedBy at held silent board doors doors_after history
     are_served = record {
       long = p.ran.doors_long;
       each = λ i door early.
@@ -127,8 +128,8 @@ module _ {D : Type 0} (talks : D → Option (List EndedTalk)) (closed : D → Bo
             place_is = place_at id board count i (get_or p.first i p.builder) new;
             last = standing_of (get_or p.first_after i p.builder);
             served = subst
-                (λ s. HasServed held silent (place_of (get_or p.first i p.builder)) s (talks (get_or doors i door)) (standing_of (get_or p.first_after i p.builder))
-                (talks (get_or doors_after i door)))
+                (λ s. HasServed held silent (place_of (get_or p.first i p.builder)) s (at (get_or doors i door)).talks (standing_of (get_or p.first_after i p.builder))
+                (at (get_or doors_after i door)).talks)
                 (stands_first id board count i (get_or p.first i p.builder) new zero) run.served;
             ended = run.how;
             ends = run.ends;
@@ -149,7 +150,7 @@ module _ {D : Type 0} (talks : D → Option (List EndedTalk)) (closed : D → Bo
     }
 
     well_or_halts : (halts : Bool) → list_any is_halt history ≡ halts → IsFalse failed
-        → IsHalting history ⊎ ((i : ℕ) (default : D) → i < length doors_after → closed (get_or doors_after i default) ≡ true)
+        → IsHalting history ⊎ ((i : ℕ) (default : D) → i < length doors_after → (at (get_or doors_after i default)).closed ≡ true)
     well_or_halts true is off = inl is
     well_or_halts false is off = inr (λ i door early.
         let long = p.ran.doors_long in
@@ -160,7 +161,7 @@ module _ {D : Type 0} (talks : D → Option (List EndedTalk)) (closed : D → Bo
               let clash : true ≡ false = sym (halts_later i (seen_of (get_or p.first_after i p.builder)) history (seen_on i within) halts) ∙ is in absurd (cc)
         ])
 
-    pub failed_so : FailedSo closed faults failed doors doors_after history
+    pub failed_so : FailedSo at failed doors doors_after history
     failed_so = record {
       some = p.ran.some;
       none = λ off. (λ i door early. (p.ran.none off i door p.builder early).faults_are, well_or_halts (list_any is_halt history) refl off);
@@ -174,18 +175,18 @@ module _ {D : Type 0} (talks : D → Option (List EndedTalk)) (closed : D → Bo
       ∙ (same_by_place p.builder p.builder_after p.same).base ∙ new_builder.base
 
 -- a door at whose pass talks are sessions was served by sessions
-module _ {D : Type 0} (talks : D → Option (List EndedTalk)) (closed : D → Bool) (faults : D → ℕ) (port : D → Option ℕ) (done : Trade)
+module _ {D : Type 0} (at : D → AtDoor) (done : Trade)
     (board : Boarded) (history : List Entry) where
   pub by_sessions : (number : ℕ) (before after : D) → IsNoFeed done number
-      → IsServedBy talks closed faults port (IsHeldBy done) (feeds_at done) board number before after history
-      → IsServed talks closed faults port board number before after history
+      → IsServedBy at (IsHeldBy done) (feeds_at done) board number before after history
+      → IsServed at board number before after history
   by_sessions number before after none s = record {
     place = s.place;
     place_is = s.place_is;
     last = s.last;
     served = served_as (IsHeldBy done) (λ place from talk to. IsServedTalk place from talk to) s.place
-        (λ from talk to held. held.session (subst (IsNoFeed done) (sym s.place_is.pass) none)) (feeds_at done) (λ _. ⊥) first_standing (talks before) s.last
-        (talks after) (λ nobody. absurd nobody) s.served;
+        (λ from talk to held. held.session (subst (IsNoFeed done) (sym s.place_is.pass) none)) (feeds_at done) (λ _. ⊥) first_standing (at before).talks s.last
+        (at after).talks (λ nobody. absurd nobody) s.served;
     ended = s.ended;
     ends = s.ends;
     port_is = s.port_is;
@@ -193,8 +194,8 @@ module _ {D : Type 0} (talks : D → Option (List EndedTalk)) (closed : D → Bo
   }
 
   pub all_by_sessions : (doors doors_after : List D) → ((number : ℕ) → IsNoFeed done number)
-      → AreServedBy talks closed faults port (IsHeldBy done) (feeds_at done) board doors doors_after history
-      → AreServed talks closed faults port board doors doors_after history
+      → AreServedBy at (IsHeldBy done) (feeds_at done) board doors doors_after history
+      → AreServed at board doors doors_after history
   all_by_sessions doors doors_after none p = record {
     long = p.long;
     each = λ i d early. by_sessions i (get_or doors i d) (get_or doors_after i d) (none i) (p.each i d early);

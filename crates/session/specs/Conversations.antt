@@ -13,8 +13,7 @@ use Rattle.query_proto.specs.declared.replies.Reply.TheVariants as reply
 use Rattle.query_proto.specs.declared.requests.Request.{Request}
 use Rattle.query_proto.specs.declared.requests.Request.TheVariants as request
 use Rattle.query_proto.specs.Frames.{IsNoRequest, IsRequestFrame, limit_of, request_bytes, sent_reply, sent_request}
-use Rattle.wire.specs.Causes.{Rose}
-use Rattle.wire.specs.Talks.{Talk, with_sent, with_taken}
+use Rattle.wire.specs.Talks.{Talk, with_sent, with_taken, AtLink, ReadFails, WriteFails}
 use Rattle.session.specs.declared.sessions.TheConstants.{MAX_REQUESTS}
 use Rattle.session.specs.declared.sessions.Ended.{Ended}
 use Rattle.session.specs.declared.sessions.Ended.TheVariants as ended
@@ -219,7 +218,7 @@ pub record Conversed (place : Place) (old : Standing) (before : Option Talk) (re
   pub ends : EndsSo exchanges last sent after result
 
 -- a fault of the link has its cause in the count of its direction
-abbrev pub HasCause : ℕ → ℕ → ℕ → ℕ → SessionFault → Type 0
-HasCause read_old read_new write_old write_new fault.ReadFault = Rose read_old read_new
-HasCause read_old read_new write_old write_new fault.WriteFault = Rose write_old write_new
-HasCause _ _ _ _ _ = Unit {0}
+abbrev pub HasCause : AtLink → AtLink → SessionFault → Type 0
+HasCause before after fault.ReadFault = ReadFails before after
+HasCause before after fault.WriteFault = WriteFails before after
+HasCause before after _ = Unit {0}

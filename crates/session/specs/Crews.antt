@@ -12,6 +12,7 @@ use Rattle.session.specs.declared.doors.DoorEnded.TheVariants.{Halting, Closed, 
 use Rattle.session.specs.Doors.{DoorEndsSo, HasServed}
 use Rattle.session.specs.Seats.{place_of, standing_of}
 use Rattle.session.specs.Standing.{Place, Standing}
+use Rattle.wire.specs.Knocks.{AtDoor}
 
 -- what is read of each, that of the last first
 abbrev pub backwards : {W X : Type 0} → List W → (W → X) → List X
@@ -29,22 +30,21 @@ has_failed (Some Closed) = false
 has_failed (Some Failed) = true
 
 -- a worker that may begin: its door is not closed, and the trade fits its place
-pub record MayBegin {D B C : Type 0} (closed : D → Bool) (fits : Place → Type 0) (worker : Worker D B C) : Type 0 where
-  pub door_is : closed worker.door ≡ false
+pub record MayBegin {D B C : Type 0} (at : D → AtDoor) (fits : Place → Type 0) (worker : Worker D B C) : Type 0 where
+  pub door_is : (at worker.door).closed ≡ false
   pub place_fits : fits (place_of worker.seat.pass)
 
-module _ {D : Type 0} (talks : D → Option (List EndedTalk)) (closed : D → Bool) (faults : D → ℕ)
-    (port : D → Option ℕ) (held : Place → Standing → EndedTalk → Standing → Type 0) (silent : Place → Type 0) where
+module _ {D : Type 0} (at : D → AtDoor) (held : Place → Standing → EndedTalk → Standing → Type 0) (silent : Place → Type 0) where
   -- a worker with that pass served that door, and its loop has ended so
   pub record HasRun (pass_before : Pass) (before : D) (pass_after : Pass) (after : D)
       (ended : Option DoorEnded) : Type 0 where
     pub same : place_of pass_after ≡ place_of pass_before
-    pub served : HasServed held silent (place_of pass_before) (standing_of pass_before) (talks before) (standing_of pass_after)
-        (talks after)
+    pub served : HasServed held silent (place_of pass_before) (standing_of pass_before) (at before).talks (standing_of pass_after)
+        (at after).talks
     pub how : DoorEnded
     pub ended_is : ended ≡ Some how
-    pub ends : DoorEndsSo how (seen_of pass_after) (closed after) (faults before) (faults after)
-    pub port_is : port after ≡ port before
+    pub ends : DoorEndsSo how (seen_of pass_after) (at before) (at after)
+    pub port_is : (at after).port ≡ (at before).port
 
   -- all workers of a list have
   pub record HaveAllRun {B C : Type 0} (before after : List (Worker D B C)) : Type 0 where
@@ -58,29 +58,28 @@ module _ {D : Type 0} (talks : D → Option (List EndedTalk)) (closed : D → Bo
     pub ended : Option DoorEnded
     pub run : HasRun pass_before before pass_after after ended
 
-module _ {D : Type 0} (closed : D → Bool) (faults : D → ℕ) where
+module _ {D : Type 0} (at : D → AtDoor) where
   -- the count of some door rose
   pub record SomeRose (before after : List D) : Type 0 where
     pub place : ℕ
     pub within : place < length before
-    pub rose : (door : D) → Rose (faults (slice_index_or before place door)) (faults (slice_index_or after place door))
+    pub rose : (door : D) → Rose (at (slice_index_or before place door)).faults (at (slice_index_or after place door)).faults
 
   -- no knock failed: the door is closed, or the board halts
   pub record EndsWell (before after : D) (pass_after : Pass) : Type 0 where
-    pub faults_are : faults after ≡ faults before
-    pub why : (closed after ≡ true) ⊎ IsHalting (seen_of pass_after)
+    pub faults_are : (at after).faults ≡ (at before).faults
+    pub why : ((at after).closed ≡ true) ⊎ IsHalting (seen_of pass_after)
 
-module _ {D : Type 0} (talks : D → Option (List EndedTalk)) (closed : D → Bool) (faults : D → ℕ)
-    (port : D → Option ℕ) (held : Place → Standing → EndedTalk → Standing → Type 0) (silent : Place → Type 0) where
+module _ {D : Type 0} (at : D → AtDoor) (held : Place → Standing → EndedTalk → Standing → Type 0) (silent : Place → Type 0) where
   -- each door was served by the worker with the pass at its place; and whether a knock failed somewhere
   pub record HaveRun (doors : List D) (passes : List Pass) (doors_after : List D) (passes_after : List Pass)
       (failed : Bool) : Type 0 where
     pub doors_long : length doors_after ≡ length doors
     pub passes_long : length passes_after ≡ length doors
     pub each : (i : ℕ) (door : D) (pass : Pass) → i < length doors
-        → HasEnded talks closed faults port held silent (slice_index_or passes i pass) (slice_index_or doors i door)
+        → HasEnded at held silent (slice_index_or passes i pass) (slice_index_or doors i door)
         (slice_index_or passes_after i pass) (slice_index_or doors_after i door)
-    pub some : IsTrue failed → SomeRose closed faults doors doors_after
+    pub some : IsTrue failed → SomeRose at doors doors_after
     pub none : IsFalse failed → (i : ℕ) (door : D) (pass : Pass) → i < length doors
-        → EndsWell closed faults (slice_index_or doors i door) (slice_index_or doors_after i door)
+        → EndsWell at (slice_index_or doors i door) (slice_index_or doors_after i door)
         (slice_index_or passes_after i pass)

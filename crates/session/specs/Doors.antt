@@ -1,10 +1,11 @@
 -- What a loop at a door does: its talks, one after the other, and how it ends.
-use Rattle.std.specs.Prelude.{◌≡◌, ◌⊎◌, ℕ, Bool, true, false, IfErr, IfSome, List, None, Option, Result, Some, [], ◌∷◌, ◌++◌, option_map}
+use Rattle.std.specs.Prelude.{◌≡◌, ◌⊎◌, true, false, IfErr, IfSome, List, None, Option, Result, Some, [], ◌∷◌, ◌++◌, option_map}
 use Rattle.path_core.specs.declared.entry.Entry.{Entry}
 use Rattle.path_core.specs.Histories.{IsHalting}
 use Rattle.path_core.specs.Passes.{BeginsWith, OthersAdd}
 use Rattle.wire.specs.Causes.{Rose}
-use Rattle.wire.specs.Talks.{EndedTalk, Talk}
+use Rattle.wire.specs.Knocks.{AtDoor}
+use Rattle.wire.specs.Talks.{AtLink, EndedTalk, Talk, talk_over}
 use Rattle.session.specs.declared.doors.DoorEnded.{DoorEnded}
 use Rattle.session.specs.declared.doors.DoorEnded.TheVariants.{Halting, Closed, Failed}
 use Rattle.session.specs.declared.sessions.Ended.{Ended}
@@ -16,11 +17,24 @@ use Rattle.session.specs.Standing.{HoldsSince, Place, Raises, Standing}
 abbrev pub as_begun : Talk → Talk
 as_begun talk = record talk { left = talk.input; sent = option_map (λ _. []) talk.sent }
 
+-- a link that had just come in, of which this became the talk
+abbrev pub link_begun : EndedTalk → AtLink
+link_begun ended =
+    record { talk = Some (as_begun ended.talk); read_faults = 0; write_faults = 0 }
+
+-- the link when its talk was over
+abbrev pub link_ended : EndedTalk → AtLink
+link_ended ended = record {
+  talk = Some ended.talk;
+  read_faults = ended.read_faults;
+  write_faults = ended.write_faults;
+}
+
 -- A TALK that is over was served from its first byte on, and a fault is told only where the count of its direction rose
 pub record IsServedTalk (place : Place) (from : Standing) (ended : EndedTalk) (to : Standing) : Type 0 where
   pub result : Result Ended SessionFault
-  pub conversed : Conversed place from (Some (as_begun ended.talk)) result to (Some ended.talk)
-  pub cause : IfErr result (HasCause 0 ended.read_faults 0 ended.write_faults)
+  pub conversed : Conversed place from (link_begun ended).talk result to (link_ended ended).talk
+  pub cause : IfErr result (HasCause (link_begun ended) (link_ended ended))
 
 -- a look between two talks
 pub record LooksBetween (place : Place) (old new : Standing) : Type 0 where
@@ -41,11 +55,11 @@ pub record MovesOn (silent : Place → Type 0) (place : Place) (old new : Standi
 
 -- What is so of a talk that was held at a place, by how the pass stood before and behind it, differs from trade to trade.
 module _ (held : Place → Standing → EndedTalk → Standing → Type 0) where
-  -- a talk is told, and was held so, with so many faults
-  pub record HoldsTalk (place : Place) (from : Standing) (told : Option Talk) (reads writes : ℕ) (to : Standing) : Type 0 where
+  -- the link tells its talk, which was held so
+  pub record HoldsTalk (place : Place) (from : Standing) (link : AtLink) (to : Standing) : Type 0 where
     pub talk : Talk
-    pub told_is : told ≡ Some talk
-    pub so : held place from (record { talk = talk; read_faults = reads; write_faults = writes }) to
+    pub told_is : link.talk ≡ Some talk
+    pub so : held place from (talk_over link talk) to
 
   -- THE TALKS LEAD from one standing to another, through points of one history, one after the other, with a look behind each;
   -- others may add entries between them and behind the last
@@ -83,20 +97,22 @@ module _ (held : Place → Standing → EndedTalk → Standing → Type 0) where
       pub told : IfSome before (λ talks. ServesOne place old talks new after)
 
 -- HOW A LOOP AT A DOOR ENDED: the board halts, the door has answered that nobody will come any more, or a knock has failed
-abbrev pub DoorEndsSo : DoorEnded → List Entry → Bool → ℕ → ℕ → Type 0
-DoorEndsSo Halting seen closed before after = IsHalting seen × (closed ≡ false) × (after ≡ before)
-DoorEndsSo Closed seen closed before after = (closed ≡ true) × (after ≡ before)
-DoorEndsSo Failed seen closed before after = (closed ≡ false) × Rose before after
+abbrev pub DoorEndsSo : DoorEnded → List Entry → AtDoor → AtDoor → Type 0
+DoorEndsSo Halting seen before after =
+    IsHalting seen × (after.closed ≡ false) × (after.faults ≡ before.faults)
+DoorEndsSo Closed seen before after = (after.closed ≡ true) × (after.faults ≡ before.faults)
+DoorEndsSo Failed seen before after = (after.closed ≡ false) × Rose before.faults after.faults
 
 -- it ended so, or goes on: the board does not halt, the door is open, and no knock has failed
-abbrev pub GoesOnOrEnds : Option DoorEnded → List Entry → Bool → ℕ → ℕ → Type 0
-GoesOnOrEnds None seen closed before after = (IsHalting seen → ⊥) × (closed ≡ false) × (after ≡ before)
-GoesOnOrEnds (Some ended) seen closed before after = DoorEndsSo ended seen closed before after
+abbrev pub GoesOnOrEnds : Option DoorEnded → List Entry → AtDoor → AtDoor → Type 0
+GoesOnOrEnds None seen before after =
+    (IsHalting seen → ⊥) × (after.closed ≡ false) × (after.faults ≡ before.faults)
+GoesOnOrEnds (Some ended) seen before after = DoorEndsSo ended seen before after
 
 -- a loop that begins, or that has looked last at a board that does not halt
 abbrev pub HasGoneOn : Standing → Option (List EndedTalk) → Standing → Option (List EndedTalk) → Type 0
 HasGoneOn old before new after = ((new ≡ old) × (after ≡ before)) ⊎ (IsHalting new.seen → ⊥)
 
--- a count is the same where talks are told
-abbrev pub SameWhereTold : Option (List EndedTalk) → ℕ → ℕ → Type 0
-SameWhereTold talks before after = IfSome talks (λ _. after ≡ before)
+-- a door that tells its talks has lent as many connections as before
+abbrev pub LendsTheSame : AtDoor → AtDoor → Type 0
+LendsTheSame before after = IfSome before.talks (λ _. after.lent ≡ before.lent)

@@ -1,5 +1,5 @@
 -- A board that was served at its doors.
-use Rattle.std.specs.Prelude.{◌≡◌, ◌⊎◌, ℕ, ◌<◌, Bool, true, IsTrue, IsFalse, List, [], ◌∷◌, ◌++◌, Option, Some, length, slice_index_or}
+use Rattle.std.specs.Prelude.{◌≡◌, ◌⊎◌, ℕ, ◌<◌, Bool, true, IsTrue, IsFalse, List, [], ◌∷◌, ◌++◌, Some, length, slice_index_or}
 use Rattle.path_core.specs.declared.entry.Entry.{Entry}
 use Rattle.path_core.specs.Boards.{Boarded}
 use Rattle.path_core.specs.Histories.{IsHalting}
@@ -13,6 +13,7 @@ use Rattle.session.specs.Crews.{HaveRun, SomeRose}
 use Rattle.session.specs.Doors.{DoorEndsSo, HasServed, IsServedTalk}
 use Rattle.session.specs.Seats.{place_of, standing_of}
 use Rattle.session.specs.Standing.{Place, Standing}
+use Rattle.wire.specs.Knocks.{AtDoor}
 
 -- how a pass stands that has done nothing yet
 abbrev pub first_standing : Standing
@@ -29,8 +30,7 @@ pub record IsPlaceAt (board : Boarded) (number : ℕ) (place : Place) : Type 0 w
 abbrev pub FitsBoard : (Place → Type 0) → Boarded → Type 0
 FitsBoard fits board = (number : ℕ) (place : Place) → IsPlaceAt board number place → fits place
 
-module _ {D : Type 0} (talks : D → Option (List EndedTalk)) (closed : D → Bool) (faults : D → ℕ)
-    (port : D → Option ℕ) where
+module _ {D : Type 0} (at : D → AtDoor) where
   module _ (held : Place → Standing → EndedTalk → Standing → Type 0) (silent : Place → Type 0) where
     -- The pass with that number served the door from its first look on, up to what it saw last; the history goes on from there
     -- with no entry of its own.
@@ -38,10 +38,10 @@ module _ {D : Type 0} (talks : D → Option (List EndedTalk)) (closed : D → Bo
       pub place : Place
       pub place_is : IsPlaceAt board number place
       pub last : Standing
-      pub served : HasServed held silent place first_standing (talks before) last (talks after)
+      pub served : HasServed held silent place first_standing (at before).talks last (at after).talks
       pub ended : DoorEnded
-      pub ends : DoorEndsSo ended last.seen (closed after) (faults before) (faults after)
-      pub port_is : port after ≡ port before
+      pub ends : DoorEndsSo ended last.seen (at before) (at after)
+      pub port_is : (at after).port ≡ (at before).port
       pub to_end : OthersAdd number last.seen history
 
     -- EACH DOOR WAS SERVED by the pass with the number of its place, by talks of which that is so, and silently at those places
@@ -58,19 +58,19 @@ module _ {D : Type 0} (talks : D → Option (List EndedTalk)) (closed : D → Bo
   abbrev pub AreServed : Boarded → List D → List D → List Entry → Type 0
   AreServed = AreServedBy (λ place from talk to. IsServedTalk place from talk to) (λ _. ⊥)
 
-module _ {D : Type 0} (closed : D → Bool) (faults : D → ℕ) where
+module _ {D : Type 0} (at : D → AtDoor) where
   -- no count of a door rose
   abbrev pub NoneRose : List D → List D → Type 0
   NoneRose before after = (i : ℕ) (default : D) → i < length before
-      → faults (slice_index_or after i default) ≡ faults (slice_index_or before i default)
+      → (at (slice_index_or after i default)).faults ≡ (at (slice_index_or before i default)).faults
 
   -- each door is closed
   abbrev pub AllClosed : List D → Type 0
-  AllClosed doors = (i : ℕ) (default : D) → i < length doors → closed (slice_index_or doors i default) ≡ true
+  AllClosed doors = (i : ℕ) (default : D) → i < length doors → (at (slice_index_or doors i default)).closed ≡ true
 
   -- HOW IT FAILED: the count of some door rose; or none did, and the board halts or each door is closed
   pub record FailedSo (failed : Bool) (before after : List D) (history : List Entry) : Type 0 where
-    pub some : IsTrue failed → SomeRose closed faults before after
+    pub some : IsTrue failed → SomeRose at before after
     pub none : IsFalse failed → NoneRose before after × (IsHalting history ⊎ AllClosed after)
 
 -- THE BUILDER, the pass with that number, built at each ring up to what it saw last; the history goes on from there with no
@@ -85,8 +85,7 @@ pub record IsBuiltBy (board : Boarded) (number : ℕ) (totals : BuildTotals) (ru
 
 -- ---- before the board is closed
 
-module _ {D : Type 0} (talks : D → Option (List EndedTalk)) (closed : D → Bool) (faults : D → ℕ)
-    (port : D → Option ℕ) (held : Place → Standing → EndedTalk → Standing → Type 0) (silent : Place → Type 0) where
+module _ {D : Type 0} (at : D → AtDoor) (held : Place → Standing → EndedTalk → Standing → Type 0) (silent : Place → Type 0) where
   -- all passes but the last served the doors, and the last built
   pub record IsParted (doors : List D) (passes : List Pass) (doors_after : List D) (passes_after : List Pass)
       (builds : BuildTotals) (failed : Bool)
@@ -98,6 +97,6 @@ module _ {D : Type 0} (talks : D → Option (List EndedTalk)) (closed : D → Bo
     pub first_after : List Pass
     pub builder_after : Pass
     pub passes_after_are : passes_after ≡ first_after ++ builder_after ∷ []
-    pub ran : HaveRun talks closed faults port held silent doors first doors_after first_after failed
+    pub ran : HaveRun at held silent doors first doors_after first_after failed
     pub same : place_of builder_after ≡ place_of builder
     pub built : HasBuilt (place_of builder) (standing_of builder) builds rung_before (standing_of builder_after) rung_after

@@ -8,7 +8,7 @@ use Rattle.feed_node.specs.declared.feeding.FeedFault.{FeedFault}
 use Rattle.feed_node.specs.Feeding.{Feeds, HasCause}
 use Rattle.session.specs.declared.trades.Trade.{Trade}
 use Rattle.session.specs.declared.trades.Trade.TheVariants as trade
-use Rattle.session.specs.Doors.{IsServedTalk, as_begun}
+use Rattle.session.specs.Doors.{IsServedTalk, link_begun, link_ended}
 use Rattle.session.specs.Standing.{Place, Standing}
 
 -- A TALK that is over was a feed of this map and of what the pass saw meanwhile, from its first byte on; the pass entered nothing;
@@ -19,10 +19,10 @@ pub record IsFedTalk (start : Map) (place : Place) (from : Standing) (ended : En
   pub from_looks : from.looks ≡ Some looks
   pub more : ℕ
   pub to_looks : to.looks ≡ Some more
-  pub feeds : Feeds start (record { seen = from.seen; looks = looks }) (Some (as_begun ended.talk)) result
-      (record { seen = to.seen; looks = more }) (Some ended.talk)
+  pub feeds : Feeds start (record { seen = from.seen; looks = looks }) (link_begun ended).talk result
+      (record { seen = to.seen; looks = more }) (link_ended ended).talk
   pub others : OthersAdd place.pass from.seen to.seen
-  pub cause : IfErr result (HasCause 0 ended.read_faults 0 ended.write_faults)
+  pub cause : IfErr result (HasCause (link_begun ended) (link_ended ended))
 
 -- the talks of the pass with that number are feeds, which begin with this map
 abbrev pub IsFeedBy : Trade → ℕ → Map → Type 0

@@ -80,20 +80,20 @@ pub fn serve_board<D: Door, B: Bell, E: Ear, R: Threads + Wait + Sync, G: Gate>(
     requires workers { workers ≤ MAX_WORKERS }
     requires some { 0 < length doors.items }
     requires few { length doors.items ≤ MAX_DOORS }
-    requires open { All (λ door. D.closed door ≡ false) doors.items }
+    requires open { All (λ door. (D.at door).closed ≡ false) doors.items }
     requires none { board.history ≡ [] }
-    requires waiting { E.over ear.old ≡ false }
+    requires waiting { (E.at ear.old).over ≡ false }
     ensures base { IfOk result (λ served. foundation_of served.board ≡ foundation_of board) }
     ensures legal { IfOk result (λ served. IsLegal served.board.start served.board.history) }
     ensures named { IfOk result (λ served. All (λ entry. pass_of entry < length doors.items + 1)
         served.board.history) }
-    ensures served { IfOk result (λ served. AreServed D.talks D.closed D.faults D.port board
+    ensures served { IfOk result (λ served. AreServed D.at board
         doors.items served.doors.items served.board.history) }
     ensures built { IfOk result (λ served. IsBuiltBy board (length doors.items) served.builds
-        (E.rung ear.old) (E.rung ear.new) served.board.history) }
-    ensures failed { IfOk result (λ served. FailedSo D.closed D.faults served.failed
+        (E.at ear.old).rung (E.at ear.new).rung served.board.history) }
+    ensures failed { IfOk result (λ served. FailedSo D.at served.failed
         doors.items served.doors.items served.board.history) }
-    ensures over { OnOk result (E.over ear.new ≡ true) }
+    ensures over { OnOk result ((E.at ear.new).over ≡ true) }
     ensures refused { IfErr result (λ refused. refused.doors.items ≡ doors.items) }
     ensures unheard { OnErr result (ear.new ≡ ear.old) }
 {
@@ -117,21 +117,21 @@ pub fn serve_trades<D: Door, B: Bell, E: Ear, R: Threads + Wait + Sync, G: Gate>
     requires fits { FitsBoard (FitsAt trade.now) board }
     requires some { 0 < length doors.items }
     requires few { length doors.items ≤ MAX_DOORS + 1 }
-    requires open { All (λ door. D.closed door ≡ false) doors.items }
+    requires open { All (λ door. (D.at door).closed ≡ false) doors.items }
     requires none { board.history ≡ [] }
-    requires waiting { E.over ear.old ≡ false }
+    requires waiting { (E.at ear.old).over ≡ false }
     ensures base { IfOk result (λ served. foundation_of served.board ≡ foundation_of board) }
     ensures legal { IfOk result (λ served. IsLegal served.board.start served.board.history) }
     ensures named { IfOk result (λ served. All (λ entry. pass_of entry < length doors.items + 1)
         served.board.history) }
-    ensures served { IfOk result (λ served. AreServedBy D.talks D.closed D.faults D.port
+    ensures served { IfOk result (λ served. AreServedBy D.at
         (IsHeldBy trade.now) (feeds_at trade.now) board
         doors.items served.doors.items served.board.history) }
     ensures built { IfOk result (λ served. IsBuiltBy board (length doors.items) served.builds
-        (E.rung ear.old) (E.rung ear.new) served.board.history) }
-    ensures failed { IfOk result (λ served. FailedSo D.closed D.faults served.failed
+        (E.at ear.old).rung (E.at ear.new).rung served.board.history) }
+    ensures failed { IfOk result (λ served. FailedSo D.at served.failed
         doors.items served.doors.items served.board.history) }
-    ensures over { OnOk result (E.over ear.new ≡ true) }
+    ensures over { OnOk result ((E.at ear.new).over ≡ true) }
     ensures refused { IfErr result (λ refused. refused.doors.items ≡ doors.items) }
     ensures unheard { OnErr result (ear.new ≡ ear.old) }
 {
@@ -169,17 +169,17 @@ fn serve_shared<'a, D: Door, B: Bell, E: Ear, R: Threads + Wait + Sync, G: Gate>
     room: Vec<Worker<'a, D, B>>,
 ) -> Parted<D>
     requires fits { All (λ pass. FitsAt site.now.trade.now (place_of pass)) passes.items }
-    requires open { All (λ door. D.closed door ≡ false) doors.items }
+    requires open { All (λ door. (D.at door).closed ≡ false) doors.items }
     requires long { length passes.items ≡ length doors.items + 1 }
     requires of_board { All (IsPassOf (board_id site.now.board.now)) passes.items }
     requires none { room.items ≡ [] }
     requires room { length doors.items ≤ vec_capacity room }
-    requires waiting { E.over ear.old ≡ false }
-    ensures parted { IsParted D.talks D.closed D.faults D.port
+    requires waiting { (E.at ear.old).over ≡ false }
+    ensures parted { IsParted D.at
         (IsHeldBy site.now.trade.now)
         (feeds_at site.now.trade.now) doors.items passes.items result.doors.items result.passes.items
-        result.builds result.failed (E.rung ear.old) (E.rung ear.new) }
-    ensures over { E.over ear.new ≡ true }
+        result.builds result.failed (E.at ear.old).rung (E.at ear.new).rung }
+    ensures over { (E.at ear.new).over ≡ true }
 {
     let mut doors = doors;
     let mut passes = passes;

@@ -78,11 +78,11 @@ pub fn build_loop<K: Desk, E: Ear, R: Threads + Wait + Sync, G: Gate>(
 ) -> BuildTotals
     requires worker { 0 < workers }
     requires workers { workers ≤ MAX_WORKERS }
-    requires waiting { E.over ear.old ≡ false }
+    requires waiting { (E.at ear.old).over ≡ false }
     ensures place { (K.at desk.new).place ≡ (K.at desk.old).place }
     ensures built { HasBuilt (K.at desk.old).place (stands (K.at desk.old)) result
-        (E.rung ear.old) (stands (K.at desk.new)) (E.rung ear.new) }
-    ensures over { E.over ear.new ≡ true }
+        (E.at ear.old).rung (stands (K.at desk.new)) (E.at ear.new).rung }
+    ensures over { (E.at ear.new).over ≡ true }
 {
     let means = Means::new(rt, alloc, workers, gate);
     let mut totals = BuildTotals::none();

@@ -132,8 +132,8 @@ fn work<D: Door, B: Bell, R: Threads + Wait + Sync, G: Gate>(
     trade: &Trade<'_>,
     worker: &mut Worker<'_, D, B>,
 )
-    requires ready { MayBegin D.closed (FitsAt trade.now) worker.old }
-    ensures { HasRun D.talks D.closed D.faults D.port (IsHeldBy trade.now) (feeds_at trade.now) worker.old.seat.pass worker.old.door
+    requires ready { MayBegin D.at (FitsAt trade.now) worker.old }
+    ensures { HasRun D.at (IsHeldBy trade.now) (feeds_at trade.now) worker.old.seat.pass worker.old.door
         worker.new.seat.pass worker.new.door worker.new.ended }
 {
     let ended = door_loop(means, trade, &mut worker.seat, &mut worker.door);
@@ -148,9 +148,9 @@ fn serve_crew<D: Door, B: Bell, R: Threads + Wait + Sync, G: Gate>(
     crew: &mut [Worker<'_, D, B>],
 )
     requires ready { (i : ℕ) (d : _) → i < length crew.old →
-        MayBegin D.closed (FitsAt trade.now) (slice_index_or crew.old i d) }
+        MayBegin D.at (FitsAt trade.now) (slice_index_or crew.old i d) }
     ensures long { length crew.new ≡ length crew.old }
-    ensures each { (i : ℕ) (d : _) → i < length crew.old → HasRun D.talks D.closed D.faults D.port
+    ensures each { (i : ℕ) (d : _) → i < length crew.old → HasRun D.at
         (IsHeldBy trade.now) (feeds_at trade.now)
         (slice_index_or crew.old i d).seat.pass (slice_index_or crew.old i d).door
         (slice_index_or crew.new i d).seat.pass (slice_index_or crew.new i d).door
@@ -162,7 +162,7 @@ fn serve_crew<D: Door, B: Bell, R: Threads + Wait + Sync, G: Gate>(
         crew,
         threads,
         &|_: usize, worker: &mut Worker<'_, D, B>|
-            requires { MayBegin D.closed (FitsAt trade.now) worker.now }
+            requires { MayBegin D.at (FitsAt trade.now) worker.now }
         { work(means, trade, worker) },
     );
     bell.shut(means.rt);
@@ -176,8 +176,8 @@ fn serve_list<'a, D: Door, B: Bell, R: Threads + Wait + Sync, G: Gate>(
     crew: Vec<Worker<'a, D, B>>,
 ) -> Vec<Worker<'a, D, B>>
     requires ready { (i : ℕ) (d : _) → i < length crew.items →
-        MayBegin D.closed (FitsAt trade.now) (slice_index_or crew.items i d) }
-    ensures ran { HaveAllRun D.talks D.closed D.faults D.port (IsHeldBy trade.now) (feeds_at trade.now) crew.entry.items result.items }
+        MayBegin D.at (FitsAt trade.now) (slice_index_or crew.items i d) }
+    ensures ran { HaveAllRun D.at (IsHeldBy trade.now) (feeds_at trade.now) crew.entry.items result.items }
 {
     let mut crew = crew;
     serve_crew(means, trade, bell, crew.as_mut_slice());
@@ -190,12 +190,12 @@ fn build<'a, 'e, B: Bell, E: Ear, R: Threads + Wait + Sync, G: Gate>(
     builder: Seated<'a, B>,
     ear: &'e mut E,
 ) -> (Seated<'a, B>, &'e mut E, BuildTotals)
-    requires waiting { E.over ear.now ≡ false }
+    requires waiting { (E.at ear.now).over ≡ false }
     ensures name { result.1.ghost_name ≡ ear.entry.ghost_name }
-    ensures over { E.over result.1.now ≡ true }
+    ensures over { (E.at result.1.now).over ≡ true }
     ensures same { place_of result.0.pass ≡ place_of builder.entry.pass }
     ensures built { HasBuilt (place_of builder.entry.pass) (standing_of builder.entry.pass) result.2
-        (E.rung ear.entry.now) (standing_of result.0.pass) (E.rung result.1.now) }
+        (E.at ear.entry.now).rung (standing_of result.0.pass) (E.at result.1.now).rung }
 {
     let mut builder = builder;
     let totals = build_loop(
@@ -223,24 +223,24 @@ pub(crate) fn serve_beside<'a, D: Door, B: Bell, E: Ear, R: Threads + Wait + Syn
     ear: &mut E,
     crew: Vec<Worker<'a, D, B>>,
 ) -> (Seated<'a, B>, Vec<Worker<'a, D, B>>, BuildTotals)
-    requires waiting { E.over ear.old ≡ false }
+    requires waiting { (E.at ear.old).over ≡ false }
     requires ready { (i : ℕ) (d : _) → i < length crew.items →
-        MayBegin D.closed (FitsAt trade.now) (slice_index_or crew.items i d) }
-    ensures over { E.over ear.new ≡ true }
+        MayBegin D.at (FitsAt trade.now) (slice_index_or crew.items i d) }
+    ensures over { (E.at ear.new).over ≡ true }
     ensures same { place_of result.0.pass ≡ place_of builder.entry.pass }
     ensures built { HasBuilt (place_of builder.entry.pass) (standing_of builder.entry.pass) result.2
-        (E.rung ear.old) (standing_of result.0.pass) (E.rung ear.new) }
-    ensures ran { HaveAllRun D.talks D.closed D.faults D.port (IsHeldBy trade.now) (feeds_at trade.now) crew.entry.items result.1.items }
+        (E.at ear.old).rung (standing_of result.0.pass) (E.at ear.new).rung }
+    ensures ran { HaveAllRun D.at (IsHeldBy trade.now) (feeds_at trade.now) crew.entry.items result.1.items }
 {
     // The builder is the first: where no thread can be made it comes last, when the bell is shut.
     let ((builder, ear, totals), crew) = join(
         means.rt,
         ||
-            requires { E.over ear.now ≡ false }
+            requires { (E.at ear.now).over ≡ false }
         { build(means, builder, ear) },
         ||
             requires { (i : ℕ) (d : _) → i < length crew.items →
-                MayBegin D.closed (FitsAt trade.now) (slice_index_or crew.items i d) }
+                MayBegin D.at (FitsAt trade.now) (slice_index_or crew.items i d) }
         { serve_list(means, trade, bell, crew) },
     );
     take_back(ear);

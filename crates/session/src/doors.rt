@@ -5,9 +5,9 @@ ghost use Rattle.path_core.specs.Histories.{IsHalting};
 ghost use Rattle.path_core.specs.Passes.{OthersAdd};
 ghost use Rattle.path_board.specs.Passes.{seen_of};
 ghost use Rattle.wire.specs.Knocks.{HasLent, TellsToo};
-ghost use Rattle.wire.specs.Talks.{IsFresh};
+ghost use Rattle.wire.specs.Talks.{IsUnused};
 ghost use Rattle.session.specs.declared.doors.DoorEnded.TheVariants.{Halting};
-ghost use Rattle.session.specs.Doors.{DoorEndsSo, GoesOnOrEnds, HasServed, HasServedOne, HoldsTalk, LooksBetween, MovesOn, SameWhereTold};
+ghost use Rattle.session.specs.Doors.{DoorEndsSo, GoesOnOrEnds, HasServed, HasServedOne, HoldsTalk, LooksBetween, MovesOn, LendsTheSame};
 ghost use Rattle.session.specs.Seats.{place_of, standing_of};
 ghost use Rattle.session.specs.Standing.{HoldsSince, stands};
 ghost use Rattle.session.specs.Trades.{FitsAt, IsFedTalk, IsHeldBy, feeds_at};
@@ -45,15 +45,14 @@ pub fn door_loop<B: Bell, D: Door, R: Threads + Wait + Sync, G: Gate>(
     door: &mut D,
 ) -> DoorEnded
     requires fits { FitsAt trade.now (place_of seat.old.pass) }
-    requires open { D.closed door.old ≡ false }
+    requires open { (D.at door.old).closed ≡ false }
     ensures place { place_of seat.new.pass ≡ place_of seat.old.pass }
     ensures served { HasServed (IsHeldBy trade.now)
         (feeds_at trade.now) (place_of seat.old.pass) (standing_of seat.old.pass)
-        (D.talks door.old) (standing_of seat.new.pass) (D.talks door.new) }
-    ensures ended { DoorEndsSo result (seen_of seat.new.pass) (D.closed door.new)
-        (D.faults door.old) (D.faults door.new) }
-    ensures lent { SameWhereTold (D.talks door.old) (D.lent door.old) (D.lent door.new) }
-    ensures port { D.port door.new ≡ D.port door.old }
+        (D.at door.old).talks (standing_of seat.new.pass) (D.at door.new).talks }
+    ensures ended { DoorEndsSo result (seen_of seat.new.pass) (D.at door.old) (D.at door.new) }
+    ensures lent { LendsTheSame (D.at door.old) (D.at door.new) }
+    ensures port { (D.at door.new).port ≡ (D.at door.old).port }
 {
     for _ in means.rt.forever() {
         match serve_knock(means, trade, seat, door) {
@@ -72,15 +71,14 @@ fn serve_knock<B: Bell, D: Door, R: Threads + Wait + Sync, G: Gate>(
     door: &mut D,
 ) -> Option<DoorEnded>
     requires fits { FitsAt trade.now (place_of seat.old.pass) }
-    requires open { D.closed door.old ≡ false }
+    requires open { (D.at door.old).closed ≡ false }
     ensures place { place_of seat.new.pass ≡ place_of seat.old.pass }
     ensures served { HasServed (IsHeldBy trade.now)
         (feeds_at trade.now) (place_of seat.old.pass) (standing_of seat.old.pass)
-        (D.talks door.old) (standing_of seat.new.pass) (D.talks door.new) }
-    ensures ended { GoesOnOrEnds result (seen_of seat.new.pass) (D.closed door.new)
-        (D.faults door.old) (D.faults door.new) }
-    ensures lent { SameWhereTold (D.talks door.old) (D.lent door.old) (D.lent door.new) }
-    ensures port { D.port door.new ≡ D.port door.old }
+        (D.at door.old).talks (standing_of seat.new.pass) (D.at door.new).talks }
+    ensures ended { GoesOnOrEnds result (seen_of seat.new.pass) (D.at door.old) (D.at door.new) }
+    ensures lent { LendsTheSame (D.at door.old) (D.at door.new) }
+    ensures port { (D.at door.new).port ≡ (D.at door.old).port }
 {
     match door.knock() {
         Ok(Knock::Conn(conn)) => {
@@ -102,19 +100,17 @@ fn serve_conn<B: Bell, D: Door, R: Threads + Wait + Sync, G: Gate>(
     conn: D::Conn,
 )
     requires fits { FitsAt trade.now (place_of seat.old.pass) }
-    requires fresh { IsFresh (D.Conn.talk conn) }
-    requires told { TellsToo (D.talks door.old) (D.Conn.talk conn) }
-    requires no_read_fault { D.Conn.read_faults conn ≡ 0 }
-    requires no_write_fault { D.Conn.write_faults conn ≡ 0 }
-    requires lent { HasLent (D.talks door.old) (D.lent door.old) }
+    requires unused { IsUnused (D.Conn.at conn) }
+    requires told { TellsToo (D.at door.old) (D.Conn.at conn) }
+    requires lent { HasLent (D.at door.old) }
     ensures place { place_of seat.new.pass ≡ place_of seat.old.pass }
     ensures served { HasServedOne (IsHeldBy trade.now)
         (feeds_at trade.now) (place_of seat.old.pass) (standing_of seat.old.pass)
-        (D.talks door.old) (standing_of seat.new.pass) (D.talks door.new) }
-    ensures back { IfSome (D.talks door.old) (λ _. D.lent door.new ≡ D.lent door.old - 1) }
-    ensures closed { D.closed door.new ≡ D.closed door.old }
-    ensures faults { D.faults door.new ≡ D.faults door.old }
-    ensures port { D.port door.new ≡ D.port door.old }
+        (D.at door.old).talks (standing_of seat.new.pass) (D.at door.new).talks }
+    ensures back { IfSome (D.at door.old).talks (λ _. (D.at door.new).lent ≡ (D.at door.old).lent - 1) }
+    ensures closed { (D.at door.new).closed ≡ (D.at door.old).closed }
+    ensures faults { (D.at door.new).faults ≡ (D.at door.old).faults }
+    ensures port { (D.at door.new).port ≡ (D.at door.old).port }
 {
     let mut conn = conn;
     hold_talk(means, trade, seat, &mut conn);
@@ -130,16 +126,13 @@ fn hold_talk<B: Bell, L: Link, R: Threads + Wait + Sync, G: Gate>(
     link: &mut L,
 )
     requires fits { FitsAt trade.now (place_of seat.old.pass) }
-    requires fresh { IsFresh (L.talk link.old) }
-    requires no_read_fault { L.read_faults link.old ≡ 0 }
-    requires no_write_fault { L.write_faults link.old ≡ 0 }
+    requires unused { IsUnused (L.at link.old) }
     ensures place { place_of seat.new.pass ≡ place_of seat.old.pass }
     ensures on { MovesOn (feeds_at trade.now) (place_of seat.old.pass)
         (standing_of seat.old.pass) (standing_of seat.new.pass) }
-    ensures held { IfSome (L.talk link.old) (λ _. HoldsTalk
+    ensures held { IfSome (L.at link.old).talk (λ _. HoldsTalk
         (IsHeldBy trade.now) (place_of seat.old.pass)
-        (standing_of seat.old.pass) (L.talk link.new) (L.read_faults link.new)
-        (L.write_faults link.new) (standing_of seat.new.pass)) }
+        (standing_of seat.old.pass) (L.at link.new) (standing_of seat.new.pass)) }
 {
     match trade.start_by(seat.pass.number()) {
         Some(start) => feed(means, start, seat, link),
@@ -157,16 +150,14 @@ fn feed<B: Bell, L: Link, R: Wait, G>(
     link: &mut L,
 )
     requires start { start.now.map ≡ (place_of seat.old.pass).start }
-    requires fresh { IsFresh (L.talk link.old) }
-    requires no_read_fault { L.read_faults link.old ≡ 0 }
-    requires no_write_fault { L.write_faults link.old ≡ 0 }
+    requires unused { IsUnused (L.at link.old) }
     ensures place { place_of seat.new.pass ≡ place_of seat.old.pass }
     ensures others { OthersAdd seat.old.pass.number (seen_of seat.old.pass)
         (seen_of seat.new.pass) }
     ensures holds { HoldsSince (standing_of seat.old.pass) (standing_of seat.new.pass) }
-    ensures held { IfSome (L.talk link.old) (λ _. HoldsTalk (IsFedTalk start.now.map)
-        (place_of seat.old.pass) (standing_of seat.old.pass) (L.talk link.new)
-        (L.read_faults link.new) (L.write_faults link.new) (standing_of seat.new.pass)) }
+    ensures held { IfSome (L.at link.old).talk (λ _. HoldsTalk (IsFedTalk start.now.map)
+        (place_of seat.old.pass) (standing_of seat.old.pass) (L.at link.new)
+        (standing_of seat.new.pass)) }
 {
     let _ended = feed_link(
         means.rt,

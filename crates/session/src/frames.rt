@@ -3,8 +3,7 @@
 ghost use Rattle.std.specs.Prelude.{◌≡◌, ◌<◌, ◌≤◌, ◌+◌, [], length, take, drop, ℕ, Bool, IfErr, IfOk, IsFalse, MatchBool, OnErr, Option};
 ghost use Rattle.query_proto.specs.declared.TheConstants.{MAX_REQUEST};
 ghost use Rattle.byteorder.specs.Endian.{big_bytes};
-ghost use Rattle.wire.specs.Causes.{Rose};
-ghost use Rattle.wire.specs.Talks.{Talk};
+ghost use Rattle.wire.specs.Talks.{Talk, OnlyReads, ReadFails, AtLink};
 ghost use Rattle.session.specs.declared.sessions.SessionFault.TheVariants.{Torn};
 ghost use Rattle.session.specs.Conversations.{HasCause, HasNone};
 ghost use Rattle.session.specs.Turns.{HoldsMore, IsNext};
@@ -65,12 +64,10 @@ impl Held {
     ) -> Result<Option<usize>, SessionFault>
         requires begun { length self.old ≤ 2 }
         requires limit { limit ≤ MAX_REQUEST }
-        ensures more { HoldsMore (L.talk link.old) (L.talk link.new) self.old self.new }
-        ensures next { IsNext limit ahead self.new (L.talk link.new) result }
-        ensures cause { IfErr result (HasCause (L.read_faults link.old) (L.read_faults link.new)
-            (L.write_faults link.old) (L.write_faults link.new)) }
-        ensures reads { L.read_faults link.old ≤ L.read_faults link.new }
-        ensures writes { L.write_faults link.new ≡ L.write_faults link.old }
+        ensures more { HoldsMore (L.at link.old).talk (L.at link.new).talk self.old self.new }
+        ensures next { IsNext limit ahead self.new (L.at link.new).talk result }
+        ensures cause { IfErr result (HasCause (L.at link.old) (L.at link.new)) }
+        ensures counts { OnlyReads (L.at link.old) (L.at link.new) }
     {
         match self.fill(link, LENGTH, LENGTH) {
             Ok(true) => self.rest_of_frame(link, limit, ahead),
@@ -92,12 +89,10 @@ impl Held {
     ) -> Result<Option<usize>, SessionFault>
         requires held { length self.old ≡ 2 }
         requires limit { limit ≤ MAX_REQUEST }
-        ensures more { HoldsMore (L.talk link.old) (L.talk link.new) self.old self.new }
-        ensures next { IsNext limit ahead self.new (L.talk link.new) result }
-        ensures cause { IfErr result (HasCause (L.read_faults link.old) (L.read_faults link.new)
-            (L.write_faults link.old) (L.write_faults link.new)) }
-        ensures reads { L.read_faults link.old ≤ L.read_faults link.new }
-        ensures writes { L.write_faults link.new ≡ L.write_faults link.old }
+        ensures more { HoldsMore (L.at link.old).talk (L.at link.new).talk self.old self.new }
+        ensures next { IsNext limit ahead self.new (L.at link.new).talk result }
+        ensures cause { IfErr result (HasCause (L.at link.old) (L.at link.new)) }
+        ensures counts { OnlyReads (L.at link.old) (L.at link.new) }
     {
         let size = self.size();
         if size > limit {
@@ -120,13 +115,11 @@ impl Held {
         requires fits { size ≤ MAX_REQUEST }
         requires held { length self.old ≡ 2 }
         requires size { take 2 self.old ≡ big_bytes 2 size }
-        ensures more { HoldsMore (L.talk link.old) (L.talk link.new) self.old self.new }
+        ensures more { HoldsMore (L.at link.old).talk (L.at link.new).talk self.old self.new }
         ensures next { (limit : ℕ) → size ≤ limit
-            → IsNext limit ahead self.new (L.talk link.new) result }
-        ensures cause { IfErr result (HasCause (L.read_faults link.old) (L.read_faults link.new)
-            (L.write_faults link.old) (L.write_faults link.new)) }
-        ensures reads { L.read_faults link.old ≤ L.read_faults link.new }
-        ensures writes { L.write_faults link.new ≡ L.write_faults link.old }
+            → IsNext limit ahead self.new (L.at link.new).talk result }
+        ensures cause { IfErr result (HasCause (L.at link.old) (L.at link.new)) }
+        ensures counts { OnlyReads (L.at link.old) (L.at link.new) }
     {
         let want = LENGTH + size;
         match self.fill(link, want, most_wanted(want, ahead)) {
@@ -156,7 +149,7 @@ impl Held {
         requires { length self.now < 2 }
         ensures next { (limit : ℕ) (ahead : Bool) (told : Option Talk) → HasNone told →
             IsNext limit ahead self.now told result }
-        ensures cause { (a b c d : ℕ) → IfErr result (HasCause a b c d) }
+        ensures cause { (before after : AtLink) → IfErr result (HasCause before after) }
     {
         if self.have == 0 {
             return Ok(None);
@@ -185,14 +178,13 @@ impl Held {
         requires order { want ≤ most }
         requires room { most ≤ ROOM }
         requires few { length self.old ≤ most }
-        ensures more { HoldsMore (L.talk link.old) (L.talk link.new) self.old self.new }
+        ensures more { HoldsMore (L.at link.old).talk (L.at link.new).talk self.old self.new }
         ensures most { length self.new ≤ most }
         ensures whole { IfOk result (λ whole. MatchBool whole (want ≤ length self.new)
-            ((length self.new < want) × HasNone (L.talk link.new))) }
+            ((length self.new < want) × HasNone (L.at link.new).talk)) }
         ensures fault { OnErr result (length self.new < want) }
-        ensures cause { OnErr result (Rose (L.read_faults link.old) (L.read_faults link.new)) }
-        ensures reads { L.read_faults link.old ≤ L.read_faults link.new }
-        ensures writes { L.write_faults link.new ≡ L.write_faults link.old }
+        ensures cause { OnErr result (ReadFails (L.at link.old) (L.at link.new)) }
+        ensures counts { OnlyReads (L.at link.old) (L.at link.new) }
     {
         while self.have < want {
             let count = link.recv(&mut self.room[self.have..most])?;

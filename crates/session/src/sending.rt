@@ -4,8 +4,7 @@ ghost use Rattle.std.specs.Prelude.{◌≡◌, ◌<◌, ◌≤◌, [], ◌∷◌
 ghost use Rattle.moves.specs.Moves.{number_of};
 ghost use Rattle.query_proto.specs.declared.TheConstants.{HEAD_ROOM, MAX_MOVES};
 ghost use Rattle.query_proto.specs.Frames.{CanBeSent, moves_behind, sent_head};
-ghost use Rattle.wire.specs.Causes.{Rose};
-ghost use Rattle.wire.specs.Talks.{SendsPrefix, with_sent};
+ghost use Rattle.wire.specs.Talks.{SendsPrefix, with_sent, OnlyWrites, WriteFails};
 
 use moves::Move;
 use query_proto::{HEAD_ROOM, MAX_MOVES, Reply, reply_head};
@@ -70,13 +69,12 @@ impl ReplyRoom {
     /// `Failed` where the link failed before the whole reply was sent.
     pub(crate) fn send<L: Link>(&mut self, link: &mut L, reply: &Reply) -> Result<(), Failed>
         requires { moves_behind reply.now ≡ length self.old }
-        ensures sent { OnOk result (L.talk link.new
-            ≡ with_sent (L.talk link.old) (sent_head reply.now ++ self.old)) }
-        ensures prefix { OnErr result (SendsPrefix (L.talk link.old) (L.talk link.new)
+        ensures sent { OnOk result ((L.at link.new).talk
+            ≡ with_sent (L.at link.old).talk (sent_head reply.now ++ self.old)) }
+        ensures prefix { OnErr result (SendsPrefix (L.at link.old).talk (L.at link.new).talk
             (sent_head reply.now ++ self.old)) }
-        ensures cause { OnErr result (Rose (L.write_faults link.old) (L.write_faults link.new)) }
-        ensures writes { L.write_faults link.old ≤ L.write_faults link.new }
-        ensures reads { L.read_faults link.new ≡ L.read_faults link.old }
+        ensures cause { OnErr result (WriteFails (L.at link.old) (L.at link.new)) }
+        ensures counts { OnlyWrites (L.at link.old) (L.at link.new) }
     {
         let start = put_head(reply, &mut self.room[..HEAD_ROOM]);
         send_all(link, &self.room[start..HEAD_ROOM + self.many])

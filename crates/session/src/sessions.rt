@@ -5,10 +5,10 @@ ghost use Rattle.build_pool.specs.declared.TheConstants.{MAX_WORKERS};
 ghost use Rattle.query_proto.specs.declared.TheConstants.{MAX_REQUEST};
 ghost use Rattle.query_proto.specs.declared.protocols.Proto.TheVariants.{Start};
 ghost use Rattle.query_proto.specs.declared.requests.Request.TheVariants.{Stop};
-ghost use Rattle.wire.specs.Causes.{Rose};
 ghost use Rattle.session.specs.Conversations.{Conversed, HasCause, protocol_after};
 ghost use Rattle.session.specs.Standing.{stands};
 ghost use Rattle.session.specs.Turns.{AnswersSo, EndsBy, Steps, TellsBack, point, protocol_of};
+ghost use Rattle.wire.specs.Talks.{IsLater, OnlyWrites, WriteFails};
 
 use crate::desk::Desk;
 use crate::frames::Held;
@@ -79,12 +79,10 @@ pub fn serve_link<K: Desk, L: Link, R: Threads + Wait + Sync, G: Gate>(
     requires worker { 0 < workers }
     requires workers { workers ≤ MAX_WORKERS }
     ensures place { (K.at desk.new).place ≡ (K.at desk.old).place }
-    ensures talk { Conversed (K.at desk.old).place (stands (K.at desk.old)) (L.talk link.old)
-        result (stands (K.at desk.new)) (L.talk link.new) }
-    ensures cause { IfErr result (HasCause (L.read_faults link.old) (L.read_faults link.new)
-        (L.write_faults link.old) (L.write_faults link.new)) }
-    ensures reads { L.read_faults link.old ≤ L.read_faults link.new }
-    ensures writes { L.write_faults link.old ≤ L.write_faults link.new }
+    ensures talk { Conversed (K.at desk.old).place (stands (K.at desk.old)) (L.at link.old).talk
+        result (stands (K.at desk.new)) (L.at link.new).talk }
+    ensures cause { IfErr result (HasCause (L.at link.old) (L.at link.new)) }
+    ensures counts { IsLater (L.at link.old) (L.at link.new) }
 {
     let means = Means::new(rt, alloc, workers, gate);
     let mut session = Session {
@@ -116,12 +114,10 @@ fn serve_frames<K: Desk, L: Link, R: Threads + Wait + Sync, G: Gate>(
     requires start { session.old.proto ≡ Start }
     requires none { session.old.held ≡ [] }
     ensures place { (K.at desk.new).place ≡ (K.at desk.old).place }
-    ensures talk { Conversed (K.at desk.old).place (stands (K.at desk.old)) (L.talk link.old)
-        result (stands (K.at desk.new)) (L.talk link.new) }
-    ensures cause { IfErr result (HasCause (L.read_faults link.old) (L.read_faults link.new)
-        (L.write_faults link.old) (L.write_faults link.new)) }
-    ensures reads { L.read_faults link.old ≤ L.read_faults link.new }
-    ensures writes { L.write_faults link.old ≤ L.write_faults link.new }
+    ensures talk { Conversed (K.at desk.old).place (stands (K.at desk.old)) (L.at link.old).talk
+        result (stands (K.at desk.new)) (L.at link.new).talk }
+    ensures cause { IfErr result (HasCause (L.at link.old) (L.at link.new)) }
+    ensures counts { IsLater (L.at link.old) (L.at link.new) }
 {
     for count in 0..MAX_REQUESTS {
         let ahead = count + 1 < MAX_REQUESTS;
@@ -146,12 +142,10 @@ fn serve_next<K: Desk, L: Link, R: Threads + Wait + Sync, G: Gate>(
     requires begun { length session.old.held ≤ 2 }
     ensures place { (K.at desk.new).place ≡ (K.at desk.old).place }
     ensures steps { Steps (K.at desk.old).place ahead
-        (point session.old (K.at desk.old) (L.talk link.old)) result
-        (point session.new (K.at desk.new) (L.talk link.new)) }
-    ensures cause { IfErr result (HasCause (L.read_faults link.old) (L.read_faults link.new)
-        (L.write_faults link.old) (L.write_faults link.new)) }
-    ensures reads { L.read_faults link.old ≤ L.read_faults link.new }
-    ensures writes { L.write_faults link.old ≤ L.write_faults link.new }
+        (point session.old (K.at desk.old) (L.at link.old).talk) result
+        (point session.new (K.at desk.new) (L.at link.new).talk) }
+    ensures cause { IfErr result (HasCause (L.at link.old) (L.at link.new)) }
+    ensures counts { IsLater (L.at link.old) (L.at link.new) }
 {
     let limit = frame_limit(session.proto);
     let Some(size) = session.held.next_frame(link, limit, ahead)? else {
@@ -215,11 +209,10 @@ fn serve_frame<K: Desk, L: Link, R: Threads + Wait + Sync, G: Gate>(
     requires fits { length frame.now ≤ MAX_REQUEST }
     ensures place { (K.at desk.new).place ≡ (K.at desk.old).place }
     ensures tells { TellsBack (K.at desk.old).place proto frame.now
-        (stands (K.at desk.old)) (L.talk link.old) result
-        (stands (K.at desk.new)) (L.talk link.new) }
-    ensures cause { OnErr result (Rose (L.write_faults link.old) (L.write_faults link.new)) }
-    ensures writes { L.write_faults link.old ≤ L.write_faults link.new }
-    ensures reads { L.read_faults link.new ≡ L.read_faults link.old }
+        (stands (K.at desk.old)) (L.at link.old).talk result
+        (stands (K.at desk.new)) (L.at link.new).talk }
+    ensures cause { OnErr result (WriteFails (L.at link.old) (L.at link.new)) }
+    ensures counts { OnlyWrites (L.at link.old) (L.at link.new) }
 {
     room.clear();
     let (reply, ended) = answer_frame(means, desk, proto, frame, room);

@@ -11,9 +11,9 @@ serve_trades-requires-clause-fits g c κs within = λ number place is map by. ab
 pub returns-clause-served : goal.returns-clause-served
 returns-clause-served g c =
     IfOk-weaker c.serve_trades.result
-    (λ served. AreServedBy g.D.Door.talks g.D.Door.closed g.D.Door.faults g.D.Door.port (IsHeldBy trade.Sessions) (feeds_at trade.Sessions) c.args.board
+    (λ served. AreServedBy g.D.Door.at (IsHeldBy trade.Sessions) (feeds_at trade.Sessions) c.args.board
     c.args.doors.items served.doors.items served.board.history)
-    (λ served. AreServed g.D.Door.talks g.D.Door.closed g.D.Door.faults g.D.Door.port c.args.board c.args.doors.items served.doors.items served.board.history)
-    (λ served by. all_by_sessions g.D.Door.talks g.D.Door.closed g.D.Door.faults g.D.Door.port trade.Sessions c.args.board served.board.history c.args.doors.items
+    (λ served. AreServed g.D.Door.at c.args.board c.args.doors.items served.doors.items served.board.history)
+    (λ served by. all_by_sessions g.D.Door.at trade.Sessions c.args.board served.board.history c.args.doors.items
     served.doors.items (λ number map none. none) by)
     c.serve_trades.ensures.served

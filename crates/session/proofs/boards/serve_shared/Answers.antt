@@ -14,7 +14,7 @@ pub serve_beside-builder-requires-clause-ready : goal.serve_beside-builder-requi
 serve_beside-builder-requires-clause-ready g c κs within =
     let left = c.pop.new.self.items in
     let had : c.args.passes.items ≡ left ++ c.unwrap.result ∷ [] = c.pop.ensures.items ∙ ap (λ o. left ++ option_to_list o) c.unwrap.ensures in
-    may_begin g.D.Door.closed (FitsAt c.args.site.now.trade.now) c.hire-crew.result.items c.args.doors.items left
+    may_begin g.D.Door.at (FitsAt c.args.site.now.trade.now) c.hire-crew.result.items c.args.doors.items left
     c.hire-crew.ensures.doors c.hire-crew.ensures.passes c.requires.open
     (all_front (λ pass. FitsAt c.args.site.now.trade.now (place_of pass)) left (c.unwrap.result ∷ []) c.args.passes.items had c.requires.fits)
 
@@ -49,12 +49,12 @@ returns-clause-parted g c =
       first_after = c.dismiss.new.passes.items;
       builder_after = after;
       passes_after_are = c.push_reserved.ensures.items;
-      ran = have_run g.D.Door.talks g.D.Door.closed g.D.Door.faults g.D.Door.port (IsHeldBy c.args.site.now.trade.now)
+      ran = have_run g.D.Door.at (IsHeldBy c.args.site.now.trade.now)
           (feeds_at c.args.site.now.trade.now) c.hire-crew.result.items c.serve_beside-builder.result.1.items c.args.doors.items left
           c.dismiss.new.doors.items c.dismiss.new.passes.items c.serve_beside-builder.ensures.ran c.hire-crew.ensures.doors c.hire-crew.ensures.passes
           c.dismiss.ensures.doors c.dismiss.ensures.passes c.any_failed-failed.result
           (c.any_failed-failed.ensures ∙ ap (λ l. any_of l (λ w. has_failed w.ended)) c.deref.ensures.value);
       same = subst (λ (p : Pass). place_of after ≡ place_of p) c.seated-builder.ensures c.serve_beside-builder.ensures.same;
-      built = subst (λ (p : Pass). HasBuilt (place_of p) (standing_of p) c.serve_beside-builder.result.2 (g.E.Ear.rung c.args.ear.now) (standing_of after)
-          (g.E.Ear.rung c.serve_beside-builder.new.ear)) c.seated-builder.ensures c.serve_beside-builder.ensures.built;
+      built = subst (λ (p : Pass). HasBuilt (place_of p) (standing_of p) c.serve_beside-builder.result.2 (g.E.Ear.at c.args.ear.now).rung (standing_of after)
+          (g.E.Ear.at c.serve_beside-builder.new.ear).rung) c.seated-builder.ensures c.serve_beside-builder.ensures.built;
     }

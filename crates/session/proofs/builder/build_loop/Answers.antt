@@ -10,7 +10,7 @@ pub loop-init : goal.loop-init
 loop-init g c =
     let place = (g.K.Desk.at c.args.desk.now).place in
     let old = stands (g.K.Desk.at c.args.desk.now) in
-    let rung = g.E.Ear.rung c.args.ear.now in
+    let rung = (g.E.Ear.at c.args.ear.now).rung in
     (subst (λ t. HasBuilt place old t rung old rung) (sym c.none-totals.ensures) (built_none place old rung), refl, c.requires.waiting)
 
 pub loop-preserved : goal.loop-preserved
@@ -28,10 +28,10 @@ loop-preserved g c =
       own = subst (λ p. HoldsItsOwn p new) (then.called.place ∙ inv.1) c.held.ensures.own;
       looks = then.called.looks;
     } in (
-      built_more place old c.loop.totals (g.E.Ear.rung c.args.ear.now) mid (g.E.Ear.rung c.loop.ear) told new c.with-totals.result
-          (g.E.Ear.rung c.wait.new.self) inv.0 serves c.with-totals.ensures c.in-Rung.ensures.rung,
+      built_more place old c.loop.totals (g.E.Ear.at c.args.ear.now).rung mid (g.E.Ear.at c.loop.ear).rung told new c.with-totals.result
+          (g.E.Ear.at c.wait.new.self).rung inv.0 serves c.with-totals.ensures (ap (λ ear. ear.rung) c.in-Rung.ensures.heard),
       then.called.place ∙ inv.1,
-      c.in-Rung.ensures.over ∙ ap (λ b. b || false) inv.2,
+      ap (λ ear. ear.over) c.in-Rung.ensures.heard ∙ ap (λ b. b || false) inv.2,
     )
 
 pub returns-in-Shut-clause-place : goal.returns-in-Shut-clause-place
@@ -40,4 +40,4 @@ returns-in-Shut-clause-place g c = c.loop.invariant.1
 pub returns-in-Shut-clause-built : goal.returns-in-Shut-clause-built
 returns-in-Shut-clause-built g c =
     subst (HasBuilt _ _ c.loop.totals _ (stands (g.K.Desk.at c.loop.desk)))
-    (sym c.in-Shut.ensures.rung) c.loop.invariant.0
+    (sym (ap (λ ear. ear.rung) c.in-Shut.ensures.heard)) c.loop.invariant.0

@@ -14,7 +14,7 @@ returns g c =
     let whole = c.as_mut_slice.ensures.value in
     let back = lent_back had new c.args.crew.len c.args.crew.ok.0 (c.serve_crew.ensures.long ∙ ap length whole) in
     record {
-      ran = subst (HaveAllRun g.D.Door.talks g.D.Door.closed g.D.Door.faults g.D.Door.port held silent had) (sym back)
-          (subst (λ (l : List (Worker g.row.D.Denot g.row.B.Denot g.row.D-Conn.Denot)). HaveAllRun g.D.Door.talks g.D.Door.closed g.D.Door.faults g.D.Door.port held silent l new) whole
+      ran = subst (HaveAllRun g.D.Door.at held silent had) (sym back)
+          (subst (λ (l : List (Worker g.row.D.Denot g.row.B.Denot g.row.D-Conn.Denot)). HaveAllRun g.D.Door.at held silent l new) whole
           (record { long = c.serve_crew.ensures.long; each = c.serve_crew.ensures.each }));
     }

@@ -2,7 +2,7 @@ use Rattle.std.proofs.Common.{inl, inr, refl, subst, sym, ◌∙◌}
 use Rattle.session.specs.Doors.{HasServed}
 use Rattle.session.specs.Seats.{place_of, standing_of}
 use Rattle.session.specs.Trades.{FitsAt, IsHeldBy, feeds_at}
-use Rattle.session.proofs.Leading.{goes_on, same_then, same_told, served_none}
+use Rattle.session.proofs.Leading.{goes_on, lends_itself, lends_then, served_none}
 use Rattle.session.proofs.Ringing.{rests_none}
 use Rattle.session.proofs.doors.door_loop.Goals as goal
 
@@ -10,12 +10,12 @@ pub loop-init : goal.loop-init
 loop-init g c =
     let place = place_of c.args.seat.now.pass in
     let old = standing_of c.args.seat.now.pass in
-    let told = g.D.Door.talks c.args.door.now in (
+    let told = (g.D.Door.at c.args.door.now).talks in (
       served_none (IsHeldBy c.args.trade.now) (feeds_at c.args.trade.now) place old old told (rests_none place old),
       refl,
       c.requires.open,
       refl,
-      same_told told (g.D.Door.lent c.args.door.now),
+      lends_itself (g.D.Door.at c.args.door.now),
       refl,
       inl (refl, refl),
     )
@@ -30,10 +30,10 @@ returns-in-Some-serve_knock-clause-served g c =
     let old = standing_of c.args.seat.now.pass in
     let mid = standing_of c.loop.seat.pass in
     let new = standing_of c.serve_knock.new.seat.pass in
-    let between = g.D.Door.talks c.loop.door in
-    let after = g.D.Door.talks c.serve_knock.new.door in
+    let between = (g.D.Door.at c.loop.door).talks in
+    let after = (g.D.Door.at c.serve_knock.new.door).talks in
     let inv = c.loop.invariant in
-    goes_on held silent (place_of c.args.seat.now.pass) old mid new (g.D.Door.talks c.args.door.now) between after inv.6 inv.0
+    goes_on held silent (place_of c.args.seat.now.pass) old mid new (g.D.Door.at c.args.door.now).talks between after inv.6 inv.0
     (subst (λ p. HasServed held silent p mid between new after) inv.1 c.serve_knock.ensures.served)
 
 pub loop-preserved : goal.loop-preserved
@@ -44,9 +44,9 @@ loop-preserved g c =
     let old = standing_of c.args.seat.now.pass in
     let mid = standing_of c.loop.seat.pass in
     let new = standing_of c.serve_knock.new.seat.pass in
-    let before = g.D.Door.talks c.args.door.now in
-    let between = g.D.Door.talks c.loop.door in
-    let after = g.D.Door.talks c.serve_knock.new.door in
+    let before = (g.D.Door.at c.args.door.now).talks in
+    let between = (g.D.Door.at c.loop.door).talks in
+    let after = (g.D.Door.at c.serve_knock.new.door).talks in
     let inv = c.loop.invariant in
     let then = c.in-None-serve_knock.ensures in (
       goes_on held silent place old mid new before between after inv.6 inv.0
@@ -54,7 +54,7 @@ loop-preserved g c =
       c.serve_knock.ensures.place ∙ inv.1,
       then.ended.1,
       then.ended.2 ∙ inv.3,
-      same_then held silent place old mid before between (g.D.Door.lent c.args.door.now) (g.D.Door.lent c.loop.door) (g.D.Door.lent c.serve_knock.new.door)
+      lends_then held silent place old mid (g.D.Door.at c.args.door.now) (g.D.Door.at c.loop.door) (g.D.Door.at c.serve_knock.new.door)
           inv.0 inv.4 c.serve_knock.ensures.lent,
       c.serve_knock.ensures.port ∙ inv.5,
       inr then.ended.0,

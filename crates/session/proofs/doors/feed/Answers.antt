@@ -12,9 +12,8 @@ returns-clause-holds g c = fed_holds c.args.seat.now.pass c.feed_link-ended.new.
 pub returns-clause-held : goal.returns-clause-held
 returns-clause-held g c =
     let fed = c.feed_link-ended in
-    let told = g.L.Link.talk c.args.link.now in
-    let after = g.L.Link.talk fed.new.link in
-    fed_held c.args.start.now.map c.args.seat.now.pass fed.new.pass told after fed.result (g.L.Link.read_faults c.args.link.now)
-    (g.L.Link.read_faults fed.new.link) (g.L.Link.write_faults c.args.link.now) (g.L.Link.write_faults fed.new.link) c.requires.fresh
+    let told = (g.L.Link.at c.args.link.now).talk in
+    let after = (g.L.Link.at fed.new.link).talk in
+    fed_held c.args.start.now.map c.args.seat.now.pass fed.new.pass (g.L.Link.at c.args.link.now) (g.L.Link.at fed.new.link) fed.result c.requires.unused
     (subst (λ m. Feeds m (sight_of c.args.seat.now.pass) told fed.result (sight_of fed.new.pass) after) (sym c.requires.start) fed.ensures.feeds)
-    fed.ensures.cause fed.ensures.none c.requires.no_read_fault c.requires.no_write_fault
+    fed.ensures.cause fed.ensures.none

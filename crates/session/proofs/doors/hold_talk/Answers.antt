@@ -16,7 +16,7 @@ returns-in-Some-clause-on g c =
 pub returns-in-Some-clause-held : goal.returns-in-Some-clause-held
 returns-in-Some-clause-held g c =
     held_feed c.args.trade.now (place_of c.args.seat.now.pass) (standing_of c.args.seat.now.pass) (standing_of c.feed.new.seat.pass) c.in-Some.start.now.map
-    (g.L.Link.talk c.args.link.now) (g.L.Link.talk c.feed.new.link) (g.L.Link.read_faults c.feed.new.link) (g.L.Link.write_faults c.feed.new.link)
+    (g.L.Link.at c.args.link.now).talk (g.L.Link.at c.feed.new.link)
     (subst (λ n. IsFeedBy c.args.trade.now n c.in-Some.start.now.map) c.number.ensures c.in-Some.ensures.some) c.feed.ensures.held
 
 pub returns-in-None-clause-on : goal.returns-in-None-clause-on
@@ -24,15 +24,13 @@ returns-in-None-clause-on g c =
     move_session c.args.trade.now (place_of c.args.seat.now.pass) (standing_of c.args.seat.now.pass) (standing_of c.serve_link-ended.new.desk.pass)
     (subst (IsNoFeed c.args.trade.now) c.number.ensures c.in-None.ensures.none)
     (session_moves (place_of c.args.seat.now.pass) (standing_of c.args.seat.now.pass) (standing_of c.serve_link-ended.new.desk.pass)
-    (g.L.Link.talk c.args.link.now) (g.L.Link.talk c.serve_link-ended.new.link) c.serve_link-ended.result c.serve_link-ended.ensures.talk)
+    (g.L.Link.at c.args.link.now).talk (g.L.Link.at c.serve_link-ended.new.link).talk c.serve_link-ended.result c.serve_link-ended.ensures.talk)
 
 pub returns-in-None-clause-held : goal.returns-in-None-clause-held
 returns-in-None-clause-held g c =
     held_session c.args.trade.now (place_of c.args.seat.now.pass) (standing_of c.args.seat.now.pass) (standing_of c.serve_link-ended.new.desk.pass)
-    (g.L.Link.talk c.args.link.now) (g.L.Link.talk c.serve_link-ended.new.link)
-    (g.L.Link.read_faults c.serve_link-ended.new.link) (g.L.Link.write_faults c.serve_link-ended.new.link)
+    (g.L.Link.at c.args.link.now).talk (g.L.Link.at c.serve_link-ended.new.link)
     (subst (IsNoFeed c.args.trade.now) c.number.ensures c.in-None.ensures.none)
     (session_held (place_of c.args.seat.now.pass) (standing_of c.args.seat.now.pass) (standing_of c.serve_link-ended.new.desk.pass)
-    (g.L.Link.talk c.args.link.now) (g.L.Link.talk c.serve_link-ended.new.link) c.serve_link-ended.result (g.L.Link.read_faults c.args.link.now)
-    (g.L.Link.read_faults c.serve_link-ended.new.link) (g.L.Link.write_faults c.args.link.now) (g.L.Link.write_faults c.serve_link-ended.new.link)
-    c.requires.fresh c.serve_link-ended.ensures.talk c.serve_link-ended.ensures.cause c.requires.no_read_fault c.requires.no_write_fault)
+    (g.L.Link.at c.args.link.now) (g.L.Link.at c.serve_link-ended.new.link) c.serve_link-ended.result c.requires.unused c.serve_link-ended.ensures.talk
+    c.serve_link-ended.ensures.cause)

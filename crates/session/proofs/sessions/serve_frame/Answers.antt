@@ -19,7 +19,7 @@ returns-in-Ok-clause-tells g c =
       serves = a.serves;
       sends = (
         a.ends,
-        c.in-Ok.ensures.sent ∙ ap (with_sent (g.L.Link.talk c.args.link.now)) (sent_whole _ _ c.args.frame.now reply a.moves c.answer_frame-reply.new.room _ _ a.serves a.bytes_are),
+        c.in-Ok.ensures.sent ∙ ap (with_sent (g.L.Link.at c.args.link.now).talk) (sent_whole _ _ c.args.frame.now reply a.moves c.answer_frame-reply.new.room _ _ a.serves a.bytes_are),
       );
     }
 
@@ -31,6 +31,6 @@ returns-in-Err-clause-tells g c =
       exchange = record { frame = c.args.frame.now; told = reply; moves = a.moves };
       frame_is = refl;
       serves = a.serves;
-      sends = subst (SendsPrefix (g.L.Link.talk c.args.link.now) (g.L.Link.talk c.send.new.link))
+      sends = subst (SendsPrefix (g.L.Link.at c.args.link.now).talk (g.L.Link.at c.send.new.link).talk)
           (sent_whole _ _ c.args.frame.now reply a.moves c.answer_frame-reply.new.room _ _ a.serves a.bytes_are) c.in-Err.ensures.prefix;
     }

@@ -11,12 +11,12 @@ next_frame-requires-clause-limit g c =
 
 pub returns-in-Ok-clause-steps : goal.returns-in-Ok-clause-steps
 returns-in-Ok-clause-steps g c =
-    let old = point c.args.session.now (g.K.Desk.at c.args.desk.now) (g.L.Link.talk c.args.link.now) in
+    let old = point c.args.session.now (g.K.Desk.at c.args.desk.now) (g.L.Link.at c.args.link.now).talk in
     over_at (g.K.Desk.at c.args.desk.now).place c.args.ahead old _ c.next_frame.new.self c.frame_limit-limit.result _ _ _ c.frame_limit-limit.ensures
     c.in_ok-size.ensures.more c.in_ok-size.ensures.next c.in-Some.is c.frame-frame.ensures c.in-Ok.ended _ c.in-Ok.ensures.tells c.protocol_after-session.ensures c.pass.ensures
 
 pub returns-in-Err-clause-steps : goal.returns-in-Err-clause-steps
 returns-in-Err-clause-steps g c =
-    let old = point c.args.session.now (g.K.Desk.at c.args.desk.now) (g.L.Link.talk c.args.link.now) in
+    let old = point c.args.session.now (g.K.Desk.at c.args.desk.now) (g.L.Link.at c.args.link.now).talk in
     unsent_at (g.K.Desk.at c.args.desk.now).place c.args.ahead old _ c.next_frame.new.self c.frame_limit-limit.result _ _ _ c.frame_limit-limit.ensures
     c.in_ok-size.ensures.more c.in_ok-size.ensures.next c.in-Some.is c.frame-frame.ensures c.in-Err.field-0 _ c.in-Err.ensures.tells c.pass.ensures

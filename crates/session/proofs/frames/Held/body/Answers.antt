@@ -11,7 +11,7 @@ returns-in-Ok-true-clause-next g c = λ limit within.
 pub returns-in-Ok-false-clause-next : goal.returns-in-Ok-false-clause-next
 returns-in-Ok-false-clause-next g c = λ limit within.
     let short = not_whole _ _ c.in-Ok-false.field-0 c.in-Ok-false.field-0-test c.in-Ok-false.ensures.whole in
-    stops_torn (g.L.Link.talk c.args.link.now) (g.L.Link.talk c.fill.new.link) c.args.self.now c.fill.new.self c.args.size c.requires.fits c.requires.held c.requires.size
+    stops_torn (g.L.Link.at c.args.link.now).talk (g.L.Link.at c.fill.new.link).talk c.args.self.now c.fill.new.self c.args.size c.requires.fits c.requires.held c.requires.size
     c.in-Ok-false.ensures.more limit within c.torn.result c.torn.ensures short.0 short.1
 
 pub returns-in-Err-clause-next : goal.returns-in-Err-clause-next

@@ -11,7 +11,7 @@ returns-clause-sent g c =
     let long = c.self.told in
     let whole = mid_len 0 HEAD_ROOM c.self.inside.room (omega arith) in
     let edge : length c.put_head-start.new.front ≡ HEAD_ROOM = omega (arith, c.put_head-start.auto.front) in
-    subst (λ (text : List ℕ). OnOk c.send_all.result (g.L.Link.talk c.send_all.new.link ≡ with_sent (g.L.Link.talk c.args.link.now) text))
+    subst (λ (text : List ℕ). OnOk c.send_all.result ((g.L.Link.at c.send_all.new.link).talk ≡ with_sent (g.L.Link.at c.args.link.now).talk text))
     (head_held c.self.inside.room c.args.self.now HEAD_ROOM c.self.inside.many c.self.view_is (omega (arith, c.self.invariant))
     c.put_head-start.new.front (sent_head c.args.reply.now) c.put_head-start.result edge c.put_head-start.ensures.inside c.put_head-start.ensures.head) c.send_all.ensures.sent
 
@@ -20,6 +20,6 @@ returns-clause-prefix g c =
     let long = c.self.told in
     let whole = mid_len 0 HEAD_ROOM c.self.inside.room (omega arith) in
     let edge : length c.put_head-start.new.front ≡ HEAD_ROOM = omega (arith, c.put_head-start.auto.front) in
-    subst (λ (text : List ℕ). OnErr c.send_all.result (SendsPrefix (g.L.Link.talk c.args.link.now) (g.L.Link.talk c.send_all.new.link) text))
+    subst (λ (text : List ℕ). OnErr c.send_all.result (SendsPrefix (g.L.Link.at c.args.link.now).talk (g.L.Link.at c.send_all.new.link).talk text))
     (head_held c.self.inside.room c.args.self.now HEAD_ROOM c.self.inside.many c.self.view_is (omega (arith, c.self.invariant))
     c.put_head-start.new.front (sent_head c.args.reply.now) c.put_head-start.result edge c.put_head-start.ensures.inside c.put_head-start.ensures.head) c.send_all.ensures.prefix
