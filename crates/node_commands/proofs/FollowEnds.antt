@@ -18,8 +18,8 @@ use Rattle.node_commands.specs.Followings.{IsBadFeed, IsFollowCause, IsLeaderMem
 
 -- a fault of the link has its cause in the count of its direction
 pub house_cause : {D C : Type 0} (house : RunHouse D C) (why : LinkFault)
-    → (IsErrOf {T = Unit {0}} (Err why) link.ReadFault → Rose house.reads_before house.reads_after)
-    → (IsErrOf {T = Unit {0}} (Err why) link.WriteFault → Rose house.writes_before house.writes_after) → HasHouseCause house why
+    → (IsErrOf {T = Unit {0}} (Err why) link.ReadFault → Rose house.before.read_faults house.after.read_faults)
+    → (IsErrOf {T = Unit {0}} (Err why) link.WriteFault → Rose house.before.write_faults house.after.write_faults) → HasHouseCause house why
 house_cause house (link.Follow why) read write = tt
 house_cause house (link.Closed have) read write = tt
 house_cause house link.ReadFault read write = read refl
@@ -44,7 +44,7 @@ of_memory link.ReadFault is = cc
 of_memory link.WriteFault is = cc
 
 module _ {D C : Type 0} (house : RunHouse D C) where
-  of_read : (why : LinkFault) → HasHouseCause house why → status_followed why ≡ status.ReadFault → Rose house.reads_before house.reads_after
+  of_read : (why : LinkFault) → HasHouseCause house why → status_followed why ≡ status.ReadFault → Rose house.before.read_faults house.after.read_faults
   of_read (link.Follow (fault.Bad at)) rose is = cc
   of_read (link.Follow (fault.Ahead accepted)) rose is = cc
   of_read (link.Follow fault.LeaderMemory) rose is = cc
@@ -53,7 +53,7 @@ module _ {D C : Type 0} (house : RunHouse D C) where
   of_read link.ReadFault rose is = rose
   of_read link.WriteFault rose is = cc
 
-  of_write : (why : LinkFault) → HasHouseCause house why → status_followed why ≡ status.WriteFault → Rose house.writes_before house.writes_after
+  of_write : (why : LinkFault) → HasHouseCause house why → status_followed why ≡ status.WriteFault → Rose house.before.write_faults house.after.write_faults
   of_write (link.Follow (fault.Bad at)) rose is = cc
   of_write (link.Follow (fault.Ahead accepted)) rose is = cc
   of_write (link.Follow fault.LeaderMemory) rose is = cc
@@ -64,17 +64,17 @@ module _ {D C : Type 0} (house : RunHouse D C) where
 
 module _ {D C : Type 0} (house : RunHouse D C) (asked : FollowAsked) where
   -- why a read or a write of the link failed
-  cause_read : (cause : Status) → IsFollowCause D C house asked cause → cause ≡ status.ReadFault → Rose house.reads_before house.reads_after
+  cause_read : (cause : Status) → IsFollowCause house asked cause → cause ≡ status.ReadFault → Rose house.before.read_faults house.after.read_faults
   cause_read cause (inl nobody) is = nobody.rose
   cause_read cause (inr lost) is = of_read house lost.why lost.rose (sym lost.is ∙ is)
 
-  cause_write : (cause : Status) → IsFollowCause D C house asked cause → cause ≡ status.WriteFault → Rose house.writes_before house.writes_after
+  cause_write : (cause : Status) → IsFollowCause house asked cause → cause ≡ status.WriteFault → Rose house.before.write_faults house.after.write_faults
   cause_write cause (inl nobody) is = (let never : status.ReadFault ≡ status.WriteFault = sym nobody.is ∙ is in cc)
   cause_write cause (inr lost) is = of_write house lost.why lost.rose (sym lost.is ∙ is)
 
   -- why a run without a board failed to write
-  pub none_writes : (input : RunInput) (cause : Status) (outs_before outs_after : ℕ) → IsFollowCause D C house asked cause
-      → ((cause ≡ status.WriteFault) ⊎ Rose outs_before outs_after) → WriteFails D C outs_before outs_after house input
+  pub none_writes : (input : RunInput) (cause : Status) (outs_before outs_after : ℕ) → IsFollowCause house asked cause
+      → ((cause ≡ status.WriteFault) ⊎ Rose outs_before outs_after) → WriteFails outs_before outs_after house input
   none_writes input cause outs_before outs_after is (inl same) = inr (inl (cause_write cause is same))
   none_writes input cause outs_before outs_after is (inr out) = inl out
 
@@ -99,7 +99,7 @@ not_begun before after text ended (inl part) = inl part.is
 not_begun before after text ended (inr (inl whole)) = inr whole.is
 not_begun before after text ended (inr (inr part)) = inl part.is
 
-module _ (D C : Type 0) (house : RunHouse D C) (asked : FollowAsked) (input : RunInput) (before after : Option (List ℕ)) where
+module _ {D C : Type 0} (house : RunHouse D C) (asked : FollowAsked) (input : RunInput) (before after : Option (List ℕ)) where
   -- a session never ends with a status of the link
   no_session : (board : Boarded) (ended : Status) → EndsOn board input before after ended → (HoldsSession board input ended → ⊥)
       → ended ≢ status.WriteFault → ended ≢ status.NoMemory → ⊥
@@ -111,7 +111,7 @@ module _ (D C : Type 0) (house : RunHouse D C) (asked : FollowAsked) (input : Ru
 
   by_link : (such : LinkFault → Type 0) (wanted : Status) → ((board : Boarded) → HoldsSession board input wanted → ⊥) → wanted ≢ status.WriteFault
       → wanted ≢ status.NoMemory → wanted ≢ status.ReadFault → ((why : LinkFault) → status_followed why ≡ wanted → such why)
-      → Follows D C house asked input before after wanted → EndsByLink D C house asked input such
+      → Follows house asked input before after wanted → EndsByLink house asked input such
   by_link such wanted none no_write no_memory no_read by (inl one) =
       absurd (no_session one.board wanted one.ends (none one.board) no_write no_memory)
   by_link such wanted none no_write no_memory no_read by (inr lacks) =
@@ -129,19 +129,19 @@ module _ (D C : Type 0) (house : RunHouse D C) (asked : FollowAsked) (input : Ru
       same : lacks.cause ≡ wanted
       same = told_cause before after lacks.cause wanted lacks.put no_write no_memory
 
-  module _ (ended : Status) (ends : Follows D C house asked input before after ended) where
-    pub by_bad_feed : ended ≡ status.BadAnswer → EndsByLink D C house asked input IsBadFeed
+  module _ (ended : Status) (ends : Follows house asked input before after ended) where
+    pub by_bad_feed : ended ≡ status.BadAnswer → EndsByLink house asked input IsBadFeed
     by_bad_feed is = by_link IsBadFeed status.BadAnswer (λ board session. session) (λ e. cc) (λ e. cc) (λ e. cc) bad_feed
-        (subst (Follows D C house asked input before after) is ends)
+        (subst (Follows house asked input before after) is ends)
 
-    pub by_leader_memory : ended ≡ status.LeaderMemory → EndsByLink D C house asked input IsLeaderMemory
+    pub by_leader_memory : ended ≡ status.LeaderMemory → EndsByLink house asked input IsLeaderMemory
     by_leader_memory is = by_link IsLeaderMemory status.LeaderMemory (λ board session. session) (λ e. cc) (λ e. cc) (λ e. cc) of_memory
-        (subst (Follows D C house asked input before after) is ends)
+        (subst (Follows house asked input before after) is ends)
 
-  read_failed : Follows D C house asked input before after status.ReadFault → ReadFails D C house input
+  read_failed : Follows house asked input before after status.ReadFault → ReadFails house input
   read_failed (inl one) = of_board one.board one.ends
     where
-      of_board : (board : Boarded) → EndsOn board input before after status.ReadFault → ReadFails D C house input
+      of_board : (board : Boarded) → EndsOn board input before after status.ReadFault → ReadFails house input
       of_board board (inl holds) = inr holds.session.0
       of_board board (inr fails) = elim (not_begun before after _ status.ReadFault fails.put) [
         | inl write ↦ cc
@@ -150,16 +150,16 @@ module _ (D C : Type 0) (house : RunHouse D C) (asked : FollowAsked) (input : Ru
   read_failed (inr lacks) =
       inl (cause_read house asked lacks.cause lacks.is (told_cause before after lacks.cause status.ReadFault lacks.put (λ e. cc) (λ e. cc)))
 
-  pub by_read : (ended : Status) → Follows D C house asked input before after ended → ended ≡ status.ReadFault → ReadFails D C house input
-  by_read ended ends is = read_failed (subst (Follows D C house asked input before after) is ends)
+  pub by_read : (ended : Status) → Follows house asked input before after ended → ended ≡ status.ReadFault → ReadFails house input
+  by_read ended ends is = read_failed (subst (Follows house asked input before after) is ends)
 
 -- ---- how it ends, by its parts
 
 module _ {D C : Type 0} (house : RunHouse D C) (asked : FollowAsked) (input : RunInput) (before after : Option (List ℕ)) (ended : Status) where
-  pub one_followed : (board : Boarded) → FollowsBoard D C house asked board → EndsOn board input before after ended
-      → Follows D C house asked input before after ended
+  pub one_followed : (board : Boarded) → FollowsBoard house asked board → EndsOn board input before after ended
+      → Follows house asked input before after ended
   one_followed board followed ends = inl (record { board = board; followed = followed; ends = ends })
 
-  pub none_followed : (cause : Status) → IsFollowCause D C house asked cause → IsUnheard input → TellsCause before after cause ended
-      → Follows D C house asked input before after ended
+  pub none_followed : (cause : Status) → IsFollowCause house asked cause → IsUnheard input → TellsCause before after cause ended
+      → Follows house asked input before after ended
   none_followed cause is unheard put = inr (record { cause = cause; is = is; unheard = unheard; put = put })

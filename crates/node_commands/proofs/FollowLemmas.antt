@@ -1,5 +1,5 @@
 -- A follower that was fed over a link has a board.
-use Rattle.std.proofs.Common.{◌≡◌, ◌⊎◌, inl, inr, ℕ, None, Ok, Option, Some, IsSome, List, [], ◌∷◌, drop, refl, sym, subst, ◌∙◌}
+use Rattle.std.proofs.Common.{◌≡◌, inl, inr, ℕ, None, Ok, Option, Some, IsSome, List, [], ◌∷◌, drop, refl, sym, subst, ◌∙◌}
 use Rattle.cell_order.specs.declared.OrderKind.{OrderKind}
 use Rattle.follow_proto.specs.Feeds.{Message}
 use Rattle.follow_proto.specs.Feeds.Message.{Start, Edits, Ahead, NoMemory}
@@ -59,7 +59,7 @@ followed_some rounds order after taken sent has =
     rounds_some has.began after has.messages sent (heeds_some (new_following order) has.began has.start refl refl has.begins) has.goes_on
 
 -- a new follower that was fed over a link has one
-pub called_some : (D C : Type 0) (house : RunHouse D C) (asked : FollowAsked) (after : Following) → CallsLeader D C house asked (Ok tt) after
+pub called_some : {D C : Type 0} (house : RunHouse D C) (asked : FollowAsked) (after : Following) → CallsLeader house asked (Ok tt) after
     → IsSome after.board
-called_some D C house asked after calls =
+called_some house asked after calls =
     let follows = calls.talked in followed_some asked.rounds asked.order after follows.taken follows.sent follows.ends

@@ -27,8 +27,8 @@ following_text accepted = line (codes "following " ++ decimal accepted)
 
 -- The house was called at the port. Over the link that it gave a new follower took the map and then messages in so many
 -- rounds, with this result, and then that link was hung up.
-abbrev pub CallsLeader : (D C : Type 0) → RunHouse D C → FollowAsked → Result (Unit {0}) LinkFault → Following → Type 0
-CallsLeader D C house asked result follower = CallsOver D C house asked.port
+abbrev pub CallsLeader : {D C : Type 0} → RunHouse D C → FollowAsked → Result (Unit {0}) LinkFault → Following → Type 0
+CallsLeader house asked result follower = CallsOver house asked.port
     (λ begun then. FollowsLink asked.rounds (new_following asked.order) begun result follower then)
 
 -- the status with which a run ends where a link was followed no further
@@ -43,34 +43,34 @@ status_followed link.WriteFault = status.WriteFault
 
 -- a fault of the link has its cause in the house's count of its direction
 abbrev pub HasHouseCause : {D C : Type 0} → RunHouse D C → LinkFault → Type 0
-HasHouseCause house link.ReadFault = Rose house.reads_before house.reads_after
-HasHouseCause house link.WriteFault = Rose house.writes_before house.writes_after
+HasHouseCause house link.ReadFault = Rose house.before.read_faults house.after.read_faults
+HasHouseCause house link.WriteFault = Rose house.before.write_faults house.after.write_faults
 HasHouseCause house (link.Follow why) = Unit {0}
 HasHouseCause house (link.Closed have) = Unit {0}
 
 -- nobody answered at the port
-pub record FindsNobody (D C : Type 0) (house : RunHouse D C) (asked : FollowAsked) (cause : Status) : Type 0 where
+pub record FindsNobody {D C : Type 0} (house : RunHouse D C) (asked : FollowAsked) (cause : Status) : Type 0 where
   pub is : cause ≡ status.ReadFault
-  pub vain : CallsInVain D C house asked.port
-  pub rose : Rose house.reads_before house.reads_after
+  pub vain : CallsInVain house asked.port
+  pub rose : Rose house.before.read_faults house.after.read_faults
 
 -- the link was followed no further, for that reason
-pub record LosesLeader (D C : Type 0) (house : RunHouse D C) (asked : FollowAsked) (cause : Status) : Type 0 where
+pub record LosesLeader {D C : Type 0} (house : RunHouse D C) (asked : FollowAsked) (cause : Status) : Type 0 where
   pub why : LinkFault
   pub is : cause ≡ status_followed why
   pub follower : Following
-  pub calls : CallsLeader D C house asked (Err why) follower
+  pub calls : CallsLeader house asked (Err why) follower
   pub rose : HasHouseCause house why
 
 -- why no board is followed
-abbrev pub IsFollowCause : (D C : Type 0) → RunHouse D C → FollowAsked → Status → Type 0
-IsFollowCause D C house asked cause = FindsNobody D C house asked cause ⊎ LosesLeader D C house asked cause
+abbrev pub IsFollowCause : {D C : Type 0} → RunHouse D C → FollowAsked → Status → Type 0
+IsFollowCause house asked cause = FindsNobody house asked cause ⊎ LosesLeader house asked cause
 
 -- A BOARD WAS FOLLOWED: it is that of a new follower that took the map and then a message in each round, and the version that
 -- it has is the published one.
-pub record FollowsBoard (D C : Type 0) (house : RunHouse D C) (asked : FollowAsked) (board : Boarded) : Type 0 where
+pub record FollowsBoard {D C : Type 0} (house : RunHouse D C) (asked : FollowAsked) (board : Boarded) : Type 0 where
   pub follower : Following
-  pub calls : CallsLeader D C house asked (Ok tt) follower
+  pub calls : CallsLeader house asked (Ok tt) follower
   pub board_is : follower.board ≡ Some (followed_of board)
   pub version : IsVersionAt board.start board.order board.history (published_prefix board.history) board.version
 
@@ -92,10 +92,10 @@ abbrev pub TellsCause : Option (List ℕ) → Option (List ℕ) → Status → S
 TellsCause before after cause ended = IsSilent before after cause ended ⊎ TellsLine before after cause ended
 
 -- no board was followed: the line of the cause was put, and nothing was taken of the input and nothing sent on it
-pub record FollowsNone (D C : Type 0) (house : RunHouse D C) (asked : FollowAsked) (input : RunInput)
+pub record FollowsNone {D C : Type 0} (house : RunHouse D C) (asked : FollowAsked) (input : RunInput)
     (before after : Option (List ℕ)) (ended : Status) : Type 0 where
   pub cause : Status
-  pub is : IsFollowCause D C house asked cause
+  pub is : IsFollowCause house asked cause
   pub unheard : IsUnheard input
   pub put : TellsCause before after cause ended
 
@@ -115,29 +115,29 @@ EndsOn board input before after ended =
     HoldsTold board input before after ended ⊎ FailsToTell board input before after ended
 
 -- a board was followed, and told and held or not
-pub record FollowsOne (D C : Type 0) (house : RunHouse D C) (asked : FollowAsked) (input : RunInput)
+pub record FollowsOne {D C : Type 0} (house : RunHouse D C) (asked : FollowAsked) (input : RunInput)
     (before after : Option (List ℕ)) (ended : Status) : Type 0 where
   pub board : Boarded
-  pub followed : FollowsBoard D C house asked board
+  pub followed : FollowsBoard house asked board
   pub ends : EndsOn board input before after ended
 
 -- HOW THE COMMAND ENDS
-abbrev pub Follows : (D C : Type 0) → RunHouse D C → FollowAsked → RunInput → Option (List ℕ) → Option (List ℕ)
+abbrev pub Follows : {D C : Type 0} → RunHouse D C → FollowAsked → RunInput → Option (List ℕ) → Option (List ℕ)
     → Status → Type 0
-Follows D C house asked input before after ended =
-    FollowsOne D C house asked input before after ended ⊎ FollowsNone D C house asked input before after ended
+Follows house asked input before after ended =
+    FollowsOne house asked input before after ended ⊎ FollowsNone house asked input before after ended
 
 -- ---- the statuses, each by its cause
 
 -- a read failed: of the house, or of the input in the session
-abbrev pub ReadFails : (D C : Type 0) → RunHouse D C → RunInput → Type 0
-ReadFails D C house input =
-    Rose house.reads_before house.reads_after ⊎ Rose input.reads_before input.reads_after
+abbrev pub ReadFails : {D C : Type 0} → RunHouse D C → RunInput → Type 0
+ReadFails house input =
+    Rose house.before.read_faults house.after.read_faults ⊎ Rose input.before.read_faults input.after.read_faults
 
 -- a write failed: of the output, by these counts, of the house, or of the input in the session
-abbrev pub WriteFails : (D C : Type 0) → ℕ → ℕ → RunHouse D C → RunInput → Type 0
-WriteFails D C before after house input = Rose before after
-    ⊎ (Rose house.writes_before house.writes_after ⊎ Rose input.writes_before input.writes_after)
+abbrev pub WriteFails : {D C : Type 0} → ℕ → ℕ → RunHouse D C → RunInput → Type 0
+WriteFails before after house input = Rose before after
+    ⊎ (Rose house.before.write_faults house.after.write_faults ⊎ Rose input.before.write_faults input.after.write_faults)
 
 -- what came over the link may not come there, says that the leader has fewer edits, or ended before it was whole
 abbrev pub IsBadFeed : LinkFault → Type 0
@@ -151,10 +151,10 @@ abbrev pub IsLeaderMemory : LinkFault → Type 0
 IsLeaderMemory why = why ≡ link.Follow fault.LeaderMemory
 
 -- the run ended before its session, by what was taken of the link that was hung up, for such a reason
-pub record EndsByLink (D C : Type 0) (house : RunHouse D C) (asked : FollowAsked) (input : RunInput)
+pub record EndsByLink {D C : Type 0} (house : RunHouse D C) (asked : FollowAsked) (input : RunInput)
     (such : LinkFault → Type 0) : Type 0 where
   pub why : LinkFault
   pub is : such why
   pub follower : Following
-  pub calls : CallsLeader D C house asked (Err why) follower
+  pub calls : CallsLeader house asked (Err why) follower
   pub unheard : IsUnheard input

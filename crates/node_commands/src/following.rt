@@ -11,6 +11,7 @@ ghost use Rattle.path_commands.specs.Talks.{input_over};
 ghost use Rattle.node_commands.specs.Followings.{CallsLeader, EndsByLink, EndsOn, ReadFails, WriteFails, Follows, FollowsBoard, IsBadFeed};
 ghost use Rattle.node_commands.specs.Followings.{IsFollowCause, IsLeaderMemory, TellsCause};
 ghost use Rattle.node_commands.specs.Followings.{following_text, status_followed};
+ghost use Rattle.wire.specs.Houses.{OnlyCalls};
 
 use build_pool::Gate;
 use follow_node::{FollowFault, Follower, LinkFault, follow_link};
@@ -47,28 +48,27 @@ pub fn follow<L: Link, H: House, O: Sink, B: Bell, G: Watch, R: Threads + Wait +
     house: &mut H,
     out: &mut O,
 ) -> Status
-    requires uncalled { H.called house.old ≡ None }
-    requires unlent { HasGivenNone (H.lent house.old) }
-    ensures ends { Follows H.Door H.Conn
-        (house_over H.Conn.talk H.lent H.called H.read_faults H.write_faults house.old house.new)
-        asked (input_over L.talk L.read_faults L.write_faults input.old input.new)
+    requires uncalled { (H.at house.old).called ≡ None }
+    requires unlent { HasGivenNone (H.at house.old).lent }
+    ensures ends { Follows
+        (house_over H.Door.at H.Conn.at (H.at house.old) (H.at house.new))
+        asked (input_over (L.at input.old) (L.at input.new))
         (O.bytes out.old) (O.bytes out.new) result }
-    ensures read { result ≡ Status.ReadFault → ReadFails H.Door H.Conn
-        (house_over H.Conn.talk H.lent H.called H.read_faults H.write_faults house.old house.new)
-        (input_over L.talk L.read_faults L.write_faults input.old input.new) }
-    ensures write { result ≡ Status.WriteFault → WriteFails H.Door H.Conn (O.faults out.old)
+    ensures read { result ≡ Status.ReadFault → ReadFails
+        (house_over H.Door.at H.Conn.at (H.at house.old) (H.at house.new))
+        (input_over (L.at input.old) (L.at input.new)) }
+    ensures write { result ≡ Status.WriteFault → WriteFails (O.faults out.old)
         (O.faults out.new)
-        (house_over H.Conn.talk H.lent H.called H.read_faults H.write_faults house.old house.new)
-        (input_over L.talk L.read_faults L.write_faults input.old input.new) }
-    ensures bad_answer { result ≡ Status.BadAnswer → EndsByLink H.Door H.Conn
-        (house_over H.Conn.talk H.lent H.called H.read_faults H.write_faults house.old house.new)
-        asked (input_over L.talk L.read_faults L.write_faults input.old input.new) IsBadFeed }
-    ensures leader_memory { result ≡ Status.LeaderMemory → EndsByLink H.Door H.Conn
-        (house_over H.Conn.talk H.lent H.called H.read_faults H.write_faults house.old house.new)
-        asked (input_over L.talk L.read_faults L.write_faults input.old input.new) IsLeaderMemory }
-    ensures called { H.called house.new ≡ Some asked.port }
-    ensures doors { H.asked house.new ≡ H.asked house.old }
-    ensures door_faults { H.door_faults house.new ≡ H.door_faults house.old }
+        (house_over H.Door.at H.Conn.at (H.at house.old) (H.at house.new))
+        (input_over (L.at input.old) (L.at input.new)) }
+    ensures bad_answer { result ≡ Status.BadAnswer → EndsByLink
+        (house_over H.Door.at H.Conn.at (H.at house.old) (H.at house.new))
+        asked (input_over (L.at input.old) (L.at input.new)) IsBadFeed }
+    ensures leader_memory { result ≡ Status.LeaderMemory → EndsByLink
+        (house_over H.Door.at H.Conn.at (H.at house.old) (H.at house.new))
+        asked (input_over (L.at input.old) (L.at input.new)) IsLeaderMemory }
+    ensures called { (H.at house.new).called ≡ Some asked.port }
+    ensures only { OnlyCalls (H.at house.old) (H.at house.new) }
 {
     match follow_leader(means.alloc, asked, house) {
         Ok(board) => hold_told(means, board, input, out),
@@ -86,17 +86,16 @@ fn follow_leader<H: House>(
     asked: FollowAsked,
     house: &mut H,
 ) -> Result<Board, Status>
-    requires uncalled { H.called house.old ≡ None }
-    requires unlent { HasGivenNone (H.lent house.old) }
-    ensures followed { IfOk result (FollowsBoard H.Door H.Conn
-        (house_over H.Conn.talk H.lent H.called H.read_faults H.write_faults house.old house.new)
+    requires uncalled { (H.at house.old).called ≡ None }
+    requires unlent { HasGivenNone (H.at house.old).lent }
+    ensures followed { IfOk result (FollowsBoard
+        (house_over H.Door.at H.Conn.at (H.at house.old) (H.at house.new))
         asked) }
-    ensures refused { IfErr result (IsFollowCause H.Door H.Conn
-        (house_over H.Conn.talk H.lent H.called H.read_faults H.write_faults house.old house.new)
+    ensures refused { IfErr result (IsFollowCause
+        (house_over H.Door.at H.Conn.at (H.at house.old) (H.at house.new))
         asked) }
-    ensures called { H.called house.new ≡ Some asked.port }
-    ensures doors { H.asked house.new ≡ H.asked house.old }
-    ensures door_faults { H.door_faults house.new ≡ H.door_faults house.old }
+    ensures called { (H.at house.new).called ≡ Some asked.port }
+    ensures only { OnlyCalls (H.at house.old) (H.at house.new) }
 {
     let mut follower = Follower::new(alloc, asked.order);
     match call_leader(&mut follower, asked, house) {
@@ -117,22 +116,21 @@ fn call_leader<H: House>(
     house: &mut H,
 ) -> Result<Result<(), LinkFault>, Failed>
     requires new { follower.old ≡ new_following asked.order }
-    requires uncalled { H.called house.old ≡ None }
-    requires unlent { HasGivenNone (H.lent house.old) }
-    ensures calls { IfOk result (λ followed. CallsLeader H.Door H.Conn
-        (house_over H.Conn.talk H.lent H.called H.read_faults H.write_faults house.old house.new)
+    requires uncalled { (H.at house.old).called ≡ None }
+    requires unlent { HasGivenNone (H.at house.old).lent }
+    ensures calls { IfOk result (λ followed. CallsLeader
+        (house_over H.Door.at H.Conn.at (H.at house.old) (H.at house.new))
         asked followed follower.new) }
-    ensures vain { OnErr result (CallsInVain H.Door H.Conn
-        (house_over H.Conn.talk H.lent H.called H.read_faults H.write_faults house.old house.new)
+    ensures vain { OnErr result (CallsInVain
+        (house_over H.Door.at H.Conn.at (H.at house.old) (H.at house.new))
         asked.port) }
-    ensures refused { OnErr result (Rose (H.read_faults house.old) (H.read_faults house.new)) }
+    ensures refused { OnErr result (Rose (H.at house.old).read_faults (H.at house.new).read_faults) }
     ensures reads { IfOk result (λ followed. IsErrOf followed LinkFault.ReadFault
-        → Rose (H.read_faults house.old) (H.read_faults house.new)) }
+        → Rose (H.at house.old).read_faults (H.at house.new).read_faults) }
     ensures writes { IfOk result (λ followed. IsErrOf followed LinkFault.WriteFault
-        → Rose (H.write_faults house.old) (H.write_faults house.new)) }
-    ensures called { H.called house.new ≡ Some asked.port }
-    ensures doors { H.asked house.new ≡ H.asked house.old }
-    ensures door_faults { H.door_faults house.new ≡ H.door_faults house.old }
+        → Rose (H.at house.old).write_faults (H.at house.new).write_faults) }
+    ensures called { (H.at house.new).called ≡ Some asked.port }
+    ensures only { OnlyCalls (H.at house.old) (H.at house.new) }
 {
     let mut link = house.call(asked.port)?;
     let followed = follow_link(follower, &mut link, asked.rounds);
@@ -188,10 +186,10 @@ fn hold_told<L: Link, O: Sink, B: Bell, G: Gate, R: Threads + Wait + Sync>(
     input: &mut L,
     out: &mut O,
 ) -> Status
-    ensures ends { EndsOn board (input_over L.talk L.read_faults L.write_faults input.old input.new)
+    ensures ends { EndsOn board (input_over (L.at input.old) (L.at input.new))
         (O.bytes out.old) (O.bytes out.new) result }
     ensures write { result ≡ Status.WriteFault → Rose (O.faults out.old) (O.faults out.new)
-        ⊎ Rose (L.write_faults input.old) (L.write_faults input.new) }
+        ⊎ Rose (L.at input.old).write_faults (L.at input.new).write_faults }
 {
     let Ok(line) = following_text(means.alloc, board.accepted()) else {
         return put_no_memory(out);

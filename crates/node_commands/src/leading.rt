@@ -5,12 +5,13 @@ ghost use Rattle.std.specs.Prelude.{◌≡◌, ◌≢◌, ◌≤◌, ◌<◌, �
 ghost use Rattle.std.specs.Arc.{arc_value};
 ghost use Rattle.std.specs.Io.KnownBytes.{Appends};
 ghost use Rattle.wire.specs.Causes.{Rose};
-ghost use Rattle.wire.specs.Houses.{HasLentDoors, rose_once, with_doors_back, with_doors_given};
+ghost use Rattle.wire.specs.Houses.{HasLentDoors, OnlyDoors, rose_once, with_doors_back, with_doors_lent};
 ghost use Rattle.path_core.specs.declared.TheConstants.{MAX_ENTRIES};
 ghost use Rattle.path_commands.specs.declared.status.Status.{Status};
 ghost use Rattle.path_commands.specs.Requests.{AreDoors};
 ghost use Rattle.path_commands.specs.Runs.{IsMapFileCause, file_over};
-ghost use Rattle.path_commands.specs.Serving.{FailsToBegin, FailsToRead, doors_over, ear_over};
+ghost use Rattle.path_commands.specs.Asks.{house_over};
+ghost use Rattle.path_commands.specs.Serving.{FailsToBegin, FailsToRead, ear_over};
 ghost use Rattle.path_commands.specs.Talks.{IsFirstBoard};
 ghost use Rattle.path_commands.specs.Words.{AreWorkers};
 ghost use Rattle.node_commands.specs.Leadings.{AreBothOpened, CanBeLed, IsRefused, LeadEnds, Leads, LeadsAt, LeadsBegun};
@@ -69,23 +70,19 @@ pub fn lead<F: Files, H: House, O: Sink, B: Bell, E: Ear, G: Watch, R: Threads +
     requires doors { AreDoors asked.doors.count }
     requires feed { asked.feed ≢ asked.doors.port }
     requires workers { AreWorkers asked.build.workers }
-    requires unasked { H.asked house.old ≡ [] }
-    requires unlent { HasLentDoors (H.lent house.old) 0 }
-    requires waiting { E.over ear.old ≡ false }
-    ensures ends { Leads H.Door H.Conn asked.entry
-        (file_over F.content F.faults files.old files.new asked.entry.map.now)
-        (doors_over H.Door.talks H.Door.closed H.Door.faults H.Door.port H.lent H.door_faults
-        house.old house.new)
-        (ear_over E.rung E.over ear.old ear.new) (H.asked house.new) (O.bytes out.old)
+    requires unasked { (H.at house.old).asked ≡ [] }
+    requires unlent { HasLentDoors (H.at house.old).lent 0 }
+    requires waiting { (E.at ear.old).over ≡ false }
+    ensures ends { Leads asked.entry
+        (file_over (F.at files.old) (F.at files.new) asked.entry.map.now)
+        (house_over H.Door.at H.Conn.at (H.at house.old) (H.at house.new))
+        (ear_over (E.at ear.old) (E.at ear.new)) (O.bytes out.old)
         (O.bytes out.new) result }
-    ensures fault { result ≡ Status.ReadFault → FailsToRead H.Door H.Conn
-        (file_over F.content F.faults files.old files.new asked.entry.map.now)
-        (doors_over H.Door.talks H.Door.closed H.Door.faults H.Door.port H.lent H.door_faults
-        house.old house.new) }
+    ensures fault { result ≡ Status.ReadFault → FailsToRead
+        (file_over (F.at files.old) (F.at files.new) asked.entry.map.now)
+        (house_over H.Door.at H.Conn.at (H.at house.old) (H.at house.new)) }
     ensures write { result ≡ Status.WriteFault → Rose (O.faults out.old) (O.faults out.new) }
-    ensures called { H.called house.new ≡ H.called house.old }
-    ensures reads { H.read_faults house.new ≡ H.read_faults house.old }
-    ensures writes { H.write_faults house.new ≡ H.write_faults house.old }
+    ensures only { OnlyDoors (H.at house.old) (H.at house.new) }
 {
     match leading_of(means, files, asked) {
         Ok(leading) => lead_on(means, leading, house, out, ear),
@@ -106,7 +103,7 @@ fn leading_of<F: Files, B: Bell, G: Watch, R: Threads + Sync>(
     requires room { asked.room ≤ MAX_ENTRIES }
     requires workers { AreWorkers asked.build.workers }
     ensures board { IfOk result (λ leading. IsFirstBoard
-        (file_over F.content F.faults files.old files.new asked.entry.map.now)
+        (file_over (F.at files.old) (F.at files.new) asked.entry.map.now)
         asked.entry.build.order asked.entry.room leading.board) }
     ensures start { IfOk result (λ leading. (arc_value leading.start).map ≡ leading.board.start) }
     ensures unedited { IfOk result (λ leading. leading.board.history ≡ []) }
@@ -114,7 +111,7 @@ fn leading_of<F: Files, B: Bell, G: Watch, R: Threads + Sync>(
     ensures feed { IfOk result (λ leading. leading.feed ≡ asked.entry.feed) }
     ensures workers { IfOk result (λ leading. leading.workers ≡ asked.entry.build.workers) }
     ensures refused { IfErr result (IsMapFileCause
-        (file_over F.content F.faults files.old files.new asked.entry.map.now)) }
+        (file_over (F.at files.old) (F.at files.new) asked.entry.map.now)) }
 {
     let board = first_board(means, files, asked.map, asked.room, asked.build)?;
     Ok(Leading {
@@ -139,20 +136,17 @@ fn lead_on<H: House, O: Sink, B: Bell, E: Ear, G: Gate, R: Threads + Wait + Sync
     requires doors { AreDoors leading.doors.count }
     requires feed { leading.feed ≢ leading.doors.port }
     requires workers { AreWorkers leading.workers }
-    requires unasked { H.asked house.old ≡ [] }
-    requires unlent { HasLentDoors (H.lent house.old) 0 }
-    requires waiting { E.over ear.old ≡ false }
-    ensures ends { LeadEnds H.Door H.Conn
-        (doors_over H.Door.talks H.Door.closed H.Door.faults H.Door.port H.lent H.door_faults
-        house.old house.new)
-        (ear_over E.rung E.over ear.old ear.new) leading.board leading.doors leading.feed
-        (H.asked house.new) (O.bytes out.old) (O.bytes out.new) result }
+    requires unasked { (H.at house.old).asked ≡ [] }
+    requires unlent { HasLentDoors (H.at house.old).lent 0 }
+    requires waiting { (E.at ear.old).over ≡ false }
+    ensures ends { LeadEnds
+        (house_over H.Door.at H.Conn.at (H.at house.old) (H.at house.new))
+        (ear_over (E.at ear.old) (E.at ear.new)) leading.board leading.doors leading.feed
+        (O.bytes out.old) (O.bytes out.new) result }
     ensures fault { result ≡ Status.ReadFault →
-        Rose (H.door_faults house.old) (H.door_faults house.new) }
+        Rose (H.at house.old).door_faults (H.at house.new).door_faults }
     ensures write { result ≡ Status.WriteFault → Rose (O.faults out.old) (O.faults out.new) }
-    ensures called { H.called house.new ≡ H.called house.old }
-    ensures reads { H.read_faults house.new ≡ H.read_faults house.old }
-    ensures writes { H.write_faults house.new ≡ H.write_faults house.old }
+    ensures only { OnlyDoors (H.at house.old) (H.at house.new) }
 {
     match open(means.alloc, leading.doors, leading.feed, house) {
         Ok(opened) => lead_at(means, leading, opened, house, out, ear),
@@ -172,25 +166,19 @@ fn open<H: House>(
     house: &mut H,
 ) -> Result<Opened<H::Door>, HouseError>
     requires feed { feed ≢ asked.port }
-    requires unasked { H.asked house.old ≡ [] }
-    requires unlent { HasLentDoors (H.lent house.old) 0 }
-    ensures opened { IfOk result (λ opened. AreBothOpened H.Door H.Conn
-        (doors_over H.Door.talks H.Door.closed H.Door.faults H.Door.port H.lent H.door_faults
-        house.old house.new) asked feed opened.doors.items opened.feed) }
+    requires unasked { (H.at house.old).asked ≡ [] }
+    requires unlent { HasLentDoors (H.at house.old).lent 0 }
+    ensures opened { IfOk result (λ opened. AreBothOpened
+        (house_over H.Door.at H.Conn.at (H.at house.old) (H.at house.new)) asked feed opened.doors.items opened.feed) }
     ensures spare { IfOk result (λ opened. opened.spare.items ≡ []) }
     ensures room { IfOk result (λ opened. 0 < vec_capacity opened.spare) }
-    ensures given { OnOk result (H.lent house.new
-        ≡ with_doors_given (with_doors_given (H.lent house.old) asked.count) 1) }
-    ensures asked { OnOk result (H.asked house.new ≡ asked ∷ feed_asked feed ∷ []) }
-    ensures quiet { OnOk result (H.door_faults house.new ≡ H.door_faults house.old) }
-    ensures refused { IfErr result (λ _. IsRefused H.Door H.Conn
-        (doors_over H.Door.talks H.Door.closed H.Door.faults H.Door.port H.lent H.door_faults
-        house.old house.new) asked feed (H.asked house.new)) }
+    ensures given { OnOk result (H.at house.new ≡ with_doors_lent
+        (with_doors_lent (H.at house.old) asked.port asked.count) feed 1) }
+    ensures refused { IfErr result (λ _. IsRefused
+        (house_over H.Door.at H.Conn.at (H.at house.old) (H.at house.new)) asked feed) }
     ensures cause { IsErrOf result HouseError.Failed
-        → Rose (H.door_faults house.old) (H.door_faults house.new) }
-    ensures called { H.called house.new ≡ H.called house.old }
-    ensures reads { H.read_faults house.new ≡ H.read_faults house.old }
-    ensures writes { H.write_faults house.new ≡ H.write_faults house.old }
+        → Rose (H.at house.old).door_faults (H.at house.new).door_faults }
+    ensures only { OnlyDoors (H.at house.old) (H.at house.new) }
 {
     let doors = house.doors(alloc, asked.port, asked.count)?;
     match house.doors(alloc, feed, 1) {
@@ -216,23 +204,19 @@ fn lead_at<H: House, O: Sink, B: Bell, E: Ear, G: Gate, R: Threads + Wait + Sync
     out: &mut O,
     ear: &mut E,
 ) -> Status
-    requires can { CanBeLed H.Door H.Conn H.Door.closed H.Door.faults leading.board
-        (arc_value leading.start).map opened.doors.items opened.feed leading.workers
-        (H.lent house.old) (E.over ear.old) }
+    requires can { CanBeLed H.Door.at leading.board (arc_value leading.start).map
+        opened.doors.items opened.feed leading.workers (H.at house.old) (E.at ear.old) }
     requires spare { opened.spare.items ≡ [] }
     requires room { 0 < vec_capacity opened.spare }
-    ensures ends { LeadsAt H.Door H.Conn
-        (doors_over H.Door.talks H.Door.closed H.Door.faults H.Door.port H.lent H.door_faults
-        house.old house.new)
-        (ear_over E.rung E.over ear.old ear.new) leading.board opened.doors.items opened.feed
+    ensures ends { LeadsAt
+        (house_over H.Door.at H.Conn.at (H.at house.old) (H.at house.new))
+        (ear_over (E.at ear.old) (E.at ear.new)) leading.board opened.doors.items opened.feed
         leading.doors.port leading.feed (O.bytes out.old) (O.bytes out.new) result }
     ensures fault { result ≡ Status.ReadFault →
-        Rose (H.door_faults house.old) (H.door_faults house.new) }
+        Rose (H.at house.old).door_faults (H.at house.new).door_faults }
     ensures write { result ≡ Status.WriteFault → Rose (O.faults out.old) (O.faults out.new) }
-    ensures asked { H.asked house.new ≡ H.asked house.old }
-    ensures called { H.called house.new ≡ H.called house.old }
-    ensures reads { H.read_faults house.new ≡ H.read_faults house.old }
-    ensures writes { H.write_faults house.new ≡ H.write_faults house.old }
+    ensures asked { (H.at house.new).asked ≡ (H.at house.old).asked }
+    ensures only { OnlyDoors (H.at house.old) (H.at house.new) }
 {
     match begin(means.alloc, out, leading.doors.port, leading.feed) {
         Ok(()) => lead_begun(means, leading, opened, house, out, ear),
@@ -252,23 +236,19 @@ fn lead_begun<H: House, O: Sink, B: Bell, E: Ear, G: Gate, R: Threads + Wait + S
     out: &mut O,
     ear: &mut E,
 ) -> Status
-    requires can { CanBeLed H.Door H.Conn H.Door.closed H.Door.faults leading.board
-        (arc_value leading.start).map opened.doors.items opened.feed leading.workers
-        (H.lent house.old) (E.over ear.old) }
+    requires can { CanBeLed H.Door.at leading.board (arc_value leading.start).map
+        opened.doors.items opened.feed leading.workers (H.at house.old) (E.at ear.old) }
     requires spare { opened.spare.items ≡ [] }
     requires room { 0 < vec_capacity opened.spare }
-    ensures ends { LeadsBegun H.Door H.Conn
-        (doors_over H.Door.talks H.Door.closed H.Door.faults H.Door.port H.lent H.door_faults
-        house.old house.new)
-        (ear_over E.rung E.over ear.old ear.new) leading.board opened.doors.items opened.feed
+    ensures ends { LeadsBegun
+        (house_over H.Door.at H.Conn.at (H.at house.old) (H.at house.new))
+        (ear_over (E.at ear.old) (E.at ear.new)) leading.board opened.doors.items opened.feed
         (O.bytes out.old) (O.bytes out.new) result }
     ensures fault { result ≡ Status.ReadFault →
-        Rose (H.door_faults house.old) (H.door_faults house.new) }
+        Rose (H.at house.old).door_faults (H.at house.new).door_faults }
     ensures write { result ≡ Status.WriteFault → Rose (O.faults out.old) (O.faults out.new) }
-    ensures asked { H.asked house.new ≡ H.asked house.old }
-    ensures called { H.called house.new ≡ H.called house.old }
-    ensures reads { H.read_faults house.new ≡ H.read_faults house.old }
-    ensures writes { H.write_faults house.new ≡ H.write_faults house.old }
+    ensures asked { (H.at house.new).asked ≡ (H.at house.old).asked }
+    ensures only { OnlyDoors (H.at house.old) (H.at house.new) }
 {
     let Opened { doors, feed, spare } = opened;
     match lead_board(
@@ -310,17 +290,15 @@ fn lead_begun<H: House, O: Sink, B: Bell, E: Ear, G: Gate, R: Threads + Wait + S
 
 /// Hands the doors back, and then that of the feed.
 fn hand_back<H: House>(house: &mut H, opened: Opened<H::Door>)
-    requires lent { HasLentDoors (H.lent house.old) (length opened.doors.items + 1) }
+    requires lent { HasLentDoors (H.at house.old).lent (length opened.doors.items + 1) }
     requires spare { opened.spare.items ≡ [] }
     requires room { 0 < vec_capacity opened.spare }
-    ensures back { H.lent house.new
-        ≡ with_doors_back (H.lent house.old) (opened.doors.items ++ opened.feed ∷ []) }
-    ensures rose { rose_once H.Door.faults (opened.doors.items ++ opened.feed ∷ []) ≡ true
-        → Rose (H.door_faults house.old) (H.door_faults house.new) }
-    ensures asked { H.asked house.new ≡ H.asked house.old }
-    ensures called { H.called house.new ≡ H.called house.old }
-    ensures reads { H.read_faults house.new ≡ H.read_faults house.old }
-    ensures writes { H.write_faults house.new ≡ H.write_faults house.old }
+    ensures back { (H.at house.new).lent
+        ≡ with_doors_back (H.at house.old).lent (opened.doors.items ++ opened.feed ∷ []) }
+    ensures rose { rose_once (λ door. (H.Door.at door).faults) (opened.doors.items ++ opened.feed ∷ []) ≡ true
+        → Rose (H.at house.old).door_faults (H.at house.new).door_faults }
+    ensures asked { (H.at house.new).asked ≡ (H.at house.old).asked }
+    ensures only { OnlyDoors (H.at house.old) (H.at house.new) }
 {
     let Opened {
         doors,

@@ -3,6 +3,7 @@ use Rattle.std.specs.Prelude.{◌≡◌, ◌⊎◌, ℕ, ◌<◌, ◌≤◌, Lis
 use Rattle.std.specs.Prelude.{String, Vec}
 use Rattle.std.specs.Global.{Global}
 use Rattle.wire.specs.Causes.{Rose}
+use Rattle.wire.specs.Contents.{AtFiles}
 use Rattle.clap.specs.Walk.{Text}
 use Rattle.moves.specs.declared.Cell.{Cell}
 use Rattle.moves.specs.Maps.{Map}
@@ -47,10 +48,9 @@ pub record RunFile : Type 0 where
   pub after : ℕ
 
 -- the file of this name
-abbrev pub file_over : {F : Type 0} → (F → Text → Option Text) → (F → Text → ℕ) → F → F → Text
-    → RunFile
-file_over content faults old new name =
-    record { held = content old name; before = faults old name; after = faults new name }
+abbrev pub file_over : AtFiles → AtFiles → Text → RunFile
+file_over old new name =
+    record { held = old.content name; before = old.faults name; after = new.faults name }
 
 -- a run: the words of its command line, and the file of each name
 pub record Run : Type 0 where
@@ -58,10 +58,8 @@ pub record Run : Type 0 where
   pub file : Text → RunFile
 
 -- the run with these words, over files that were such before it and such after it
-abbrev pub run_over : {F : Type 0} → List (String Global) → (F → Text → Option Text)
-    → (F → Text → ℕ) → F → F → Run
-run_over words content faults old new =
-    record { words = texts_of words; file = file_over content faults old new }
+abbrev pub run_over : List (String Global) → AtFiles → AtFiles → Run
+run_over words old new = record { words = texts_of words; file = file_over old new }
 
 -- ---- what was asked for
 

@@ -1,7 +1,6 @@
 -- The session that `talk` holds, and how it ends.
-use Rattle.std.specs.Prelude.{◌≡◌, ◌⊎◌, ℕ, Err, None, Ok, Option, Result}
-use Rattle.wire.specs.Causes.{Rose}
-use Rattle.wire.specs.Talks.{Talk}
+use Rattle.std.specs.Prelude.{◌≡◌, ◌⊎◌, ℕ, Err, None, Ok, Result}
+use Rattle.wire.specs.Talks.{AtLink, ReadFails, WriteFails}
 use Rattle.moves.specs.Maps.{Map}
 use Rattle.cell_order.specs.declared.OrderKind.{OrderKind}
 use Rattle.versions.specs.Databases.{Versioned}
@@ -16,32 +15,18 @@ use Rattle.path_commands.specs.declared.status.Status.{Status}
 use Rattle.path_commands.specs.declared.status.Status.TheVariants as status
 use Rattle.path_commands.specs.Runs.{HoldsMap, IsFirstVersion, IsMapFileCause, RunFile}
 
--- the input of a run: its talk, where it is told, and how often a read and a write of it failed, before
--- the run and after it
+-- the input of a run: what is known of it before the run and after it
 pub record RunInput : Type 0 where
-  pub before : Option Talk
-  pub after : Option Talk
-  pub reads_before : ℕ
-  pub reads_after : ℕ
-  pub writes_before : ℕ
-  pub writes_after : ℕ
+  pub before : AtLink
+  pub after : AtLink
 
 -- the input that was such before the run and such after it
-abbrev pub input_over : {L : Type 0} → (L → Option Talk) → (L → ℕ) → (L → ℕ) → L → L → RunInput
-input_over told reads writes old new = record {
-  before = told old;
-  after = told new;
-  reads_before = reads old;
-  reads_after = reads new;
-  writes_before = writes old;
-  writes_after = writes new;
-}
+abbrev pub input_over : AtLink → AtLink → RunInput
+input_over before after = record { before = before; after = after }
 
 -- nothing was taken of the input, nothing sent, and nothing failed
-pub record IsUnheard (input : RunInput) : Type 0 where
-  pub talk : input.after ≡ input.before
-  pub reads : input.reads_after ≡ input.reads_before
-  pub writes : input.writes_after ≡ input.writes_before
+abbrev pub IsUnheard : RunInput → Type 0
+IsUnheard input = input.after ≡ input.before
 
 -- The board is the first of the map that a file holds: it has no entries, the first version of the map
 -- in this order, and this room.
@@ -62,7 +47,7 @@ place_for map order room =
 pub record HoldsTalk (board : Boarded) (input : RunInput) (ended : Result Ended SessionFault) : Type 0 where
   pub last : Standing
   pub conversed : Conversed (place_for board.start board.order board.room)
-      (standing board.history board.version None) input.before ended last input.after
+      (standing board.history board.version None) input.before.talk ended last input.after.talk
   pub legal : IsLegal board.start last.seen
   pub own : AddsOnlyOwn 0 board.history last.seen
 
@@ -78,9 +63,9 @@ abbrev pub HoldsSession : Boarded → RunInput → Status → Type 0
 HoldsSession board input status.Done = (ended : Ended) × HoldsTalk board input (Ok ended)
 HoldsSession board input (status.Broken why) = IsBroken why × HoldsTalk board input (Err why)
 HoldsSession board input status.ReadFault =
-    Rose input.reads_before input.reads_after × HoldsTalk board input (Err fault.ReadFault)
+    ReadFails input.before input.after × HoldsTalk board input (Err fault.ReadFault)
 HoldsSession board input status.WriteFault =
-    Rose input.writes_before input.writes_after × HoldsTalk board input (Err fault.WriteFault)
+    WriteFails input.before input.after × HoldsTalk board input (Err fault.WriteFault)
 HoldsSession board input _ = ⊥
 
 -- a session was held on the first board of the map in the file, and the run ends so

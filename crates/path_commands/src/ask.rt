@@ -6,6 +6,7 @@ ghost use Rattle.path_commands.specs.declared.status.Status.{Status};
 ghost use Rattle.path_commands.specs.Asks.{CallsInVain, CallsOnce, HasGivenNone, HearsNoText, HearsText, house_over};
 ghost use Rattle.path_commands.specs.AskEnds.{CallsServer, FallsShort, IsAnswered, IsAskCause, PutsHeard};
 ghost use Rattle.path_commands.specs.SaidRequests.{said_by};
+ghost use Rattle.wire.specs.Houses.{OnlyCalls};
 
 use crate::heard::heard_text;
 use crate::output::{put, refuse};
@@ -18,20 +19,19 @@ use wire::{Failed, House, Sink};
 /// Asks the server at a port, and puts the text of its answer, or the line of the status with which the
 /// run ends without one. The link is hung up before anything is put.
 pub fn ask<O: Sink, H: House>(alloc: Global, asked: AskAsked, out: &mut O, house: &mut H) -> Status
-    requires uncalled { H.called house.old ≡ None }
-    requires unlent { HasGivenNone (H.lent house.old) }
-    ensures calls { CallsServer H.Door H.Conn
-        (house_over H.Conn.talk H.lent H.called H.read_faults H.write_faults house.old house.new)
+    requires uncalled { (H.at house.old).called ≡ None }
+    requires unlent { HasGivenNone (H.at house.old).lent }
+    ensures calls { CallsServer
+        (house_over H.Door.at H.Conn.at (H.at house.old) (H.at house.new))
         asked.port (said_by asked.asking) }
-    ensures whole { result ≢ Status.WriteFault → PutsHeard H.Door H.Conn
-        (house_over H.Conn.talk H.lent H.called H.read_faults H.write_faults house.old house.new)
+    ensures whole { result ≢ Status.WriteFault → PutsHeard
+        (house_over H.Door.at H.Conn.at (H.at house.old) (H.at house.new))
         asked.port (said_by asked.asking) result (O.bytes out.old) (O.bytes out.new) }
-    ensures cut { result ≡ Status.WriteFault → FallsShort H.Door H.Conn
-        (house_over H.Conn.talk H.lent H.called H.read_faults H.write_faults house.old house.new)
+    ensures cut { result ≡ Status.WriteFault → FallsShort
+        (house_over H.Door.at H.Conn.at (H.at house.old) (H.at house.new))
         asked.port (said_by asked.asking) (O.faults out.old) (O.faults out.new)
         (O.bytes out.old) (O.bytes out.new) }
-    ensures doors { H.asked house.new ≡ H.asked house.old }
-    ensures door_faults { H.door_faults house.new ≡ H.door_faults house.old }
+    ensures only { OnlyCalls (H.at house.old) (H.at house.new) }
 {
     match hear(alloc, asked, house) {
         Ok(text) => put(out, text.as_bytes(), Status::Done),
@@ -42,19 +42,18 @@ pub fn ask<O: Sink, H: House>(alloc: Global, asked: AskAsked, out: &mut O, house
 
 /// The text of the answer of the server at the port.
 fn hear<H: House>(alloc: Global, asked: AskAsked, house: &mut H) -> Result<String, Status>
-    requires uncalled { H.called house.old ≡ None }
-    requires unlent { HasGivenNone (H.lent house.old) }
-    ensures calls { CallsServer H.Door H.Conn
-        (house_over H.Conn.talk H.lent H.called H.read_faults H.write_faults house.old house.new)
+    requires uncalled { (H.at house.old).called ≡ None }
+    requires unlent { HasGivenNone (H.at house.old).lent }
+    ensures calls { CallsServer
+        (house_over H.Door.at H.Conn.at (H.at house.old) (H.at house.new))
         asked.port (said_by asked.asking) }
-    ensures heard { IfOk result (λ text. IsAnswered H.Door H.Conn
-        (house_over H.Conn.talk H.lent H.called H.read_faults H.write_faults house.old house.new)
+    ensures heard { IfOk result (λ text. IsAnswered
+        (house_over H.Door.at H.Conn.at (H.at house.old) (H.at house.new))
         asked.port (said_by asked.asking) (string_bytes text)) }
-    ensures fault { IfErr result (IsAskCause H.Door H.Conn
-        (house_over H.Conn.talk H.lent H.called H.read_faults H.write_faults house.old house.new)
+    ensures fault { IfErr result (IsAskCause
+        (house_over H.Door.at H.Conn.at (H.at house.old) (H.at house.new))
         asked.port (said_by asked.asking)) }
-    ensures doors { H.asked house.new ≡ H.asked house.old }
-    ensures door_faults { H.door_faults house.new ≡ H.door_faults house.old }
+    ensures only { OnlyCalls (H.at house.old) (H.at house.new) }
 {
     ask_at(alloc, house, asked.port, asked.asking.request())
 }
@@ -73,16 +72,15 @@ fn ask_at<H: House>(
     port: u16,
     request: query_proto::Request,
 ) -> Result<String, Status>
-    requires uncalled { H.called house.old ≡ None }
-    requires unlent { HasGivenNone (H.lent house.old) }
-    ensures heard { IfOk result (λ text. HearsText H.Door H.Conn
-        (house_over H.Conn.talk H.lent H.called H.read_faults H.write_faults house.old house.new)
+    requires uncalled { (H.at house.old).called ≡ None }
+    requires unlent { HasGivenNone (H.at house.old).lent }
+    ensures heard { IfOk result (λ text. HearsText
+        (house_over H.Door.at H.Conn.at (H.at house.old) (H.at house.new))
         port request (string_bytes text)) }
-    ensures fault { IfErr result (HearsNoText H.Door H.Conn
-        (house_over H.Conn.talk H.lent H.called H.read_faults H.write_faults house.old house.new)
+    ensures fault { IfErr result (HearsNoText
+        (house_over H.Door.at H.Conn.at (H.at house.old) (H.at house.new))
         port request) }
-    ensures doors { H.asked house.new ≡ H.asked house.old }
-    ensures door_faults { H.door_faults house.new ≡ H.door_faults house.old }
+    ensures only { OnlyCalls (H.at house.old) (H.at house.new) }
 {
     match call_once(alloc, house, port, request) {
         Ok(Ok(heard)) => Ok(heard_text(alloc, &heard)?),
@@ -102,21 +100,20 @@ fn call_once<H: House>(
     port: u16,
     request: query_proto::Request,
 ) -> Result<Result<Heard, ClientFault>, Failed>
-    requires uncalled { H.called house.old ≡ None }
-    requires unlent { HasGivenNone (H.lent house.old) }
-    ensures once { IfOk result (CallsOnce H.Door H.Conn
-        (house_over H.Conn.talk H.lent H.called H.read_faults H.write_faults house.old house.new)
+    requires uncalled { (H.at house.old).called ≡ None }
+    requires unlent { HasGivenNone (H.at house.old).lent }
+    ensures once { IfOk result (CallsOnce
+        (house_over H.Door.at H.Conn.at (H.at house.old) (H.at house.new))
         port request) }
-    ensures vain { OnErr result (CallsInVain H.Door H.Conn
-        (house_over H.Conn.talk H.lent H.called H.read_faults H.write_faults house.old house.new)
+    ensures vain { OnErr result (CallsInVain
+        (house_over H.Door.at H.Conn.at (H.at house.old) (H.at house.new))
         port) }
-    ensures refused { OnErr result (Rose (H.read_faults house.old) (H.read_faults house.new)) }
+    ensures refused { OnErr result (Rose (H.at house.old).read_faults (H.at house.new).read_faults) }
     ensures reads { IfOk result (λ heard. IsErrOf heard ClientFault.ReadFault
-        → Rose (H.read_faults house.old) (H.read_faults house.new)) }
+        → Rose (H.at house.old).read_faults (H.at house.new).read_faults) }
     ensures writes { IfOk result (λ heard. IsErrOf heard ClientFault.WriteFault
-        → Rose (H.write_faults house.old) (H.write_faults house.new)) }
-    ensures doors { H.asked house.new ≡ H.asked house.old }
-    ensures door_faults { H.door_faults house.new ≡ H.door_faults house.old }
+        → Rose (H.at house.old).write_faults (H.at house.new).write_faults) }
+    ensures only { OnlyCalls (H.at house.old) (H.at house.new) }
 {
     let mut link = house.call(port)?;
     let heard = path_client::ask(alloc, &mut link, request);

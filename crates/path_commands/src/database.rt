@@ -78,9 +78,9 @@ pub fn first_board<R: Threads + Sync, F: Files, B: Bell, G: Watch>(
     requires room { room ≤ MAX_ENTRIES }
     requires workers { AreWorkers options.workers }
     ensures board { IfOk result (IsFirstBoard
-        (file_over F.content F.faults files.old files.new name.now) options.order room) }
+        (file_over (F.at files.old) (F.at files.new) name.now) options.order room) }
     ensures refused { IfErr result
-        (IsMapFileCause (file_over F.content F.faults files.old files.new name.now)) }
+        (IsMapFileCause (file_over (F.at files.old) (F.at files.new) name.now)) }
 {
     let grid = read_grid(means.alloc, files, name)?;
     let version = first_version(means, grid, options)?;

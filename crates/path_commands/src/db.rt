@@ -33,9 +33,9 @@ pub fn put_file<O: Sink>(out: &mut O, version: &Version) -> Status
 /// The version whose file has that name, checked without a search.
 pub fn read_version<F: Files>(alloc: Global, files: &mut F, name: &str) -> Result<Version, Status>
     ensures version { IfOk result (λ version. HoldsVersion
-        (file_over F.content F.faults files.old files.new name.now) version) }
+        (file_over (F.at files.old) (F.at files.new) name.now) version) }
     ensures refused { IfErr result
-        (IsDbFileCause (file_over F.content F.faults files.old files.new name.now)) }
+        (IsDbFileCause (file_over (F.at files.old) (F.at files.new) name.now)) }
 {
     let bytes = read_file(alloc, files, name, MAX_DB)?;
     Ok(load_db(alloc, bytes.as_slice())?)

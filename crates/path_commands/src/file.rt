@@ -1,7 +1,6 @@
 //! The bytes of a file that the words name.
 ghost use Rattle.std.specs.Prelude.{◌<◌, ◌≤◌, ◌^◌, IfErr, IfOk, vec_len};
-ghost use Rattle.wire.specs.Causes.{NoneFell};
-ghost use Rattle.wire.specs.Contents.{TellsTheSame};
+ghost use Rattle.wire.specs.Contents.{AreRead};
 ghost use Rattle.path_commands.specs.Runs.{HoldsBytes, IsFileCause, file_over};
 
 use crate::status::Status;
@@ -18,11 +17,10 @@ pub fn read_file<F: Files>(
     requires { limit < 2 ^ 32 }
     ensures within { IfOk result (λ bytes. vec_len bytes ≤ limit) }
     ensures bytes { IfOk result (λ bytes. HoldsBytes
-        (file_over F.content F.faults files.old files.new name.now) limit bytes.items) }
-    ensures kept { TellsTheSame (F.content files.old) (F.content files.new) }
-    ensures later { NoneFell (F.faults files.old) (F.faults files.new) }
+        (file_over (F.at files.old) (F.at files.new) name.now) limit bytes.items) }
+    ensures read { AreRead (F.at files.old) (F.at files.new) }
     ensures refused { IfErr result
-        (IsFileCause (file_over F.content F.faults files.old files.new name.now) limit) }
+        (IsFileCause (file_over (F.at files.old) (F.at files.new) name.now) limit) }
 {
     match files.read_all(alloc, name, limit) {
         Ok(bytes) => Ok(bytes),

@@ -1,8 +1,7 @@
 //! The map in a file.
 ghost use Rattle.std.specs.Prelude.{◌≤◌, IfErr, IfOk};
 ghost use Rattle.moves.specs.Maps.{IsSearchable};
-ghost use Rattle.wire.specs.Causes.{NoneFell};
-ghost use Rattle.wire.specs.Contents.{TellsTheSame};
+ghost use Rattle.wire.specs.Contents.{AreRead};
 ghost use Rattle.path_commands.specs.Runs.{HoldsMap, IsMapFileCause, file_over};
 
 use crate::file::read_file;
@@ -15,12 +14,11 @@ use wire::Files;
 /// The map in the file of that name.
 pub fn read_grid<F: Files>(alloc: Global, files: &mut F, name: &str) -> Result<Grid, Status>
     ensures grid { IfOk result
-        (HoldsMap (file_over F.content F.faults files.old files.new name.now)) }
+        (HoldsMap (file_over (F.at files.old) (F.at files.new) name.now)) }
     ensures small { IfOk result IsSearchable }
-    ensures kept { TellsTheSame (F.content files.old) (F.content files.new) }
-    ensures later { NoneFell (F.faults files.old) (F.faults files.new) }
+    ensures read { AreRead (F.at files.old) (F.at files.new) }
     ensures refused { IfErr result
-        (IsMapFileCause (file_over F.content F.faults files.old files.new name.now)) }
+        (IsMapFileCause (file_over (F.at files.old) (F.at files.new) name.now)) }
 {
     let bytes = read_file(alloc, files, name, MAX_MAP_BYTES)?;
     match read_map(alloc, bytes.as_slice()) {

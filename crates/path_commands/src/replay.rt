@@ -17,10 +17,10 @@ use wire::Files;
 /// The events in the file of that name.
 pub fn read_event_file<F: Files>(alloc: Global, files: &mut F, name: &str) -> Result<Events, Status>
     ensures events { IfOk result (λ events. HoldsEvents
-        (file_over F.content F.faults files.old files.new name.now) events) }
+        (file_over (F.at files.old) (F.at files.new) name.now) events) }
     ensures passes { IfOk result (λ events. HavePasses events) }
     ensures refused { IfErr result
-        (IsEventsFileCause (file_over F.content F.faults files.old files.new name.now)) }
+        (IsEventsFileCause (file_over (F.at files.old) (F.at files.new) name.now)) }
 {
     let bytes = read_file(alloc, files, name, MAX_EVENTS_BYTES)?;
     match read_events(alloc, bytes.as_slice()) {

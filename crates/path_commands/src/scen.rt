@@ -24,10 +24,10 @@ pub fn read_scenarios<F: Files>(
     name: &str,
 ) -> Result<Vec<ScenLine>, Status>
     ensures scenarios { IfOk result (λ lines. HoldsScenarios
-        (file_over F.content F.faults files.old files.new name.now) lines.items) }
+        (file_over (F.at files.old) (F.at files.new) name.now) lines.items) }
     ensures lengths { IfOk result (λ lines. HaveLengths lines.items) }
     ensures refused { IfErr result
-        (IsScenFileCause (file_over F.content F.faults files.old files.new name.now)) }
+        (IsScenFileCause (file_over (F.at files.old) (F.at files.new) name.now)) }
 {
     let bytes = read_file(alloc, files, name, MAX_SCEN_BYTES)?;
     match read_scen(alloc, bytes.as_slice()) {

@@ -2,12 +2,13 @@
 
 ghost use Rattle.std.specs.Prelude.{◌≡◌, ◌≤◌, ◌⊎◌, [], false, IfErr, IfOk};
 ghost use Rattle.wire.specs.Causes.{Rose};
-ghost use Rattle.wire.specs.Houses.{HasLentDoors};
+ghost use Rattle.wire.specs.Houses.{HasLentDoors, OnlyDoors};
 ghost use Rattle.path_commands.specs.declared.status.Status.{Status};
 ghost use Rattle.path_core.specs.declared.TheConstants.{MAX_ENTRIES};
 ghost use Rattle.path_commands.specs.Requests.{AreDoors};
 ghost use Rattle.path_commands.specs.Runs.{IsMapFileCause, file_over};
-ghost use Rattle.path_commands.specs.Serving.{FailsToRead, Serves, doors_over, ear_over};
+ghost use Rattle.path_commands.specs.Asks.{house_over};
+ghost use Rattle.path_commands.specs.Serving.{FailsToRead, Serves, ear_over};
 ghost use Rattle.path_commands.specs.Talks.{IsFirstBoard};
 ghost use Rattle.path_commands.specs.Words.{AreWorkers};
 
@@ -34,24 +35,20 @@ pub fn serve<F: Files, H: House, O: Sink, B: Bell, E: Ear, G: Watch, R: Threads 
     requires room { asked.room ≤ MAX_ENTRIES }
     requires doors { AreDoors asked.doors.count }
     requires workers { AreWorkers asked.build.workers }
-    requires unasked { H.asked house.old ≡ [] }
-    requires unlent { HasLentDoors (H.lent house.old) 0 }
-    requires waiting { E.over ear.old ≡ false }
-    ensures ends { Serves H.Door H.Conn
-        (file_over F.content F.faults files.old files.new asked.entry.map.now)
+    requires unasked { (H.at house.old).asked ≡ [] }
+    requires unlent { HasLentDoors (H.at house.old).lent 0 }
+    requires waiting { (E.at ear.old).over ≡ false }
+    ensures ends { Serves
+        (file_over (F.at files.old) (F.at files.new) asked.entry.map.now)
         asked.entry.build.order asked.entry.room asked.entry.doors
-        (doors_over H.Door.talks H.Door.closed H.Door.faults H.Door.port H.lent H.door_faults
-        house.old house.new)
-        (ear_over E.rung E.over ear.old ear.new) (H.asked house.new) (O.bytes out.old)
+        (house_over H.Door.at H.Conn.at (H.at house.old) (H.at house.new))
+        (ear_over (E.at ear.old) (E.at ear.new)) (O.bytes out.old)
         (O.bytes out.new) result }
-    ensures fault { result ≡ Status.ReadFault → FailsToRead H.Door H.Conn
-        (file_over F.content F.faults files.old files.new asked.entry.map.now)
-        (doors_over H.Door.talks H.Door.closed H.Door.faults H.Door.port H.lent H.door_faults
-        house.old house.new) }
+    ensures fault { result ≡ Status.ReadFault → FailsToRead
+        (file_over (F.at files.old) (F.at files.new) asked.entry.map.now)
+        (house_over H.Door.at H.Conn.at (H.at house.old) (H.at house.new)) }
     ensures write { result ≡ Status.WriteFault → Rose (O.faults out.old) (O.faults out.new) }
-    ensures called { H.called house.new ≡ H.called house.old }
-    ensures reads { H.read_faults house.new ≡ H.read_faults house.old }
-    ensures writes { H.write_faults house.new ≡ H.write_faults house.old }
+    ensures only { OnlyDoors (H.at house.old) (H.at house.new) }
 {
     match open(means, asked, files) {
         Ok(opening) => serve_on(means, opening, house, out, ear),
@@ -68,13 +65,13 @@ fn open<F: Files, B: Bell, G: Watch, R: Threads + Sync>(
     requires room { asked.room ≤ MAX_ENTRIES }
     requires workers { AreWorkers asked.build.workers }
     ensures board { IfOk result (λ opening. IsFirstBoard
-        (file_over F.content F.faults files.old files.new asked.entry.map.now)
+        (file_over (F.at files.old) (F.at files.new) asked.entry.map.now)
         asked.entry.build.order asked.entry.room opening.board) }
     ensures workers { IfOk result (λ opening. opening.workers ≡ asked.entry.build.workers) }
     ensures doors { IfOk result (λ opening. opening.doors ≡ asked.entry.doors) }
     ensures unedited { IfOk result (λ opening. opening.board.history ≡ []) }
     ensures refused { IfErr result (IsMapFileCause
-        (file_over F.content F.faults files.old files.new asked.entry.map.now)) }
+        (file_over (F.at files.old) (F.at files.new) asked.entry.map.now)) }
 {
     Ok(Opening {
         board: first_board(means, files, asked.map, asked.room, asked.build)?,

@@ -3,12 +3,13 @@
 ghost use Rattle.std.specs.Prelude.{◌≡◌, ◌≢◌, ◌<◌, ◌≤◌, ◌∷◌, [], false, IfErr, IfOk, IsTrue, OnOk, string_bytes};
 ghost use Rattle.std.specs.Io.KnownBytes.{Appends};
 ghost use Rattle.wire.specs.Causes.{Rose};
-ghost use Rattle.wire.specs.Houses.{HasLentDoors};
+ghost use Rattle.wire.specs.Houses.{HasLentDoors, OnlyDoors};
 ghost use Rattle.session.specs.declared.boards.TheConstants.{MAX_DOORS};
 ghost use Rattle.path_commands.specs.declared.status.Status.{Status};
 ghost use Rattle.path_commands.specs.Serving.{CanBeServed, FailsToBegin, Puts, PutsCause, PutsClosing, ServesAt, ServesBegun};
 ghost use Rattle.path_commands.specs.Serving.{PutsLine, ServeEnds};
-ghost use Rattle.path_commands.specs.Serving.{closing_text, doors_over, ear_over, history_text, serving_text};
+ghost use Rattle.path_commands.specs.Asks.{house_over};
+ghost use Rattle.path_commands.specs.Serving.{closing_text, ear_over, history_text, serving_text};
 ghost use Rattle.path_commands.specs.Words.{AreWorkers};
 
 use crate::check::push_number;
@@ -62,21 +63,18 @@ pub fn serve_on<H: House, O: Sink, B: Bell, E: Ear, G: Gate, R: Threads + Wait +
     requires few { opening.doors.count ≤ MAX_DOORS }
     requires workers { AreWorkers opening.workers }
     requires unedited { opening.board.history ≡ [] }
-    requires unasked { H.asked house.old ≡ [] }
-    requires unlent { HasLentDoors (H.lent house.old) 0 }
-    requires waiting { E.over ear.old ≡ false }
-    ensures ends { ServeEnds H.Door H.Conn
-        (doors_over H.Door.talks H.Door.closed H.Door.faults H.Door.port H.lent H.door_faults
-        house.old house.new)
-        (ear_over E.rung E.over ear.old ear.new) opening.board opening.doors (O.bytes out.old)
+    requires unasked { (H.at house.old).asked ≡ [] }
+    requires unlent { HasLentDoors (H.at house.old).lent 0 }
+    requires waiting { (E.at ear.old).over ≡ false }
+    ensures ends { ServeEnds
+        (house_over H.Door.at H.Conn.at (H.at house.old) (H.at house.new))
+        (ear_over (E.at ear.old) (E.at ear.new)) opening.board opening.doors (O.bytes out.old)
         (O.bytes out.new) result }
     ensures fault { result ≡ Status.ReadFault →
-        Rose (H.door_faults house.old) (H.door_faults house.new) }
+        Rose (H.at house.old).door_faults (H.at house.new).door_faults }
     ensures write { result ≡ Status.WriteFault → Rose (O.faults out.old) (O.faults out.new) }
-    ensures asked { H.asked house.new ≡ opening.doors ∷ [] }
-    ensures called { H.called house.new ≡ H.called house.old }
-    ensures reads { H.read_faults house.new ≡ H.read_faults house.old }
-    ensures writes { H.write_faults house.new ≡ H.write_faults house.old }
+    ensures asked { (H.at house.new).asked ≡ opening.doors ∷ [] }
+    ensures only { OnlyDoors (H.at house.old) (H.at house.new) }
 {
     match house.doors(means.alloc, opening.doors.port, opening.doors.count) {
         Ok(doors) => {
@@ -100,20 +98,17 @@ fn serve_at<H: House, O: Sink, B: Bell, E: Ear, G: Gate, R: Threads + Wait + Syn
     out: &mut O,
     ear: &mut E,
 ) -> Status
-    requires { CanBeServed H.Door H.Conn H.Door.closed H.Door.faults opened.board
-        opened.doors.items opened.workers (H.lent house.old) (E.over ear.old) }
-    ensures ends { ServesAt H.Door H.Conn
-        (doors_over H.Door.talks H.Door.closed H.Door.faults H.Door.port H.lent H.door_faults
-        house.old house.new)
-        (ear_over E.rung E.over ear.old ear.new) opened.board opened.doors.items port
+    requires { CanBeServed H.Door.at opened.board opened.doors.items
+        opened.workers (H.at house.old) (E.at ear.old) }
+    ensures ends { ServesAt
+        (house_over H.Door.at H.Conn.at (H.at house.old) (H.at house.new))
+        (ear_over (E.at ear.old) (E.at ear.new)) opened.board opened.doors.items port
         (O.bytes out.old) (O.bytes out.new) result }
     ensures fault { result ≡ Status.ReadFault →
-        Rose (H.door_faults house.old) (H.door_faults house.new) }
+        Rose (H.at house.old).door_faults (H.at house.new).door_faults }
     ensures write { result ≡ Status.WriteFault → Rose (O.faults out.old) (O.faults out.new) }
-    ensures asked { H.asked house.new ≡ H.asked house.old }
-    ensures called { H.called house.new ≡ H.called house.old }
-    ensures reads { H.read_faults house.new ≡ H.read_faults house.old }
-    ensures writes { H.write_faults house.new ≡ H.write_faults house.old }
+    ensures asked { (H.at house.new).asked ≡ (H.at house.old).asked }
+    ensures only { OnlyDoors (H.at house.old) (H.at house.new) }
 {
     match begin(means.alloc, out, port) {
         Ok(()) => serve_begun(means, opened, house, out, ear),
@@ -132,20 +127,17 @@ fn serve_begun<H: House, O: Sink, B: Bell, E: Ear, G: Gate, R: Threads + Wait + 
     out: &mut O,
     ear: &mut E,
 ) -> Status
-    requires { CanBeServed H.Door H.Conn H.Door.closed H.Door.faults opened.board
-        opened.doors.items opened.workers (H.lent house.old) (E.over ear.old) }
-    ensures ends { ServesBegun H.Door H.Conn
-        (doors_over H.Door.talks H.Door.closed H.Door.faults H.Door.port H.lent H.door_faults
-        house.old house.new)
-        (ear_over E.rung E.over ear.old ear.new) opened.board opened.doors.items
+    requires { CanBeServed H.Door.at opened.board opened.doors.items
+        opened.workers (H.at house.old) (E.at ear.old) }
+    ensures ends { ServesBegun
+        (house_over H.Door.at H.Conn.at (H.at house.old) (H.at house.new))
+        (ear_over (E.at ear.old) (E.at ear.new)) opened.board opened.doors.items
         (O.bytes out.old) (O.bytes out.new) result }
     ensures fault { result ≡ Status.ReadFault →
-        Rose (H.door_faults house.old) (H.door_faults house.new) }
+        Rose (H.at house.old).door_faults (H.at house.new).door_faults }
     ensures write { result ≡ Status.WriteFault → Rose (O.faults out.old) (O.faults out.new) }
-    ensures asked { H.asked house.new ≡ H.asked house.old }
-    ensures called { H.called house.new ≡ H.called house.old }
-    ensures reads { H.read_faults house.new ≡ H.read_faults house.old }
-    ensures writes { H.write_faults house.new ≡ H.write_faults house.old }
+    ensures asked { (H.at house.new).asked ≡ (H.at house.old).asked }
+    ensures only { OnlyDoors (H.at house.old) (H.at house.new) }
 {
     match serve_board(
         means.rt,

@@ -29,9 +29,9 @@ pub fn talk<F: Files, L: Link, B: Bell, G: Watch, R: Threads + Wait + Sync>(
     requires room { asked.room ≤ MAX_ENTRIES }
     requires workers { AreWorkers asked.build.workers }
     ensures { TalkEnds
-        (file_over F.content F.faults files.old files.new asked.entry.map.now)
+        (file_over (F.at files.old) (F.at files.new) asked.entry.map.now)
         asked.entry.build.order asked.entry.room
-        (input_over L.talk L.read_faults L.write_faults input.old input.new) result }
+        (input_over (L.at input.old) (L.at input.new)) result }
 {
     match first_board(means, files, asked.map, asked.room, asked.build) {
         Ok(board) => hold(means, board, asked.build.workers, input),
@@ -48,7 +48,7 @@ pub fn hold<L: Link, B: Bell, G: Gate, R: Threads + Wait + Sync>(
 ) -> Status
     requires { AreWorkers workers }
     ensures { HoldsSession board
-        (input_over L.talk L.read_faults L.write_faults input.old input.new) result }
+        (input_over (L.at input.old) (L.at input.new)) result }
 {
     match converse(means, board, workers, input) {
         Ok(_) => Status::Done,
@@ -69,10 +69,8 @@ fn converse<L: Link, B: Bell, G: Gate, R: Threads + Wait + Sync>(
 ) -> Result<Ended, SessionFault>
     requires { AreWorkers workers }
     ensures talk { HoldsTalk board
-        (input_over L.talk L.read_faults L.write_faults input.old input.new) result }
-    ensures cause { IfErr result (HasCause
-        (L.read_faults input.old) (L.read_faults input.new)
-        (L.write_faults input.old) (L.write_faults input.new)) }
+        (input_over (L.at input.old) (L.at input.new)) result }
+    ensures cause { IfErr result (HasCause (L.at input.old) (L.at input.new)) }
 {
     let mut desk = Lone { board, pass: 0 };
     let ended = serve_link(means.rt, means.alloc, &mut desk, input, workers, means.gate);

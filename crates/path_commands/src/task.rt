@@ -50,10 +50,10 @@ pub enum Task {
 /// What is to be done, with what the second file says where there is one.
 pub fn task_for<F: Files>(alloc: Global, files: &mut F, aim: MapAim) -> Result<Task, Status>
     ensures task { IfOk result
-        (GivesTask (file_over F.content F.faults files.old files.new) (aim_of aim.entry)) }
+        (GivesTask (file_over (F.at files.old) (F.at files.new)) (aim_of aim.entry)) }
     ensures may { IfOk result MayBeDone }
     ensures refused { IfErr result
-        (GivesNoTask (file_over F.content F.faults files.old files.new) (aim_of aim.entry)) }
+        (GivesNoTask (file_over (F.at files.old) (F.at files.new)) (aim_of aim.entry)) }
 {
     match aim {
         MapAim::Path { start, goal } => Ok(Task::Path { start, goal }),

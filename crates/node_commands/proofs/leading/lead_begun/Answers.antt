@@ -26,7 +26,7 @@ returns-in-Ok-clause-ends g c =
           named = c.in-Ok.ensures.named;
           quiet = c.in-Ok.ensures.quiet;
           served = c.in-Ok.ensures.served;
-          fed = subst (λ (start : Map). IsFed g.H.Door.Door.talks g.H.Door.Door.closed g.H.Door.Door.faults g.H.Door.Door.port start c.args.leading.board
+          fed = subst (λ (start : Map). IsFed g.H.Door.Door.at start c.args.leading.board
               (length c.args.opened.doors.items) c.args.opened.feed led.feed led.board.history) (ap (λ (v : Versioned). v.map) c.deref.ensures ∙ c.requires.can.start_is) c.in-Ok.ensures.fed;
           built = c.in-Ok.ensures.built;
           how = c.in-Ok.ensures.failed;
@@ -40,5 +40,5 @@ returns-in-Ok-clause-ends g c =
 -- a knock has failed then, and the house counts it as the doors are handed back
 pub returns-in-Ok-clause-fault : goal.returns-in-Ok-clause-fault
 returns-in-Ok-clause-fault g c = λ fault. c.hand_back.ensures.rose
-    (led_rose g.H.Door.Door.closed g.H.Door.Door.faults c.args.opened.doors.items c.in-Ok.led.doors.items c.args.opened.feed c.in-Ok.led.feed
-    c.in-Ok.ensures.served.long c.requires.can.served.no_fault c.requires.can.no_fault (c.in-Ok.ensures.failed.some (c.put_closing.ensures.fault fault)))
+    (led_rose g.H.Door.Door.at c.args.opened.doors.items c.in-Ok.led.doors.items c.args.opened.feed c.in-Ok.led.feed
+    c.in-Ok.ensures.served.long c.requires.can.served.unknocked c.requires.can.unknocked (c.in-Ok.ensures.failed.some (c.put_closing.ensures.fault fault)))

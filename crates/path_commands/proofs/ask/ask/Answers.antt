@@ -19,10 +19,10 @@ pub returns-in-Err-clause-whole : goal.returns-in-Err-clause-whole
 returns-in-Err-clause-whole g c = λ whole.
     let other : c.in-Err.status ≢ status.WriteFault = search rules in
     let put = c.refuse.ensures.whole whole in
-    puts_line _ _ _ _ _ c.in-Err.status c.refuse.result _ _ c.in-Err.ensures.fault other put.0 put.1
+    puts_line _ _ _ c.in-Err.status c.refuse.result _ _ c.in-Err.ensures.fault other put.0 put.1
 
 pub returns-in-Err-clause-cut : goal.returns-in-Err-clause-cut
 returns-in-Err-clause-cut g c = λ cut.
     let other : c.in-Err.status ≢ status.WriteFault = search rules in
     let put = c.refuse.ensures.cut cut in
-    inl (c.refuse.ensures.fault cut, breaks_line _ _ _ _ _ c.in-Err.status put.0 _ _ c.in-Err.ensures.fault other put.1 put.2)
+    inl (c.refuse.ensures.fault cut, breaks_line _ _ _ c.in-Err.status put.0 _ _ c.in-Err.ensures.fault other put.1 put.2)

@@ -14,6 +14,6 @@ returns-clause-talk g c =
       conversed = c.serve_link-ended.ensures.talk;
       legal = subst (λ (p : Place). IsLegal p.start left.history) c.serve_link-ended.ensures.place c.entries-entries.ensures.legal;
       own = talks_are_own (place_for board.start board.order board.room) (standing board.history board.version None)
-          (g.L.Link.talk c.args.input.now) c.serve_link-ended.result (standing left.history left.version None)
-          (g.L.Link.talk c.serve_link-ended.new.link) c.serve_link-ended.ensures.talk refl;
+          (g.L.Link.at c.args.input.now).talk c.serve_link-ended.result (standing left.history left.version None)
+          (g.L.Link.at c.serve_link-ended.new.link).talk c.serve_link-ended.ensures.talk refl;
     }
