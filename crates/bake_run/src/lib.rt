@@ -37,14 +37,14 @@ pub fn run<F: Files, O: Sink, G: Watch, R: Threads + Sync>(
     gate: &G,
 ) -> Status
     ensures image { result ≡ Status.Done
-        → PutsImage (run_over words.now F.content F.faults files.old files.new)
+        → PutsImage (run_over words.now (F.at files.old) (F.at files.new))
         (O.bytes out.old) (O.bytes out.new) }
     ensures cause { result ≢ Status.Done → result ≢ Status.WriteFault
-        → IsCause (run_over words.now F.content F.faults files.old files.new) result }
+        → IsCause (run_over words.now (F.at files.old) (F.at files.new)) result }
     ensures line { result ≢ Status.Done → result ≢ Status.WriteFault
         → Appends (O.bytes out.old) (O.bytes out.new) (refusal_text result) }
     ensures cut { result ≡ Status.WriteFault
-        → BreaksOff (run_over words.now F.content F.faults files.old files.new)
+        → BreaksOff (run_over words.now (F.at files.old) (F.at files.new))
         (O.bytes out.old) (O.bytes out.new) }
     ensures fault { result ≡ Status.WriteFault → Rose (O.faults out.old) (O.faults out.new) }
 {
@@ -67,9 +67,9 @@ fn version_asked<F: Files, B: Bell, G: Watch, R: Threads + Sync>(
     files: &mut F,
 ) -> Result<Version, Status>
     ensures version { IfOk result
-        (IsAskedFor (run_over words.now F.content F.faults files.old files.new)) }
+        (IsAskedFor (run_over words.now (F.at files.old) (F.at files.new))) }
     ensures refused { IfErr result
-        (IsCause (run_over words.now F.content F.faults files.old files.new)) }
+        (IsCause (run_over words.now (F.at files.old) (F.at files.new))) }
 {
     let export = ask_words(means.alloc, words)?;
     let asked = read_words(means.alloc, export.as_slice())?;

@@ -2,7 +2,7 @@
 use Rattle.std.proofs.Common.{◌≡◌, ◌≢◌, ◌≤◌, ◌<◌, ◌⊎◌, ℕ, length, Option, List, Result, IfSome, IfOk, IfErr, Ok, Err, None, inl, inr, refl, sym, subst, arith}
 use Rattle.std.specs.Io.KnownBytes.{Appends}
 use Rattle.wire.specs.Causes.{NoneFell, Rose}
-use Rattle.wire.specs.Contents.{PutsPrefix, TellsTheSame}
+use Rattle.wire.specs.Contents.{AreRead, AtFiles, PutsPrefix}
 use Rattle.clap.specs.Walk.{Text}
 use Rattle.moves.specs.Maps.{Map}
 use Rattle.scen_read.specs.declared.TheConstants.{MAX_SCEN_BYTES}
@@ -147,15 +147,15 @@ module _ {L H E : Type 0} (run : Run) (output : RunOutput) (input : L) (house : 
 
 -- ---- files that were read between
 
-module _ {F : Type 0} (content : F → Text → Option Text) (faults : F → Text → ℕ) (old mid new : F) where
+module _ (old mid new : AtFiles) where
   -- what was told of the map's file is told of it in the whole run
-  pub same_map : (source : Source) (map : Map) → GivesMap (file_over content faults old mid) source map → GivesMap (file_over content faults old new) source map
+  pub same_map : (source : Source) (map : Map) → GivesMap (file_over old mid) source map → GivesMap (file_over old new) source map
   same_map (in_file name) map h = h
   same_map (by_formula sides seed) map h = h
 
-  module _ (kept : TellsTheSame (content old) (content mid)) (later : NoneFell (faults old) (faults mid)) where
+  module _ (read : AreRead old mid) where
     -- and so is what was told of the second file
-    pub same_task : (aim : Aim) (given : Task) → GivesTask (file_over content faults mid new) aim given → GivesTask (file_over content faults old new) aim given
+    pub same_task : (aim : Aim) (given : Task) → GivesTask (file_over mid new) aim given → GivesTask (file_over old new) aim given
     same_task (path start goal) given h = h
     same_task check given h = h
     same_task near given h = h
@@ -163,58 +163,58 @@ module _ {F : Type 0} (content : F → Text → Option Text) (faults : F → Tex
     same_task (scen scenarios) given h = record {
       scenarios = h.scenarios;
       is = h.is;
-      holds = subst (λ held. IfSome held (λ bytes. (length bytes ≤ MAX_SCEN_BYTES) × (scenarios_of bytes ≡ Ok h.scenarios.items))) (kept scenarios) h.holds;
+      holds = subst (λ held. IfSome held (λ bytes. (length bytes ≤ MAX_SCEN_BYTES) × (scenarios_of bytes ≡ Ok h.scenarios.items))) (read.kept scenarios) h.holds;
     }
     same_task (made seed) given h = h
     same_task (replay events) given h = record {
       events = h.events;
       is = h.is;
-      holds = subst (λ held. IfSome held (λ bytes. (length bytes ≤ MAX_EVENTS_BYTES) × AreEventsOf bytes h.events)) (kept events) h.holds;
+      holds = subst (λ held. IfSome held (λ bytes. (length bytes ≤ MAX_EVENTS_BYTES) × AreEventsOf bytes h.events)) (read.kept events) h.holds;
     }
     same_task export given h = h
 
     rose_before : (a b c : ℕ) → a ≤ b → Rose b c → Rose a c
     rose_before a b c below rose = omega arith
 
-    same_file_cause : (name : Text) (limit : ℕ) (cause : Status) → IsFileCause (file_over content faults mid new name) limit cause
-        → IsFileCause (file_over content faults old new name) limit cause
-    same_file_cause name limit status.ReadFault h = rose_before (faults old name) (faults mid name) (faults new name) (later name) h
-    same_file_cause name limit (status.TooLong told) h = (h.0, subst (λ held. IfSome held (λ bytes. limit < length bytes)) (kept name) h.1)
+    same_file_cause : (name : Text) (limit : ℕ) (cause : Status) → IsFileCause (file_over mid new name) limit cause
+        → IsFileCause (file_over old new name) limit cause
+    same_file_cause name limit status.ReadFault h = rose_before (old.faults name) (mid.faults name) (new.faults name) (read.later name) h
+    same_file_cause name limit (status.TooLong told) h = (h.0, subst (λ held. IfSome held (λ bytes. limit < length bytes)) (read.kept name) h.1)
     same_file_cause name limit _ h = h
 
-    same_scen_cause : (name : Text) (cause : Status) → IsScenFileCause (file_over content faults mid new name) cause → IsScenFileCause (file_over content faults old new name) cause
+    same_scen_cause : (name : Text) (cause : Status) → IsScenFileCause (file_over mid new name) cause → IsScenFileCause (file_over old new name) cause
     same_scen_cause name (status.Scen fault) h =
-        subst (λ held. IfSome held (λ bytes. (length bytes ≤ MAX_SCEN_BYTES) × (scenarios_of bytes ≡ Err fault))) (kept name) h
+        subst (λ held. IfSome held (λ bytes. (length bytes ≤ MAX_SCEN_BYTES) × (scenarios_of bytes ≡ Err fault))) (read.kept name) h
     same_scen_cause name status.ReadFault h = same_file_cause name MAX_SCEN_BYTES status.ReadFault h
     same_scen_cause name (status.TooLong limit) h = same_file_cause name MAX_SCEN_BYTES (status.TooLong limit) h
     same_scen_cause name _ h = h
 
-    same_events_cause : (name : Text) (cause : Status) → IsEventsFileCause (file_over content faults mid new name) cause
-        → IsEventsFileCause (file_over content faults old new name) cause
+    same_events_cause : (name : Text) (cause : Status) → IsEventsFileCause (file_over mid new name) cause
+        → IsEventsFileCause (file_over old new name) cause
     same_events_cause name status.ReadFault h = same_file_cause name MAX_EVENTS_BYTES status.ReadFault h
     same_events_cause name (status.TooLong limit) h = same_file_cause name MAX_EVENTS_BYTES (status.TooLong limit) h
     same_events_cause name (status.Events line) h =
-        subst (λ held. IfSome held (λ bytes. (length bytes ≤ MAX_EVENTS_BYTES) × (text_said bytes ≡ Err line))) (kept name) h
+        subst (λ held. IfSome held (λ bytes. (length bytes ≤ MAX_EVENTS_BYTES) × (text_said bytes ≡ Err line))) (read.kept name) h
     same_events_cause name _ h = h
 
-    same_task_cause : (aim : Aim) (cause : Status) → GivesNoTask (file_over content faults mid new) aim cause → GivesNoTask (file_over content faults old new) aim cause
+    same_task_cause : (aim : Aim) (cause : Status) → GivesNoTask (file_over mid new) aim cause → GivesNoTask (file_over old new) aim cause
     same_task_cause (scen scenarios) cause h = same_scen_cause scenarios cause h
     same_task_cause (replay events) cause h = same_events_cause events cause h
     same_task_cause _ cause h = h
 
-    module _ (source : Source) (aim : Aim) (order : OrderKind) (map : Map) (gives : GivesMap (file_over content faults old mid) source map) where
+    module _ (source : Source) (aim : Aim) (order : OrderKind) (map : Map) (gives : GivesMap (file_over old mid) source map) where
       -- there is a map, and another file is not what it has to be
-      pub task_fails : (cause : Status) → GivesNoTask (file_over content faults mid new) aim cause → FailsOfMap (file_over content faults old new) source aim order cause
+      pub task_fails : (cause : Status) → GivesNoTask (file_over mid new) aim cause → FailsOfMap (file_over old new) source aim order cause
       task_fails cause h = inr (inl (record { map = map; gives = same_map source map gives; fails = same_task_cause aim cause h }))
 
-      module _ (given : Task) (does : GivesTask (file_over content faults mid new) aim given) where
+      module _ (given : Task) (does : GivesTask (file_over mid new) aim given) where
         -- what the first version answers, and why it does not, is so of the run
         pub map_answers : (answer : Result Printed Status) → IfOk answer (λ told. IsFirstAnswer map order given (bytes_of told))
-            → IfOk answer (λ told. AnswersOfMap (file_over content faults old new) source aim order (bytes_of told))
+            → IfOk answer (λ told. AnswersOfMap (file_over old new) source aim order (bytes_of told))
         map_answers (Ok told) h = record { map = map; gives = same_map source map gives; task = given; does = same_task aim given does; first = h }
         map_answers (Err cause) h = tt
 
-        pub version_fails : (answer : Result Printed Status) → IfErr answer (IsFirstCause map order given) → IfErr answer (FailsOfMap (file_over content faults old new) source aim order)
+        pub version_fails : (answer : Result Printed Status) → IfErr answer (IsFirstCause map order given) → IfErr answer (FailsOfMap (file_over old new) source aim order)
         version_fails (Ok told) h = tt
         version_fails (Err cause) h =
             inr (inr (record { map = map; gives = same_map source map gives; task = given; does = same_task aim given does; first = h }))

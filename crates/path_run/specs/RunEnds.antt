@@ -13,7 +13,7 @@ use Rattle.path_commands.specs.Asks.{RunHouse}
 use Rattle.path_commands.specs.Requests.{ask, follow, lead, request_of, serve, talk}
 use Rattle.path_commands.specs.Runs.{Asks, IsRight, IsWordsCause, Run}
 use Rattle.path_commands.specs.SaidRequests.{Said}
-use Rattle.path_commands.specs.Serving.{FailsToRead, IsUnopened, Puts, PutsCause, RunDoors, RunEar, Serves}
+use Rattle.path_commands.specs.Serving.{FailsToRead, IsUnopened, Puts, PutsCause, RunEar, Serves}
 use Rattle.path_commands.specs.Talks.{IsUnheard, RunInput, TalkEnds}
 use Rattle.node_commands.specs.Followings.{EndsByLink, Follows, IsBadFeed, IsLeaderMemory, ReadFails, WriteFails}
 use Rattle.node_commands.specs.Leadings.{Leads}
@@ -82,67 +82,66 @@ pub record Talks {O H E : Type 0} (run : Run) (input : RunInput) (out out_after 
 -- ---- `serve`
 
 -- the words ask for sessions at doors, and these ended so; a status that speaks of a failed read or write has that cause
-pub record HasServed (D C : Type 0) (run : Run) (doors : RunDoors D C) (ear : RunEar) (requests : List DoorsAsked)
+pub record HasServed {D C : Type 0} (run : Run) (house : RunHouse D C) (ear : RunEar)
     (output : RunOutput) (ended : Status) : Type 0 where
   pub name : Text
   pub asked : DoorsAsked
   pub room : ℕ
   pub build : BuildOptions
   pub asks : Asks run (serve name asked room build)
-  pub ends : Serves D C (run.file name) build.order room asked doors ear requests output.before output.after ended
-  pub reads : ended ≡ status.ReadFault → FailsToRead D C (run.file name) doors
+  pub ends : Serves (run.file name) build.order room asked house ear output.before output.after ended
+  pub reads : ended ≡ status.ReadFault → FailsToRead (run.file name) house
   pub writes : FailsOnly output ended
 
 -- the words ask for nothing, and no doors were asked for
-pub record HasNotServed (D C : Type 0) (run : Run) (doors : RunDoors D C) (ear : RunEar) (requests : List DoorsAsked)
+pub record HasNotServed {D C : Type 0} (run : Run) (house : RunHouse D C) (ear : RunEar)
     (output : RunOutput) (ended : Status) : Type 0 where
   pub refused : RefusesWords run.words output ended
-  pub unopened : IsUnopened D C doors ear requests
+  pub unopened : IsUnopened house ear
 
 -- no port was called, and no link was read or written
-pub record CallsNobody (D C : Type 0) (house : RunHouse D C) : Type 0 where
-  pub called : house.called ≡ None
-  pub reads : house.reads_after ≡ house.reads_before
-  pub writes : house.writes_after ≡ house.writes_before
+pub record CallsNobody {D C : Type 0} (house : RunHouse D C) : Type 0 where
+  pub called : house.after.called ≡ None
+  pub reads : house.after.read_faults ≡ house.before.read_faults
+  pub writes : house.after.write_faults ≡ house.before.write_faults
 
 -- One of both. The input is as it was, and nobody was called.
-pub record ServesSessions {L : Type 0} (D C : Type 0) (run : Run) (doors : RunDoors D C) (house : RunHouse D C)
-    (ear : RunEar) (requests : List DoorsAsked) (output : RunOutput) (input input_after : L) (ended : Status)
+pub record ServesSessions {L D C : Type 0} (run : Run) (house : RunHouse D C)
+    (ear : RunEar) (output : RunOutput) (input input_after : L) (ended : Status)
     : Type 0 where
-  pub ends : HasServed D C run doors ear requests output ended ⊎ HasNotServed D C run doors ear requests output ended
-  pub uncalled : CallsNobody D C house
+  pub ends : HasServed run house ear output ended ⊎ HasNotServed run house ear output ended
+  pub uncalled : CallsNobody house
   pub unheard : input_after ≡ input
 
 -- ---- `ask`
 
 -- the words ask a server, which was called once, and its answer was put
-pub record HasAsked (D C : Type 0) (words : List Text) (house : RunHouse D C) (output : RunOutput) (ended : Status)
+pub record HasAsked {D C : Type 0} (words : List Text) (house : RunHouse D C) (output : RunOutput) (ended : Status)
     : Type 0 where
   pub port : ℕ
   pub said : Said
   pub asks : request_of words ≡ Some (ask port said)
-  pub calls : CallsServer D C house port said
-  pub heard : ended ≢ status.WriteFault → PutsHeard D C house port said ended output.before output.after
-  pub short : ended ≡ status.WriteFault → FallsShort D C house port said output.faults_before output.faults_after
+  pub calls : CallsServer house port said
+  pub heard : ended ≢ status.WriteFault → PutsHeard house port said ended output.before output.after
+  pub short : ended ≡ status.WriteFault → FallsShort house port said output.faults_before output.faults_after
       output.before output.after
 
 -- the words ask for nothing, and nobody was called
-pub record HasNotAsked (D C : Type 0) (words : List Text) (house : RunHouse D C) (output : RunOutput) (ended : Status)
+pub record HasNotAsked {D C : Type 0} (words : List Text) (house : RunHouse D C) (output : RunOutput) (ended : Status)
     : Type 0 where
   pub refused : RefusesWords words output ended
-  pub uncalled : IsUncalled D C house
+  pub uncalled : IsUncalled house
 
 -- no doors were asked for, and none failed
-pub record OpensNoDoors {D C : Type 0} (doors : RunDoors D C) (requests : List DoorsAsked) : Type 0 where
-  pub none : requests ≡ []
-  pub quiet : doors.faults_after ≡ doors.faults_before
+pub record OpensNoDoors {D C : Type 0} (house : RunHouse D C) : Type 0 where
+  pub none : house.after.asked ≡ []
+  pub quiet : house.after.door_faults ≡ house.before.door_faults
 
 -- One of both. The files, the input and the ear are as they were, and no doors were asked for.
-pub record AsksServer {F L E : Type 0} (D C : Type 0) (words : List Text) (doors : RunDoors D C) (house : RunHouse D C)
-    (requests : List DoorsAsked) (output : RunOutput) (files files_after : F) (input input_after : L)
-    (ear ear_after : E) (ended : Status) : Type 0 where
-  pub ends : HasAsked D C words house output ended ⊎ HasNotAsked D C words house output ended
-  pub unopened : OpensNoDoors doors requests
+pub record AsksServer {F L E D C : Type 0} (words : List Text) (house : RunHouse D C) (output : RunOutput)
+    (files files_after : F) (input input_after : L) (ear ear_after : E) (ended : Status) : Type 0 where
+  pub ends : HasAsked words house output ended ⊎ HasNotAsked words house output ended
+  pub unopened : OpensNoDoors house
   pub unread : files_after ≡ files
   pub unheard : input_after ≡ input
   pub deaf : ear_after ≡ ear
@@ -151,49 +150,49 @@ pub record AsksServer {F L E : Type 0} (D C : Type 0) (words : List Text) (doors
 
 -- the words ask for sessions and a feed at doors, and these ended so; a status that speaks of a failed read or write has
 -- that cause
-pub record HasLed (D C : Type 0) (run : Run) (doors : RunDoors D C) (ear : RunEar) (requests : List DoorsAsked)
+pub record HasLed {D C : Type 0} (run : Run) (house : RunHouse D C) (ear : RunEar)
     (output : RunOutput) (ended : Status) : Type 0 where
   pub asked : LeadAsked
   pub asks : Asks run (lead asked.map.now asked.doors asked.feed asked.room asked.build)
-  pub ends : Leads D C asked (run.file asked.map.now) doors ear requests output.before output.after ended
-  pub reads : ended ≡ status.ReadFault → FailsToRead D C (run.file asked.map.now) doors
+  pub ends : Leads asked (run.file asked.map.now) house ear output.before output.after ended
+  pub reads : ended ≡ status.ReadFault → FailsToRead (run.file asked.map.now) house
   pub writes : FailsOnly output ended
 
 -- That, or the words ask for nothing, and no doors were asked for. The input is as it was, and nobody was called.
-pub record LeadsSessions {L : Type 0} (D C : Type 0) (run : Run) (doors : RunDoors D C) (house : RunHouse D C)
-    (ear : RunEar) (requests : List DoorsAsked) (output : RunOutput) (input input_after : L) (ended : Status)
+pub record LeadsSessions {L D C : Type 0} (run : Run) (house : RunHouse D C)
+    (ear : RunEar) (output : RunOutput) (input input_after : L) (ended : Status)
     : Type 0 where
-  pub ends : HasLed D C run doors ear requests output ended ⊎ HasNotServed D C run doors ear requests output ended
-  pub uncalled : CallsNobody D C house
+  pub ends : HasLed run house ear output ended ⊎ HasNotServed run house ear output ended
+  pub uncalled : CallsNobody house
   pub unheard : input_after ≡ input
 
 -- ---- `follow`
 
 -- the words ask for a board that follows a leader, which was called once, and for a session on it; each of these
 -- statuses comes for its cause alone
-pub record HasFollowed (D C : Type 0) (words : List Text) (house : RunHouse D C) (input : RunInput) (output : RunOutput)
+pub record HasFollowed {D C : Type 0} (words : List Text) (house : RunHouse D C) (input : RunInput) (output : RunOutput)
     (ended : Status) : Type 0 where
   pub asked : FollowAsked
   pub asks : request_of words ≡ Some (follow asked.port asked.rounds asked.order)
-  pub called : house.called ≡ Some asked.port
-  pub ends : Follows D C house asked input output.before output.after ended
-  pub reads : ended ≡ status.ReadFault → ReadFails D C house input
-  pub writes : ended ≡ status.WriteFault → WriteFails D C output.faults_before output.faults_after house input
-  pub bad : ended ≡ status.BadAnswer → EndsByLink D C house asked input IsBadFeed
-  pub memory : ended ≡ status.LeaderMemory → EndsByLink D C house asked input IsLeaderMemory
+  pub called : house.after.called ≡ Some asked.port
+  pub ends : Follows house asked input output.before output.after ended
+  pub reads : ended ≡ status.ReadFault → ReadFails house input
+  pub writes : ended ≡ status.WriteFault → WriteFails output.faults_before output.faults_after house input
+  pub bad : ended ≡ status.BadAnswer → EndsByLink house asked input IsBadFeed
+  pub memory : ended ≡ status.LeaderMemory → EndsByLink house asked input IsLeaderMemory
 
 -- the words ask for nothing, nobody was called, and nothing was taken of the input or sent
-pub record HasNotFollowed (D C : Type 0) (words : List Text) (house : RunHouse D C) (input : RunInput)
+pub record HasNotFollowed {D C : Type 0} (words : List Text) (house : RunHouse D C) (input : RunInput)
     (output : RunOutput) (ended : Status) : Type 0 where
   pub refused : RefusesWords words output ended
-  pub uncalled : IsUncalled D C house
+  pub uncalled : IsUncalled house
   pub unheard : IsUnheard input
 
 -- One of both. The files and the ear are as they were, and no doors were asked for.
-pub record FollowsLeader {F E : Type 0} (D C : Type 0) (words : List Text) (doors : RunDoors D C) (house : RunHouse D C)
-    (requests : List DoorsAsked) (input : RunInput) (output : RunOutput) (files files_after : F)
+pub record FollowsLeader {F E D C : Type 0} (words : List Text) (house : RunHouse D C) (input : RunInput)
+    (output : RunOutput) (files files_after : F)
     (ear ear_after : E) (ended : Status) : Type 0 where
-  pub ends : HasFollowed D C words house input output ended ⊎ HasNotFollowed D C words house input output ended
-  pub unopened : OpensNoDoors doors requests
+  pub ends : HasFollowed words house input output ended ⊎ HasNotFollowed words house input output ended
+  pub unopened : OpensNoDoors house
   pub unread : files_after ≡ files
   pub deaf : ear_after ≡ ear

@@ -3,8 +3,8 @@
 #![tactic(auto)]
 
 ghost use Rattle.std.specs.Prelude.{◌≡◌, ◌≢◌, [], false, IfErr, IfOk, None, string_bytes};
-ghost use Rattle.wire.specs.Causes.{NoneFell, Rose};
-ghost use Rattle.wire.specs.Contents.{TellsTheSame};
+ghost use Rattle.wire.specs.Causes.{Rose};
+ghost use Rattle.wire.specs.Contents.{AreRead};
 ghost use Rattle.moves.specs.Maps.{IsSearchable};
 ghost use Rattle.path_commands.specs.declared.commands.Kind.{Kind};
 ghost use Rattle.path_commands.specs.declared.status.Status.{Status};
@@ -16,7 +16,7 @@ ghost use Rattle.path_commands.specs.Words.{AreWorkers, texts_of};
 ghost use Rattle.path_commands.specs.Runs.{AnswersOfMap, FailsOfMap, GivesMap, GivesNoMap, IsAnswerOn, IsDbFileCause};
 ghost use Rattle.path_commands.specs.Runs.{IsFirstAnswer, IsFirstCause, IsVersionCause, MayBeDone, NeedsVersion};
 ghost use Rattle.path_commands.specs.Runs.{TellsVersion, file_over, run_over};
-ghost use Rattle.path_commands.specs.Serving.{PutsCause, doors_over, ear_over};
+ghost use Rattle.path_commands.specs.Serving.{PutsCause, ear_over};
 ghost use Rattle.path_commands.specs.Statuses.{status_of};
 ghost use Rattle.path_commands.specs.Talks.{input_over};
 ghost use Rattle.path_run.specs.Answering.{PutsAnswer, bytes_of};
@@ -72,44 +72,35 @@ pub fn run<
     ear: &mut E,
     gate: &G,
 ) -> Status
-    requires unasked { H.asked house.old ≡ [] }
-    requires uncalled { H.called house.old ≡ None }
-    requires unlent { HasGivenNone (H.lent house.old) }
-    requires waiting { E.over ear.old ≡ false }
+    requires unasked { (H.at house.old).asked ≡ [] }
+    requires uncalled { (H.at house.old).called ≡ None }
+    requires unlent { HasGivenNone (H.at house.old).lent }
+    requires waiting { (E.at ear.old).over ≡ false }
     ensures printed { IsPrinted words.now → Prints
-        (run_over words.now F.content F.faults files.old files.new)
+        (run_over words.now (F.at files.old) (F.at files.new))
         (output_over O.bytes O.faults out.old out.new)
         input.old input.new house.old house.new ear.old ear.new result }
     ensures talk { IsTalk words.now → Talks
-        (run_over words.now F.content F.faults files.old files.new)
-        (input_over L.talk L.read_faults L.write_faults input.old input.new)
+        (run_over words.now (F.at files.old) (F.at files.new))
+        (input_over (L.at input.old) (L.at input.new))
         out.old out.new house.old house.new ear.old ear.new result }
-    ensures serve { IsServe words.now → ServesSessions H.Door H.Conn
-        (run_over words.now F.content F.faults files.old files.new)
-        (doors_over H.Door.talks H.Door.closed H.Door.faults H.Door.port H.lent H.door_faults
-        house.old house.new)
-        (house_over H.Conn.talk H.lent H.called H.read_faults H.write_faults house.old house.new)
-        (ear_over E.rung E.over ear.old ear.new) (H.asked house.new)
+    ensures serve { IsServe words.now → ServesSessions
+        (run_over words.now (F.at files.old) (F.at files.new))
+        (house_over H.Door.at H.Conn.at (H.at house.old) (H.at house.new))
+        (ear_over (E.at ear.old) (E.at ear.new))
         (output_over O.bytes O.faults out.old out.new) input.old input.new result }
-    ensures ask { IsAsk words.now → AsksServer H.Door H.Conn (texts_of words.now)
-        (doors_over H.Door.talks H.Door.closed H.Door.faults H.Door.port H.lent H.door_faults
-        house.old house.new)
-        (house_over H.Conn.talk H.lent H.called H.read_faults H.write_faults house.old house.new)
-        (H.asked house.new) (output_over O.bytes O.faults out.old out.new)
+    ensures ask { IsAsk words.now → AsksServer (texts_of words.now)
+        (house_over H.Door.at H.Conn.at (H.at house.old) (H.at house.new))
+        (output_over O.bytes O.faults out.old out.new)
         files.old files.new input.old input.new ear.old ear.new result }
-    ensures lead { IsLead words.now → LeadsSessions H.Door H.Conn
-        (run_over words.now F.content F.faults files.old files.new)
-        (doors_over H.Door.talks H.Door.closed H.Door.faults H.Door.port H.lent H.door_faults
-        house.old house.new)
-        (house_over H.Conn.talk H.lent H.called H.read_faults H.write_faults house.old house.new)
-        (ear_over E.rung E.over ear.old ear.new) (H.asked house.new)
+    ensures lead { IsLead words.now → LeadsSessions
+        (run_over words.now (F.at files.old) (F.at files.new))
+        (house_over H.Door.at H.Conn.at (H.at house.old) (H.at house.new))
+        (ear_over (E.at ear.old) (E.at ear.new))
         (output_over O.bytes O.faults out.old out.new) input.old input.new result }
-    ensures follow { IsFollow words.now → FollowsLeader H.Door H.Conn (texts_of words.now)
-        (doors_over H.Door.talks H.Door.closed H.Door.faults H.Door.port H.lent H.door_faults
-        house.old house.new)
-        (house_over H.Conn.talk H.lent H.called H.read_faults H.write_faults house.old house.new)
-        (H.asked house.new)
-        (input_over L.talk L.read_faults L.write_faults input.old input.new)
+    ensures follow { IsFollow words.now → FollowsLeader (texts_of words.now)
+        (house_over H.Door.at H.Conn.at (H.at house.old) (H.at house.new))
+        (input_over (L.at input.old) (L.at input.new))
         (output_over O.bytes O.faults out.old out.new)
         files.old files.new ear.old ear.new result }
 {
@@ -171,9 +162,9 @@ enum Printed {
 /// What tells the size of the version whose file has that name.
 fn verify<F: Files>(alloc: Global, files: &mut F, name: &str) -> Result<Printed, Status>
     ensures done { IfOk result (λ printed. TellsVersion
-        (file_over F.content F.faults files.old files.new name.now) (bytes_of printed)) }
+        (file_over (F.at files.old) (F.at files.new) name.now) (bytes_of printed)) }
     ensures refused { IfErr result
-        (IsDbFileCause (file_over F.content F.faults files.old files.new name.now)) }
+        (IsDbFileCause (file_over (F.at files.old) (F.at files.new) name.now)) }
 {
     let version = read_version(alloc, files, name)?;
     let text = answer_verify(alloc, &version)?;
@@ -189,10 +180,10 @@ fn answer<F: Files, B: Bell, G: Watch, R: Threads + Sync>(
     requires sides { HasSides (source_of asked.source) }
     requires workers { AreWorkers asked.build.workers }
     ensures done { IfOk result (λ printed. AnswersOfMap
-        (file_over F.content F.faults files.old files.new) (source_of asked.entry.source)
+        (file_over (F.at files.old) (F.at files.new)) (source_of asked.entry.source)
         (aim_of asked.entry.aim) asked.entry.build.order (bytes_of printed)) }
     ensures refused { IfErr result (FailsOfMap
-        (file_over F.content F.faults files.old files.new) (source_of asked.entry.source)
+        (file_over (F.at files.old) (F.at files.new)) (source_of asked.entry.source)
         (aim_of asked.entry.aim) asked.entry.build.order) }
 {
     let grid = grid_for(means.alloc, files, asked.source)?;
@@ -310,12 +301,11 @@ fn near_path_for<B: Bell, G: Watch, R: Threads + Sync>(
 fn grid_for<F: Files>(alloc: Global, files: &mut F, source: MapSource<'_>) -> Result<Grid, Status>
     requires { HasSides (source_of source) }
     ensures grid { IfOk result
-        (GivesMap (file_over F.content F.faults files.old files.new) (source_of source.entry)) }
+        (GivesMap (file_over (F.at files.old) (F.at files.new)) (source_of source.entry)) }
     ensures small { IfOk result IsSearchable }
-    ensures kept { TellsTheSame (F.content files.old) (F.content files.new) }
-    ensures later { NoneFell (F.faults files.old) (F.faults files.new) }
+    ensures read { AreRead (F.at files.old) (F.at files.new) }
     ensures refused { IfErr result
-        (GivesNoMap (file_over F.content F.faults files.old files.new) (source_of source.entry)) }
+        (GivesNoMap (file_over (F.at files.old) (F.at files.new)) (source_of source.entry)) }
 {
     match source {
         MapSource::File(name) => read_grid(alloc, files, name),

@@ -12,7 +12,7 @@ read_words-requires g c = asks_for_export (texts_of c.as_slice.result.now) (text
 
 pub returns-in_err-grid-clause-refused : goal.returns-in_err-grid-clause-refused
 returns-in_err-grid-clause-refused g c =
-    let run = run_over c.args.words.now g.F.Files.content g.F.Files.faults c.args.files.now c.read_grid.new.files in
+    let run = run_over c.args.words.now (g.F.Files.at c.args.files.now) (g.F.Files.at c.read_grid.new.files) in
     let same : texts_of c.as_slice.result.now ≡ export_words (texts_of c.args.words.now) = ap texts_of c.as_slice.ensures.value ∙ c.in_ok-export.ensures in
     passed_up c.from_residual-in_err-grid.result c.in_err-grid.field-0.0 (IsCause run) c.from_residual-in_err-grid.ensures.1
     (map_fails run c.in_err-grid.field-0.0 (record {

@@ -16,25 +16,25 @@ answer-requires-clause-workers g c = λ lives outlives. (subst (λ request. HasL
 
 pub print-requires-clause-done : goal.print-requires-clause-done
 print-requires-clause-done g c =
-    map_not_done (file_over g.F.Files.content g.F.Files.faults c.args.files.now c.answer.new.files) (source_of c.in-Ok-OfMap.asked.source) (aim_of c.in-Ok-OfMap.asked.aim)
+    map_not_done (file_over (g.F.Files.at c.args.files.now) (g.F.Files.at c.answer.new.files)) (source_of c.in-Ok-OfMap.asked.source) (aim_of c.in-Ok-OfMap.asked.aim)
     c.in-Ok-OfMap.asked.build.order c.answer.result c.answer.ensures.refused
 
 pub print-requires-clause-write : goal.print-requires-clause-write
 print-requires-clause-write g c =
-    map_no_fault (file_over g.F.Files.content g.F.Files.faults c.args.files.now c.answer.new.files) (source_of c.in-Ok-OfMap.asked.source) (aim_of c.in-Ok-OfMap.asked.aim)
+    map_no_fault (file_over (g.F.Files.at c.args.files.now) (g.F.Files.at c.answer.new.files)) (source_of c.in-Ok-OfMap.asked.source) (aim_of c.in-Ok-OfMap.asked.aim)
     c.in-Ok-OfMap.asked.build.order c.answer.result c.answer.ensures.refused
 
 pub print-requires-in-Ok-Verify-clause-done : goal.print-requires-in-Ok-Verify-clause-done
 print-requires-in-Ok-Verify-clause-done g c =
-    db_not_done (file_over g.F.Files.content g.F.Files.faults c.args.files.now c.verify.new.files c.in-Ok-Verify.name.now) c.verify.result c.verify.ensures.refused
+    db_not_done (file_over (g.F.Files.at c.args.files.now) (g.F.Files.at c.verify.new.files) c.in-Ok-Verify.name.now) c.verify.result c.verify.ensures.refused
 
 pub print-requires-in-Ok-Verify-clause-write : goal.print-requires-in-Ok-Verify-clause-write
 print-requires-in-Ok-Verify-clause-write g c =
-    db_no_fault (file_over g.F.Files.content g.F.Files.faults c.args.files.now c.verify.new.files c.in-Ok-Verify.name.now) c.verify.result c.verify.ensures.refused
+    db_no_fault (file_over (g.F.Files.at c.args.files.now) (g.F.Files.at c.verify.new.files) c.in-Ok-Verify.name.now) c.verify.result c.verify.ensures.refused
 
 pub returns-in-Ok-OfMap-clause-printed : goal.returns-in-Ok-OfMap-clause-printed
 returns-in-Ok-OfMap-clause-printed g c = λ _.
-    let run = run_over c.args.words.now g.F.Files.content g.F.Files.faults c.args.files.now c.answer.new.files in
+    let run = run_over c.args.words.now (g.F.Files.at c.args.files.now) (g.F.Files.at c.answer.new.files) in
     let output = output_over g.O.Sink.bytes g.O.Sink.faults c.args.out.now c.print.new.out in
     let given = c.in-Ok-OfMap.asked in
     prints_answer run output c.args.input.now c.args.house.now c.args.ear.now c.print.result c.print.ensures.fault
@@ -44,7 +44,7 @@ returns-in-Ok-OfMap-clause-printed g c = λ _.
 
 pub returns-in-Ok-Verify-clause-printed : goal.returns-in-Ok-Verify-clause-printed
 returns-in-Ok-Verify-clause-printed g c = λ _.
-    let run = run_over c.args.words.now g.F.Files.content g.F.Files.faults c.args.files.now c.verify.new.files in
+    let run = run_over c.args.words.now (g.F.Files.at c.args.files.now) (g.F.Files.at c.verify.new.files) in
     let output = output_over g.O.Sink.bytes g.O.Sink.faults c.args.out.now c.print-in-Ok-Verify.new.out in
     prints_answer run output c.args.input.now c.args.house.now c.args.ear.now c.print-in-Ok-Verify.result c.print-in-Ok-Verify.ensures.fault
     (verify c.in-Ok-Verify.name.now)
@@ -53,7 +53,7 @@ returns-in-Ok-Verify-clause-printed g c = λ _.
 
 pub returns-in-Err-clause-printed : goal.returns-in-Err-clause-printed
 returns-in-Err-clause-printed g c = λ printed.
-    let run = run_over c.args.words.now g.F.Files.content g.F.Files.faults c.args.files.now c.args.files.now in
+    let run = run_over c.args.words.now (g.F.Files.at c.args.files.now) (g.F.Files.at c.args.files.now) in
     let output = output_over g.O.Sink.bytes g.O.Sink.faults c.args.out.now c.end_refused.new.out in
     let known = c.in-Err.ensures.refused.kind in
     let other : c.in-Err.refusal.kind ≢ kind.Talk = λ same. cc in
@@ -72,7 +72,7 @@ returns-in-Ok-Follow-clause-follow g c = λ _. record {
     bad = c.follow.ensures.bad_answer;
     memory = c.follow.ensures.leader_memory;
   });
-  unopened = record { none = c.follow.ensures.doors ∙ c.requires.unasked; quiet = c.follow.ensures.door_faults };
+  unopened = record { none = c.follow.ensures.only.asked ∙ c.requires.unasked; quiet = c.follow.ensures.only.door_faults };
   unread = refl;
   deaf = refl;
 }
