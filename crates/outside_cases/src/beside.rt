@@ -152,11 +152,11 @@ fn copy_front(room: &mut [u8], bytes: &[u8]) -> usize
 impl Link for Client {
     ghost use Rattle.std.specs.Prelude.{None};
 
-    ghost talk = { λ _. None };
-
-    ghost read_faults = { λ _. 0 };
-
-    ghost write_faults = { λ client. client.faults };
+    ghost at = { λ client. record {
+      talk = None;
+      read_faults = 0;
+      write_faults = client.faults;
+    } };
 
     fn recv(&mut self, room: &mut [u8]) -> Result<usize, Failed> {
         if self.sent >= self.size {
@@ -184,19 +184,11 @@ struct Hall {
 }
 
 impl Door for Hall {
-    ghost use Rattle.std.specs.Prelude.{None};
+    ghost use Rattle.wire.specs.Knocks.{untold_door};
 
     type Conn = Client;
 
-    ghost talks = { λ _. None };
-
-    ghost lent = { λ _. 0 };
-
-    ghost closed = { λ _. false };
-
-    ghost faults = { λ _. 0 };
-
-    ghost port = { λ _. None };
+    ghost at = { λ _. untold_door 0 };
 
     fn knock(&mut self) -> Result<Knock<Client>, Failed> {
         match self.coming.take() {

@@ -151,6 +151,9 @@ fn compared<R: Threads + Sync>(
         "rows after some edits and anew" => {
             staying::several_differences(rt, alloc, grid, number)?
         }
+        "rows after blocked cells and anew" => {
+            staying::blocked_differences(rt, alloc, grid, number)?
+        }
         "runs and fewest" => builds::run_differences(rt, alloc, grid)?,
         _ => return Ok(None),
     };

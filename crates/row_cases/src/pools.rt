@@ -10,7 +10,7 @@ use std::fmt::Write;
 /// `pool | STEP; STEP`: what the pool that was made last has after these steps.
 ///
 /// - `new` and `blank COUNT` begin a pool;
-/// - `push runs START MOVE, START MOVE`, `push sets SETS` add a row to it;
+/// - `push runs START MOVE, START MOVE`, `push words NUMBERS`, `push sets SETS` add a row to it;
 /// - `put PLACE sets SETS`, `put PLACE words NUMBERS` put a row in the place of an empty one;
 /// - `merge` gives the pool that was made before it the rows of this one, `shrink` gives memory back.
 pub fn pool_line(alloc: Global, input: &str) -> Result<Option<String>, AllocError> {
@@ -110,6 +110,7 @@ fn change(alloc: Global, pool: &mut RowPool, verb: &str, rest: &str) -> Result<b
         }
         ("push", "sets") => push_sets(alloc, pool, row),
         ("push", "runs") => push_runs(alloc, pool, row),
+        ("push", "words") => push_words(alloc, pool, row),
         ("put", place) => match place.parse::<u32>() {
             Ok(place) => put(alloc, pool, place as usize, row),
             Err(_) => Ok(false),
@@ -147,6 +148,18 @@ fn push_runs(alloc: Global, pool: &mut RowPool, runs: &str) -> Result<bool, Allo
         return Ok(false);
     }
     pool.push_row(&runs)?;
+    Ok(true)
+}
+
+/// Adds a row of words.
+fn push_words(alloc: Global, pool: &mut RowPool, words: &str) -> Result<bool, AllocError> {
+    let Some(words) = numbers_in(alloc, words)? else {
+        return Ok(false);
+    };
+    if pool.len() >= MAX_PASSABLE as usize || words.len() > MAX_PLACES as usize {
+        return Ok(false);
+    }
+    pool.push_words(&words)?;
     Ok(true)
 }
 

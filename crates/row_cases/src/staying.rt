@@ -6,7 +6,7 @@ ghost use Rattle.build_pool.specs.Pieces.{AreSome};
 ghost use Rattle.moves.specs.Maps.{IsSearchable};
 
 use crate::builds::rows_differ;
-use crate::fields::{cell_in, parted};
+use crate::fields::{cells_in, parted};
 use crate::shapes::first_component;
 use build_pool::{Crew, FreeGate, KnownRows, build_rows, build_rows_knowing};
 use case_kit::{Random, grid_of};
@@ -139,6 +139,60 @@ pub fn several_differences<R: Threads + Sync>(
     both_ways(rt, alloc, grid, &new, &former)
 }
 
+/// The same for a map in which two to seven cells are blocked, a piece of a wall or cells of the first component here
+/// and there; and, the other way, freed.
+pub fn blocked_differences<R: Threads + Sync>(
+    rt: &R,
+    alloc: Global,
+    grid: &Grid,
+    number: u32,
+) -> Result<u32, AllocError> {
+    let Some(cells) = first_component(alloc, grid)? else {
+        return Ok(0);
+    };
+    let former = build_rows(rt, alloc, OrderKind::Rows, &cells, 1, &FreeGate)?;
+    let new = with_blocked(grid, &cells, number)?;
+    both_ways(rt, alloc, grid, &new, &former)
+}
+
+/// The map with two to seven cells blocked: one of the component and those that a walk from it comes to, or each one of
+/// the component.
+fn with_blocked(grid: &Grid, component: &[Cell], number: u32) -> Result<Grid, AllocError> {
+    let mut random = Random::of(number);
+    let mut new = grid.copy()?;
+    let mut cell = picked(component, &mut random);
+    for _ in 0..number % 6 + 2 {
+        if new.inside(cell) {
+            new.set(cell, false);
+        }
+        cell = if number / 6 % 2 == 0 {
+            beside(cell, &mut random)
+        } else {
+            picked(component, &mut random)
+        };
+    }
+    Ok(new)
+}
+
+/// The cell to the east, or that to the south.
+fn beside(cell: Cell, random: &mut Random) -> Cell {
+    let Cell { x, y } = cell;
+    if random.below(2) == 0 {
+        let x = x.saturating_add(1);
+        Cell { x, y }
+    } else {
+        let y = y.saturating_add(1);
+        Cell { x, y }
+    }
+}
+
+/// One of the cells.
+fn picked(cells: &[Cell], random: &mut Random) -> Cell {
+    let count = u32::try_from(cells.len()).unwrap_or(1).max(1);
+    let place = random.below(count) as usize;
+    cells.get(place).copied().unwrap_or_default()
+}
+
 /// The same, and how many rows were known is noted.
 #[derive(Drop)]
 struct Counted<'a> {
@@ -172,25 +226,35 @@ fn count_of(rows: &RowPool) -> u32 {
     count
 }
 
-/// `known rows | MAP | X Y`: whether most of the rows of a map's first component are known from before one of its cells
-/// was blocked, and most of its rows from before that cell was freed again.
+/// `known rows | MAP | X Y, X Y`: whether most of the rows of a map's first component are known from before those of its
+/// cells were blocked, and most of its rows from before they were freed again.
 pub fn known_rows_line<R: Threads + Sync>(
     rt: &R,
     alloc: Global,
     input: &str,
 ) -> Result<Option<String>, AllocError> {
-    let (map, cell) = parted(input);
-    let (Some(grid), Some(cell)) = (grid_of(alloc, map)?, cell_in(cell)) else {
+    let (map, cells) = parted(input);
+    let (Some(grid), Some(cells)) = (grid_of(alloc, map)?, cells_in(alloc, cells)?) else {
         return Ok(None);
     };
-    if !grid.passable(cell) {
+    let Some(new) = without_all(&grid, &cells)? else {
         return Ok(None);
-    }
-    let mut new = grid.copy()?;
-    new.set(cell, false);
+    };
     let blocked = are_most_known(rt, alloc, &grid, &new)?;
     let freed = are_most_known(rt, alloc, &new, &grid)?;
     Ok(Some(format!(in alloc; "blocked: {blocked}, freed: {freed}")?))
+}
+
+/// The map with these cells blocked; `None` where they are not passable, each of them once.
+fn without_all(grid: &Grid, cells: &[Cell]) -> Result<Option<Grid>, AllocError> {
+    let mut new = grid.copy()?;
+    for cell in cells.iter() {
+        if !new.passable(*cell) {
+            return Ok(None);
+        }
+        new.set(*cell, false);
+    }
+    Ok(Some(new))
 }
 
 /// Whether most rows of the new map's first component are known after the former one's.
