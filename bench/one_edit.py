@@ -3,11 +3,12 @@
 
     bench/one_edit.py [--edits N] [--seed S] [--maps FOLDER] [--program FILE]
 
-On each of six maps of some 3,000 to 10,000 cells so many doors and so many random cells are blocked and freed again, one
-after the other, in one session of `talk`; after each edit a version is built. A door is a passable cell between two
-blocked ones, north and south or east and west of it, whose other two neighbours are passable. Callgrind counts the
-instructions of each plan and build; the first version is built by one worker too, and has no former one. Prints the
-median, the worst tenth and the worst of the quotients. Where an edit cuts a component in two, the quotient is that of the
+On each of six maps of some 3,000 to 10,000 cells so many doors, so many random cells and so many walls are blocked and
+freed again, one after the other, in one session of `talk`; after each edit a version is built. A door is a passable cell
+between two blocked ones, north and south or east and west of it, whose other two neighbours are passable; a wall is five
+passable cells in a row or in a column, which an edit changes together. Callgrind counts the instructions of each plan and
+build; the first version is built by one worker too, and has no former one. Prints the median, the worst tenth and the
+worst of the quotients. Where an edit cuts a component in two, the quotient is that of the
 first version all the same, though the parts by themselves have fewer rows. With --maps it takes the .map files of a
 folder. The program is the one that was built here (./build)."""
 import argparse
@@ -23,9 +24,10 @@ import maps
 TOP = os.path.dirname(os.path.dirname(os.path.abspath(__file__)))
 sys.path.insert(0, os.path.join(TOP, "clients", "python"))
 
-from path_server import Build, Bye, Change, Published, Terrain  # noqa: E402
+from path_server import Build, Bye, Change, Edit, Hello, Published, Terrain  # noqa: E402
 from path_server.frames import decoded, encoded, split_replies  # noqa: E402
 
+WALL = 5  # cells of a wall
 KINDS = [("open", 64), ("rooms", 67), ("rooms", 101), ("caves", 90), ("caves", 120), ("blocked20", 80)]
 BEGINS, ENDS = "version_build::planning::plan*", "version_build::building::build*"
 
@@ -45,11 +47,22 @@ def is_door(rows, column, row):
     return (north and south and not west and not east) or (west and east and not north and not south)
 
 
+def walls_of(rows, cells):
+    """All walls: so many passable cells in a row or in a column."""
+    lines = [[(x + i * east, y + i * (1 - east)) for i in range(WALL)] for x, y in cells for east in (0, 1)]
+    return [line for line in lines if all(is_open(rows, *cell) for cell in line)]
+
+
 def chosen(rows, count, rng):
-    """So many doors, where there are as many, and so many of all passable cells."""
+    """So many doors, where there are as many, so many of all passable cells, and so many walls: each is a list of cells."""
     cells = [(x, y) for y in range(len(rows)) for x in range(len(rows[0])) if is_open(rows, x, y)]
     doors = [cell for cell in cells if is_door(rows, *cell)]
-    return {"doors": rng.sample(doors, min(count, len(doors))), "random cells": rng.sample(cells, count)}
+    walls = walls_of(rows, cells)
+    return {
+        "doors": [[cell] for cell in rng.sample(doors, min(count, len(doors)))],
+        "random cells": [[cell] for cell in rng.sample(cells, count)],
+        "walls": rng.sample(walls, min(count, len(walls))),
+    }
 
 
 def counts(program, name, requests):
@@ -67,20 +80,26 @@ def counts(program, name, requests):
     return told, done.stdout
 
 
-def requests_of(cells):
-    """Each cell is blocked and freed, and each time a version is built."""
-    edits = [Change(cell, terrain) for cell in cells for terrain in (Terrain.BLOCKED, Terrain.LAND)]
-    return [request for edit in edits for request in (edit, Build())] + [Bye()]
+def edit_of(cells, terrain):
+    """The edit that makes these cells so."""
+    changes = tuple(Change(cell, terrain) for cell in cells)
+    return changes[0] if len(changes) == 1 else Edit(changes)
 
 
-def quotients(program, name, cells):
-    """For each cell what the versions after it is blocked and freed take of the first version."""
-    told, said = counts(program, name, b"".join(map(encoded, requests_of(cells))))
+def requests_of(places):
+    """The cells of each place are blocked and freed, and each time a version is built."""
+    edits = [edit_of(cells, terrain) for cells in places for terrain in (Terrain.BLOCKED, Terrain.LAND)]
+    return [Hello()] + [request for edit in edits for request in (edit, Build())] + [Bye()]
+
+
+def quotients(program, name, places):
+    """For each place what the versions after it is blocked and freed take of the first version."""
+    told, said = counts(program, name, b"".join(map(encoded, requests_of(places))))
     replies = [decoded(frame) for frame in split_replies(said)[0]]
-    assert sum(isinstance(reply, Published) for reply in replies) == 2 * len(cells), replies[:8]
-    assert len(told) > 2 * len(cells), len(told)
+    assert sum(isinstance(reply, Published) for reply in replies) == 2 * len(places), replies[:8]
+    assert len(told) > 2 * len(places), len(told)
     first, *after = told
-    return first, [count / first for count in after[: 2 * len(cells)]]
+    return first, [count / first for count in after[: 2 * len(places)]]
 
 
 def at(values, share):
@@ -100,20 +119,20 @@ def main():
         drawn = [(name, open(os.path.join(options.maps, name), encoding="ascii").read().splitlines()[4:]) for name in names]
     else:
         drawn = [("%s of %d" % kind, maps.drawn(*kind)) for kind in KINDS]
-    all_of = {"doors": [], "random cells": []}
+    all_of = {"doors": [], "random cells": [], "walls": []}
     with tempfile.TemporaryDirectory() as folder:
         name = os.path.join(folder, "a.map")
         for what, rows in drawn:
             with open(name, "w", encoding="ascii") as file:
                 file.write(map_text(rows))
-            for kind, cells in chosen(rows, options.edits, rng).items():
-                if not cells:
+            for kind, places in chosen(rows, options.edits, rng).items():
+                if not places:
                     print("%-14s %-12s none" % (what, kind), flush=True)
                     continue
-                first, shares = quotients(options.program, name, cells)
+                first, shares = quotients(options.program, name, places)
                 all_of[kind] += shares
-                print("%-14s %-12s %3d cells, the first version %6.1f million: median %.3f, worst tenth %.3f, worst %.3f"
-                      % (what, kind, len(cells), first / 1e6, at(shares, 0.5), at(shares, 0.9), max(shares)), flush=True)
+                print("%-14s %-12s %3d, the first version %6.1f million: median %.3f, worst tenth %.3f, worst %.3f"
+                      % (what, kind, len(places), first / 1e6, at(shares, 0.5), at(shares, 0.9), max(shares)), flush=True)
     for kind, shares in all_of.items():
         if shares:
             print("%-14s %-12s median %.3f, worst tenth %.3f, worst %.3f"
