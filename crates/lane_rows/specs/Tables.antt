@@ -1,5 +1,6 @@
 -- The neighbours of the cells of a component, by places: a cell's place is its index in the list of cells.
 use Rattle.std.specs.Prelude.{◌≡◌, ◌≢◌, ℕ, ◌+◌, ◌-◌, ◌*◌, ◌<◌, ◌≤◌, ◌⊎◌, IsTrue, List, [], length, slice_index, slice_index_or, All, AllPairs, Contains}
+use Rattle.moves.specs.declared.TheConstants.{MAX_PASSABLE}
 use Rattle.moves.specs.declared.Cell.{Cell}
 use Rattle.moves.specs.declared.Move.{Move}
 use Rattle.moves.specs.FirstSetLists.{cell_of}
@@ -38,7 +39,7 @@ pub record IsNumbered (cells : List Cell) : Type 0 where
   pub once : AllPairs (λ a b. a ≡ b → ⊥) cells
   pub columns : All (λ cell. cell.x < 4096) cells
   pub rows : All (λ cell. cell.y < 4096) cells
-  pub few : length cells ≤ 32768
+  pub few : length cells ≤ MAX_PASSABLE
 
 -- the neighbours of all these cells
 pub record AreNear (cells : List Cell) (near : List (List ℕ)) : Type 0 where

@@ -29,10 +29,11 @@ pub record LanesAt : Type 0 where
   pub sets : List (List ℕ)
   pub waits : List ℕ
 
+-- the lanes with these keys, sets and marks of who waits
 abbrev pub lanes_at : List (List ℕ) → List (List ℕ) → List ℕ → LanesAt
 lanes_at keys sets waits = record { keys = keys; sets = sets; waits = waits }
 
--- one of them
+-- the lane with this number
 abbrev pub lane_in : LanesAt → ℕ → LaneAt
 lane_in all lane = record {
   keys = lane_of all.keys lane;

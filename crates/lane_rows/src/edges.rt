@@ -1,6 +1,6 @@
 //! Where the moves from a cell lead, among the cells of a component.
 
-ghost use Rattle.std.specs.Prelude.{◌≡◌, ℕ, ◌<◌, ◌≤◌, All, Contains, IsFalse, IsTrue, length};
+ghost use Rattle.std.specs.Prelude.{◌≡◌, ◌<◌, Contains, IsFalse, IsTrue, length};
 ghost use Rattle.moves.specs.declared.Cell.{Cell};
 ghost use Rattle.moves.specs.declared.Move.{Move};
 ghost use Rattle.moves.specs.Moves.{corner, IsTarget};

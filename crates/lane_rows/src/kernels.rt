@@ -1,6 +1,6 @@
 //! The equations of one place, in each lane: the least key that its neighbours offer, and the moves that they bring.
 
-ghost use Rattle.std.specs.Prelude.{◌≡◌, ℕ, ◌+◌, ◌-◌, ◌%◌, ◌^◌, ◌<◌, ◌≤◌, ◌⊎◌, ◌↔◌, ◌==◌, if◌then◌else◌, min, All, IsTrue, IsFalse, length, slice_index, slice_index_or, bit_and, bit_or};
+ghost use Rattle.std.specs.Prelude.{◌≡◌, ℕ, ◌+◌, ◌-◌, ◌%◌, ◌^◌, ◌<◌, ◌≤◌, ◌⊎◌, ◌↔◌, ◌==◌, if◌then◌else◌, min, All, IsFalse, length, slice_index};
 ghost use Rattle.moves.specs.declared.Move.{Move};
 ghost use Rattle.moves.specs.MoveSets.{Has, IsEmpty};
 ghost use Rattle.lane_rows.specs.Visits.{IsFull};

@@ -1,10 +1,8 @@
 //! The neighbours of the cells of a component, by places: a cell's place is its index in the list of cells.
 
-ghost use Rattle.std.specs.Prelude.{◌≡◌, ℕ, ◌+◌, ◌<◌, ◌≤◌, All, IfOk, length};
-ghost use Rattle.moves.specs.declared.Cell.{Cell};
-ghost use Rattle.moves.specs.declared.Move.{Move};
-ghost use Rattle.moves.specs.Moves.{IsTarget};
-ghost use Rattle.lane_rows.specs.Tables.{end_of, AreNear, IsEdge, IsIndexed, IsMutual, IsNumbered};
+ghost use Rattle.std.specs.Prelude.{◌≡◌, ◌≤◌, IfOk, length};
+ghost use Rattle.moves.specs.declared.TheConstants.{MAX_PASSABLE};
+ghost use Rattle.lane_rows.specs.Tables.{AreNear, IsMutual, IsNumbered};
 
 use crate::edges::around;
 use crate::places::Places;
@@ -20,18 +18,23 @@ pub struct Near {
 
 impl Model for Near {
     ghost use Rattle.std.specs.Prelude.{ℕ, List, ◌≤◌, length};
+    ghost use Rattle.moves.specs.declared.TheConstants.{MAX_PASSABLE};
     ghost use Rattle.lane_rows.specs.Tables.{IsMutual};
 
     ghost Value = { List (List ℕ) };
 
     ghost view = { λ n. n.table.items };
 
-    ghost invariant = { λ n. IsMutual n.table.items × (length n.table.items ≤ 32768) };
+    ghost invariant = { λ n. IsMutual n.table.items × (length n.table.items ≤ MAX_PASSABLE) };
 }
 
 impl Near {
-    /// The neighbours of these cells, of which a move may be made between any two, made from the cells alone. The only
-    /// error is want of memory, of which it takes 16 bytes a cell, and two for each cell of the smallest box that has all.
+    /// The neighbours of these cells, of which a move may be made between any two, made from the cells alone. It takes
+    /// 16 bytes of memory a cell, and two for each cell of the smallest box that has all.
+    ///
+    /// # Errors
+    ///
+    /// `AllocError` where memory runs out.
     pub fn of(alloc: Global, cells: &[Cell]) -> Result<Near, AllocError>
         requires { IsNumbered cells.now }
         ensures near { IfOk result (λ near. AreNear cells.now near) }
@@ -48,7 +51,7 @@ impl Near {
     /// How many cells there are.
     pub fn len(&self) -> usize
         ensures len { result ≡ length self.now }
-        ensures few { length self.now ≤ 32768 }
+        ensures few { length self.now ≤ MAX_PASSABLE }
     {
         self.table.len()
     }
@@ -57,7 +60,7 @@ impl Near {
     pub fn table(&self) -> &[[u16; 8]]
         ensures table { result.now ≡ self.now }
         ensures near { IsMutual self.now }
-        ensures few { length self.now ≤ 32768 }
+        ensures few { length self.now ≤ MAX_PASSABLE }
     {
         self.table.as_slice()
     }

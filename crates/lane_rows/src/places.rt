@@ -1,11 +1,8 @@
 //! The places of cells, found by their columns and rows.
 
-ghost use Rattle.std.specs.Prelude.{◌≡◌, ℕ, ◌+◌, ◌-◌, ◌*◌, ◌<◌, ◌≤◌, All, Contains, IfOk, IfSome, IfNone, IsTrue, length, replicate};
-ghost use Rattle.moves.specs.declared.Cell.{Cell};
-ghost use Rattle.moves.specs.declared.Move.{Move};
-ghost use Rattle.moves.specs.Moves.{IsTarget};
+ghost use Rattle.std.specs.Prelude.{◌≡◌, ◌+◌, ◌-◌, ◌*◌, ◌<◌, ◌≤◌, All, Contains, IfOk, length};
 ghost use Rattle.moves.specs.FirstSetLists.{cell_of};
-ghost use Rattle.lane_rows.specs.Tables.{end_of, index_of, IsEdge, IsInBox, IsIndexed, IsNumbered};
+ghost use Rattle.lane_rows.specs.Tables.{index_of, IsInBox, IsIndexed, IsNumbered};
 ghost use Rattle.lane_rows.specs.Known.{KnowPlaces};
 
 use moves::Cell;

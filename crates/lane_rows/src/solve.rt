@@ -1,8 +1,8 @@
 //! The keys and sets of sixteen searches: guesses, and then visits until all meet their equations.
 
-ghost use Rattle.std.specs.Prelude.{◌≡◌, ℕ, ◌+◌, ◌<◌, ◌≤◌, IsTrue, length, slice_index};
+ghost use Rattle.std.specs.Prelude.{◌≡◌, ℕ, ◌+◌, ◌<◌, IsTrue, length, slice_index};
 ghost use Rattle.lane_rows.specs.Tables.{IsMutual};
-ghost use Rattle.lane_rows.specs.Equations.{far, lane_of, AreInRange};
+ghost use Rattle.lane_rows.specs.Equations.{lane_of, AreInRange};
 ghost use Rattle.lane_rows.specs.Visits.{AreSolved, HasRows, IsSwept, lanes_at};
 
 use crate::kernels::{FAR, FULL, has_beyond};

@@ -1,9 +1,9 @@
 //! Visits to places, in any order: what holds of the places that do not wait holds after each of them.
 
-ghost use Rattle.std.specs.Prelude.{◌≡◌, ℕ, ◌+◌, ◌<◌, ◌≤◌, ◌⊎◌, All, IsTrue, IsFalse, IfSome, length, slice_index};
+ghost use Rattle.std.specs.Prelude.{◌≡◌, ℕ, ◌+◌, ◌<◌, ◌⊎◌, All, IsTrue, IsFalse, IfSome, length, slice_index};
 ghost use Rattle.moves.specs.declared.Move.{Move};
 ghost use Rattle.lane_rows.specs.Tables.{edges_of, end_of, IsMutual};
-ghost use Rattle.lane_rows.specs.Equations.{far, lane_of, AreInRange};
+ghost use Rattle.lane_rows.specs.Equations.{lane_of, AreInRange};
 ghost use Rattle.lane_rows.specs.Visits.{HasRows, IsFull, IsSwept, IsVisit, lane_in, lanes_at};
 
 use crate::kernels::{has_full, key_at, keys_differ, set_at, sets_differ};

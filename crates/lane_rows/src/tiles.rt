@@ -3,10 +3,11 @@
 //! A tile takes the nearest wanted places of a component as its sources, finds keys and sets by guesses, and lets each
 //! place look at its neighbours until all meet their equations. What the equations say is then exact, whatever was guessed.
 
-ghost use Rattle.std.specs.Prelude.{◌≡◌, ◌≢◌, ℕ, ◌+◌, ◌<◌, ◌≤◌, false, true, All, IfOk, OnOk, IsTrue, List, length, slice_index, slice_index_or, slice_set, take};
+ghost use Rattle.std.specs.Prelude.{◌≡◌, ◌≢◌, ℕ, ◌<◌, ◌≤◌, false, true, IfOk, OnOk, IsTrue, length, slice_index, slice_index_or, slice_set, take};
+ghost use Rattle.moves.specs.declared.TheConstants.{MAX_PASSABLE};
 ghost use Rattle.lane_rows.specs.Rows.{HasFirstSets, HasMoves};
 ghost use Rattle.lane_rows.specs.Equations.{lane_of};
-ghost use Rattle.lane_rows.specs.Tiles.{AreTaken, IsRowOf, IsSolved, Tile};
+ghost use Rattle.lane_rows.specs.Tiles.{AreTaken, IsRowOf, IsSolved};
 ghost use Rattle.lane_rows.specs.Packed.{HavePackedRows, words_in};
 ghost use Rattle.lane_rows.specs.Completed.{AreCompleted};
 
@@ -52,8 +53,12 @@ impl Model for Tiles {
 
 impl Tiles {
     /// Takes all memory for tiles of that many cells.
+    ///
+    /// # Errors
+    ///
+    /// `AllocError` where memory runs out.
     pub fn new(alloc: Global, count: usize) -> Result<Tiles, AllocError>
-        requires { count ≤ 32768 }
+        requires { count ≤ MAX_PASSABLE }
         ensures { IfOk result (λ tiles. tiles.count ≡ count) }
     {
         Ok(Tiles {
