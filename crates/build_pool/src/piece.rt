@@ -6,7 +6,7 @@
 //! wherever and by whomever it is found. Where a tile isn't solved its rows stay blank, and in the end what is blank is
 //! built by a plain search. It is the same row: rows depend on the cells alone.
 
-ghost use Rattle.std.specs.Prelude.{◌≡◌, ℕ, ◌+◌, ◌*◌, ◌/◌, ◌<◌, ◌≤◌, length, slice_index, IfOk, IfSome, OnOk};
+ghost use Rattle.std.specs.Prelude.{◌≡◌, ℕ, ◌<◌, ◌≤◌, length, slice_index, IfOk, IfSome, OnOk};
 ghost use Rattle.build_pool.specs.Places.{AreWithNear};
 ghost use Rattle.build_pool.specs.Pieces.{cut, CanBuild};
 
