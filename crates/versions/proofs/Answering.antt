@@ -1,5 +1,5 @@
 -- Each query of a version has one answer.
-use Rattle.std.proofs.Common.{◌≡◌, ◌≢◌, ◌⊎◌, ℕ, ◌<◌, ◌≤◌, Bool, true, false, List, length, inl, inr, refl, sym, ap, subst, ◌∙◌, slice_index_or, arith}
+use Rattle.std.proofs.Common.{◌≡◌, ◌⊎◌, true, false, List, length, inl, inr, refl, sym, ap, subst, ◌∙◌, slice_index_or, arith}
 use Rattle.std.proofs.lemmas.Bool.{cases_lt, cases_eq, cases_Bool}
 use Rattle.moves.specs.declared.Cell.{Cell}
 use Rattle.moves.specs.declared.Move.{Move}

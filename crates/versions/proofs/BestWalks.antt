@@ -1,16 +1,15 @@
 -- The walks of a database are best paths of the whole map.
-use Rattle.std.proofs.Common.{◌≡◌, ◌≢◌, ℕ, zero, suc, ◌+◌, ◌<◌, List, [], ◌∷◌, length, get_or, refl, sym, ap, subst, ◌∙◌, inl, inr, arith}
+use Rattle.std.proofs.Common.{◌≡◌, ◌≢◌, ℕ, ◌<◌, List, [], ◌∷◌, length, refl, sym, ap, subst, ◌∙◌, inl, inr, arith}
 use Rattle.std.proofs.lemmas.Bool.{cases_lt}
 use Rattle.std.specs.List.{AllPairs, Contains}
 use Rattle.std.specs.List.Sorted.{IsPermutation}
 use Rattle.std.proofs.lemmas.List.{get_or_default}
-use Rattle.std.proofs.lemmas.List.Elements.{All-contains, All-get_or}
 use Rattle.std.proofs.lemmas.List.Sorted.{IsPermutation-sym, Contains-permutation}
 use Rattle.moves.specs.declared.Cell.{Cell}
 use Rattle.moves.specs.declared.Move.{Move}
 use Rattle.moves.specs.Maps.{Map, IsPassable, ComesBefore}
 use Rattle.moves.specs.Moves.{number_of, IsTarget}
-use Rattle.moves.specs.Paths.{Reaches, IsBest}
+use Rattle.moves.specs.Paths.{Reaches}
 use Rattle.moves.specs.Components.{IsComponent, first_of}
 use Rattle.moves.specs.ComponentLaws.{HasJust}
 use Rattle.moves.proofs.LawsOfPaths.{leads_from}
@@ -21,13 +20,12 @@ use Rattle.run_pack.specs.declared.Run.{Run}
 use Rattle.run_pack.specs.Runs.{IsRow, IsCoveringMove}
 use Rattle.run_pack.proofs.Found.{IsLastUpTo-from_covers, same_move}
 use Rattle.cell_order.specs.declared.OrderKind.{OrderKind}
-use Rattle.moves.specs.FirstSetLists.{cell_of}
 use Rattle.row_store.specs.Rows.{row_at, AreRows}
 use Rattle.row_store.specs.Comps.{Comp, IsPlaceOf}
 use Rattle.row_store.proofs.RowLaws.{HasJust-permuted}
-use Rattle.versions.specs.Spelled.{IsKept, Spells, IsWalkAmong}
+use Rattle.versions.specs.Spelled.{IsKept, Spells}
 use Rattle.versions.specs.Databases.{comp_at, component_at, IsDatabase}
-use Rattle.versions.specs.Answers.{IsSpelled, IsWalk, WalksAreBest}
+use Rattle.versions.specs.Answers.{IsWalk, WalksAreBest}
 use Rattle.versions.proofs.Walking.{walk}
 use Rattle.versions.proofs.Determined.{same_component, before_never}
 

@@ -1,14 +1,11 @@
 -- A map has one database in each order.
-use Rattle.std.proofs.Common.{◌≡◌, ℕ, ◌<◌, List, [], length, get_or, refl, sym, ap, subst, ◌∙◌, arith}
+use Rattle.std.proofs.Common.{◌≡◌, ◌<◌, List, length, sym, ap, subst, ◌∙◌, arith}
 use Rattle.std.proofs.lemmas.List.{same_lists, get_or_default}
 use Rattle.moves.specs.declared.Cell.{Cell}
-use Rattle.moves.specs.Maps.{Map}
-use Rattle.run_pack.specs.declared.Run.{Run}
 use Rattle.cell_order.specs.declared.OrderKind.{OrderKind}
-use Rattle.cell_order.specs.Orders.{ordered}
 use Rattle.row_store.specs.Rows.{AreRows}
 use Rattle.row_store.specs.Comps.{Comp}
-use Rattle.versions.specs.Databases.{IsKeptAs, component_at, comp_at, no_comp, IsDatabase, DatabasesAreDetermined}
+use Rattle.versions.specs.Databases.{IsKeptAs, component_at, comp_at, no_comp, DatabasesAreDetermined}
 use Rattle.versions.proofs.Determined.{same_components}
 use Rattle.row_store.proofs.RowLaws.{rows_are_unique}
 

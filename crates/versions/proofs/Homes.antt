@@ -1,5 +1,5 @@
 -- The component of two cells, and the walk that begins there.
-use Rattle.std.proofs.Common.{◌≡◌, ◌≢◌, ◌⊎◌, ℕ, ◌<◌, List, [], ◌∷◌, length, get_or, refl, sym, ap, subst, ◌∙◌, inl, inr, arith}
+use Rattle.std.proofs.Common.{◌≡◌, ◌≢◌, ℕ, ◌<◌, List, [], ◌∷◌, length, sym, ap, subst, ◌∙◌, arith}
 use Rattle.std.specs.List.{Contains}
 use Rattle.std.proofs.lemmas.List.{get_or_default}
 use Rattle.moves.specs.declared.Cell.{Cell}
@@ -7,7 +7,7 @@ use Rattle.moves.specs.declared.Move.{Move}
 use Rattle.moves.specs.declared.TheConstants.{MAX_PASSABLE}
 use Rattle.moves.specs.Maps.{Map, IsPassable}
 use Rattle.moves.specs.Paths.{Reaches}
-use Rattle.moves.specs.Components.{IsComponent, IsComponentList}
+use Rattle.moves.specs.Components.{IsComponentList}
 use Rattle.components.specs.Groups.{IsLabelOf}
 use Rattle.cell_order.specs.declared.OrderKind.{OrderKind}
 use Rattle.row_store.specs.Comps.{Comp}
@@ -16,7 +16,7 @@ use Rattle.versions.specs.Spelled.{IsKept, Spells}
 use Rattle.versions.specs.Databases.{component_at, comp_at, IsDatabase}
 use Rattle.versions.specs.Answers.{IsHome, IsWalk}
 use Rattle.versions.specs.Stored.{IsStored}
-use Rattle.versions.proofs.Determined.{same_components, same_component}
+use Rattle.versions.proofs.Determined.{same_components}
 use Rattle.versions.proofs.BestWalks.{component_of, kept_cells, cells_kept, one_label, best_walk, kept_once}
 
 -- each passable cell has a label

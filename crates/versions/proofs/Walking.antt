@@ -1,5 +1,5 @@
 -- What is spelled is a best path.
-use Rattle.std.proofs.Common.{◌≡◌, ◌≢◌, ◌⊎◌, ℕ, zero, suc, ◌+◌, ◌-◌, ◌<◌, ◌≤◌, List, [], ◌∷◌, ◌++◌, length, get_or, refl, sym, ap, subst, ◌∙◌, inl, inr, arith}
+use Rattle.std.proofs.Common.{◌≡◌, ◌≢◌, ℕ, zero, suc, ◌+◌, ◌<◌, ◌≤◌, List, [], ◌∷◌, length, get_or, refl, sym, ap, subst, ◌∙◌, inl, inr, arith}
 use Rattle.std.specs.List.{Contains, remove}
 use Rattle.std.proofs.lemmas.List.{get_or_default}
 use Rattle.std.proofs.lemmas.List.Edits.{length-remove}
@@ -8,9 +8,9 @@ use Rattle.root_cost.specs.Costs.{IsAtMost, plus_step}
 use Rattle.root_cost.proofs.Adding.{none_at_most}
 use Rattle.moves.specs.declared.Cell.{Cell}
 use Rattle.moves.specs.declared.Move.{Move}
-use Rattle.moves.specs.Maps.{Map, IsPassable}
-use Rattle.moves.specs.Moves.{number_of, is_diagonal, IsTarget, IsLegal}
-use Rattle.moves.specs.Paths.{Leads, cost_of, IsBest}
+use Rattle.moves.specs.Maps.{Map}
+use Rattle.moves.specs.Moves.{number_of, is_diagonal, IsLegal}
+use Rattle.moves.specs.Paths.{cost_of, IsBest}
 use Rattle.moves.specs.FirstSets.{IsFirstMove}
 use Rattle.moves.proofs.LawsOfPaths.{best_parts, same_cost_of_best, leads_from}
 use Rattle.moves.proofs.CostsOfPaths.{cost_of-cons, moves_of_cost}
@@ -18,10 +18,9 @@ use Rattle.moves.proofs.FirstMoves.{best_none}
 use Rattle.moves.proofs.MovesInSets.{move_with, Has-from_bit}
 use Rattle.moves.proofs.TableLaws.{same_or_apart}
 use Rattle.run_pack.specs.declared.Run.{Run}
-use Rattle.run_pack.specs.Runs.{move_at, end_at, start_at, IsRow, IsTight, IsCoveringMove}
+use Rattle.run_pack.specs.Runs.{end_at, IsRow, IsCoveringMove}
 use Rattle.run_pack.proofs.SetLemmas.{bit_from_Has}
 use Rattle.cell_order.proofs.Permutations.{contains_cases}
-use Rattle.moves.specs.ComponentLaws.{HasJust}
 use Rattle.moves.specs.FirstSetLists.{cell_of}
 use Rattle.row_store.specs.Rows.{row_at, AreRows, IsRowFrom}
 use Rattle.row_store.specs.Comps.{IsPlaceOf}

@@ -48,6 +48,10 @@ impl fmt::Display for QueryRefusal {
 }
 
 /// Whether both ends may be asked for; the start is judged wholly before the goal.
+///
+/// # Errors
+///
+/// The first cause to refuse the two cells.
 pub fn judge(grid: &Grid, start: Cell, goal: Cell) -> Result<(), QueryRefusal>
     ensures ends { OnOk result (AreEnds grid.now start goal) }
     ensures refused { IfErr result (IsRefusal grid.now start goal) }

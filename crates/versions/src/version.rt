@@ -1,7 +1,7 @@
 //! A version: a map after some edits, and the database of its paths.
 
-ghost use Rattle.std.specs.Prelude.{◌≡◌, ◌≢◌, Contains, ℕ, ◌+◌, ◌-◌, ◌*◌, ◌^◌, ◌<◌, ◌≤◌, map, length, sum_by};
-ghost use Rattle.std.specs.Prelude.{slice_index_or, IfOk, IfErr, OnErr, OnOk, IfSome, IfNone};
+ghost use Rattle.std.specs.Prelude.{◌≡◌, ◌≢◌, Contains, ◌-◌, ◌^◌, ◌<◌, ◌≤◌, map, length};
+ghost use Rattle.std.specs.Prelude.{IfOk, IfErr, OnErr, OnOk, IfSome, IfNone};
 ghost use Rattle.std.specs.Arc.{arc_value};
 ghost use Rattle.moves.specs.Maps.{IsPassable, IsSearchable, passable_count};
 ghost use Rattle.moves.specs.Paths.{Reaches};

@@ -1,4 +1,4 @@
-use Rattle.std.proofs.Common.{◌≡◌, ◌*◌, ◌≤◌, length, take, map}
+use Rattle.std.proofs.Common.{◌≡◌, ◌*◌, ◌≤◌, take, map}
 use Rattle.std.specs.Arc.{arc_value}
 use Rattle.versions.specs.Databases.{runs_of}
 use Rattle.versions.proofs.version.runs_of.Given as goal

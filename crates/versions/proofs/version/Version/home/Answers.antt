@@ -1,4 +1,4 @@
-use Rattle.std.proofs.Common.{◌≡◌, ◌≢◌, ℕ, true, subst, sym, ap, refl, ◌∙◌, Bool, arith, get_or, List, map, length, IfSome}
+use Rattle.std.proofs.Common.{◌≡◌, subst, sym, ap, refl, ◌∙◌, arith, map, length, IfSome}
 use Rattle.std.proofs.lemmas.List.{get_or-map, length-map}
 use Rattle.std.specs.Arc.{arc_value}
 use Rattle.moves.specs.Maps.{IsPassable}

@@ -1,4 +1,4 @@
-use Rattle.std.proofs.Common.{rules, ◌≡◌, ◌≢◌, ℕ, subst}
+use Rattle.std.proofs.Common.{rules, ◌≢◌, subst}
 use Rattle.versions.specs.Databases.{IsDatabase}
 use Rattle.versions.proofs.Homes.{goes_on}
 use Rattle.versions.proofs.version.Version.next.Goals as goal
