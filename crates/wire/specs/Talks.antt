@@ -67,12 +67,12 @@ ReadFails old new = Rose old.read_faults new.read_faults
 abbrev pub WriteFails : AtLink → AtLink → Type 0
 WriteFails old new = Rose old.write_faults new.write_faults
 
--- no send has failed between the two
+-- no send has failed between the two, and the count of recvs that failed has not fallen
 pub record OnlyReads (old new : AtLink) : Type 0 where
   pub later : old.read_faults ≤ new.read_faults
   pub other : new.write_faults ≡ old.write_faults
 
--- no recv has failed between the two
+-- no recv has failed between the two, and the count of sends that failed has not fallen
 pub record OnlyWrites (old new : AtLink) : Type 0 where
   pub later : old.write_faults ≤ new.write_faults
   pub other : new.read_faults ≡ old.read_faults

@@ -23,7 +23,8 @@ pub trait Door: Drop + Send {
     type Conn: Link;
 
     /// What is known of it: the talks over the connections that were handed back, where it tells
-    /// them, whether it answered `Closed`, and its faults.
+    /// them, and then how many it has lent; whether it answered `Closed`, its faults, and its port,
+    /// where it tells it.
     ghost at: { Self → AtDoor };
 
     /// Waits a short while for a connection. Of one that comes, nothing was taken, nothing was

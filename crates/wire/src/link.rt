@@ -45,8 +45,12 @@ pub trait Link: Send {
         ensures counts { OnlyWrites (at self.old) (at self.new) };
 }
 
-/// Sends a whole text, in as many pieces as the link takes it in. After a fault a first part of the
-/// text has been sent, which is less than the whole: the fault met a piece that was not empty.
+/// Sends a whole text, in as many pieces as the link takes it in.
+///
+/// # Errors
+///
+/// `Failed` where a send fails. A first part of the text has been sent then, which is less than the
+/// whole: the fault met a piece that was not empty.
 pub fn send_all<L: Link>(link: &mut L, text: &[u8]) -> Result<(), Failed>
     ensures sent { OnOk result ((L.at link.new).talk ≡ with_sent (L.at link.old).talk text.now) }
     ensures prefix { OnErr result

@@ -1,7 +1,6 @@
 //! A door in memory, with planned faults.
-ghost use Rattle.std.specs.Prelude.{◌≡◌, ◌<◌, ◌≤◌, ◌||◌, Some, IfOk, OnOk, OnErr};
-ghost use Rattle.wire.specs.Causes.{Rose};
-ghost use Rattle.wire.specs.Knocks.{IfConn, conns_given, says_closed};
+ghost use Rattle.std.specs.Prelude.{◌≡◌, ◌<◌, ◌≤◌, IfOk};
+ghost use Rattle.wire.specs.Knocks.{IfConn};
 ghost use Rattle.wire.specs.DoorInMemory.{Knocks, AreNewLinks, IsNewLink, door_told, with_done};
 
 use crate::faults::{count_fault, is_planned};
@@ -54,6 +53,10 @@ impl MemDoor {
     /// A door that gives these connections in order, and then is closed. `fails` has the numbers of
     /// the knocks that are to fail, and `quiet` of those that find nobody; the first knock is
     /// number 1.
+    ///
+    /// # Errors
+    ///
+    /// `AllocError` where memory runs out.
     pub fn new(
         alloc: Global,
         conns: Vec<MemLink>,

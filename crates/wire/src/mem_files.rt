@@ -1,5 +1,5 @@
 //! Files in memory, with planned faults.
-ghost use Rattle.std.specs.Prelude.{ℕ, List, ◌≡◌, ◌≢◌, ◌<◌, ◌≤◌, ◌↔◌, length, vec_len, IfOk, IsErrOf, IsTrue, AllPairs, All, Some, None, position, string_bytes, bytes_eq};
+ghost use Rattle.std.specs.Prelude.{◌≡◌, ◌<◌, ◌≤◌, ◌↔◌, length, vec_len, IfOk, IsErrOf, IsTrue, Some, position, string_bytes, bytes_eq};
 ghost use Rattle.wire.specs.Causes.{NoneFell, Rose};
 ghost use Rattle.wire.specs.Contents.{TellsMoreThan};
 ghost use Rattle.wire.specs.FilesInMemory.{named_bytes, place_of};
@@ -20,7 +20,7 @@ pub struct MemFiles {
 }
 
 impl Model for MemFiles {
-    ghost use Rattle.std.specs.Prelude.{ℕ, List, ◌≡◌, ◌+◌, vec_len};
+    ghost use Rattle.std.specs.Prelude.{◌≡◌, ◌+◌, vec_len};
     ghost use Rattle.wire.specs.FilesInMemory.{FilesInMemory, named_bytes};
 
     ghost Value = { FilesInMemory };
@@ -41,6 +41,10 @@ impl MemFiles {
 
     /// Files of these names and bytes. `fails` has the numbers of the reads that are to fail; the
     /// first read is number 1.
+    ///
+    /// # Errors
+    ///
+    /// `AllocError` where memory runs out.
     pub fn new(
         alloc: Global,
         files: Vec<(String, Vec<u8>)>,

@@ -1,6 +1,5 @@
 //! A house in memory, with planned faults.
-ghost use Rattle.std.specs.Prelude.{◌≡◌, ◌≤◌, ◌<◌, ◌+◌, ◌∷◌, ◌++◌, ◌↔◌, ◌==◌, not, length, map, vec_len, position, IfOk, OnOk, OnErr, IsErr, IsErrOf, IsTrue, Some, None};
-ghost use Rattle.wire.specs.Causes.{one_more, Rose};
+ghost use Rattle.std.specs.Prelude.{◌≡◌, ◌≤◌, ◌<◌, ◌+◌, ◌∷◌, ◌↔◌, ◌==◌, length, map, vec_len, position, IfOk, OnOk, OnErr, IsErr, IsErrOf, IsTrue, Some, None};
 ghost use Rattle.wire.specs.DoorInMemory.{IsNewLink};
 ghost use Rattle.wire.specs.Houses.{HasLentDoors, HasLentLink, IsNewPort, link_back, rose_once};
 ghost use Rattle.wire.specs.HouseInMemory.{AreGivenDoors, AreGone, AreNewDoors, IsNewDoor, IsNewLinkAt};
@@ -68,6 +67,10 @@ impl MemHouse {
 
     /// A house that gives these doors and this link, each at its port. `fails` has the numbers of the
     /// calls of `doors` and `call` that are to fail; the first of both is number 1.
+    ///
+    /// # Errors
+    ///
+    /// `AllocError` where memory runs out.
     pub fn new(
         alloc: Global,
         doors: Vec<(u16, MemDoor)>,

@@ -45,6 +45,10 @@ impl MemLink {
     /// most as many bytes as its size in `cuts`, the first recv the first size, and recvs past the
     /// end of `cuts` are not cut. `recv_fails` and `send_fails` have the numbers of the recvs and of
     /// the sends that are to fail; the first of each is number 1.
+    ///
+    /// # Errors
+    ///
+    /// `AllocError` where memory runs out.
     pub fn new(
         alloc: Global,
         input: Vec<u8>,

@@ -42,6 +42,10 @@ impl MemSink {
 
     /// A sink with room for `room` bytes. `fails` has the numbers of the puts that are to fail; the
     /// first put is number 1.
+    ///
+    /// # Errors
+    ///
+    /// `AllocError` where memory runs out.
     pub fn new(alloc: Global, room: usize, fails: Vec<u64>) -> Result<MemSink, AllocError>
         ensures { IfOk result (λ sink. sink ≡ new_sink room [] fails.items) }
     {
@@ -50,6 +54,10 @@ impl MemSink {
 
     /// The same, with sizes at which pieces are cut: each put takes at most as many bytes as its
     /// size, the first put the first size, and puts past the end of `cuts` are not cut.
+    ///
+    /// # Errors
+    ///
+    /// `AllocError` where memory runs out.
     pub fn cut(
         alloc: Global,
         room: usize,

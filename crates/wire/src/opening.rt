@@ -1,5 +1,5 @@
 //! A port that opens.
-ghost use Rattle.std.specs.Prelude.{◌≡◌, ◌≤◌, All, vec_len, IfOk};
+ghost use Rattle.std.specs.Prelude.{◌≡◌, All, vec_len, IfOk};
 
 use crate::front::{Front, Stopping};
 use crate::limits::{has_threads, lack_of_descriptors};

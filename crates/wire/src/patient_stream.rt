@@ -1,5 +1,5 @@
 //! A connection of a caller, who waits so long for an answer and no longer.
-ghost use Rattle.std.specs.Prelude.{◌≡◌, ◌<◌, ◌≤◌, length, IfOk, IfSome};
+ghost use Rattle.std.specs.Prelude.{◌<◌, ◌≤◌, length, IfOk};
 
 use crate::front::address;
 use crate::ticks::{TICK_TIME, keep_time, read_tick, ticking, write_tick};

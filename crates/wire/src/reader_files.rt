@@ -1,5 +1,5 @@
 //! Files over anything that opens readers of std by name.
-ghost use Rattle.std.specs.Prelude.{ℕ, List, ◌≡◌, ◌≤◌, take, vec_len, IfOk, IfErr, IfSome, OnOk, IsErrOf};
+ghost use Rattle.std.specs.Prelude.{◌≡◌, ◌≤◌, take, vec_len, IfOk, IfErr, IfSome, OnOk, IsErrOf};
 ghost use Rattle.wire.specs.Causes.{Rose};
 ghost use Rattle.wire.specs.Contents.{Tells, TellsAtMost, TellsMoreThan};
 ghost use Rattle.wire.specs.Devices.{FailsByError, IsHonest, new_files_over, with_read_over};

@@ -27,8 +27,12 @@ pub trait Sink {
         ensures later { faults self.old ≤ faults self.new };
 }
 
-/// Puts a whole text, in as many pieces as the sink takes it in. After a fault a first part of the
-/// text has been put, which is less than the whole: the fault met a piece that was not empty.
+/// Puts a whole text, in as many pieces as the sink takes it in.
+///
+/// # Errors
+///
+/// `Failed` where a put fails. A first part of the text has been put then, which is less than the
+/// whole: the fault met a piece that was not empty.
 pub fn put_all<K: Sink>(sink: &mut K, text: &[u8]) -> Result<(), Failed>
     ensures put { OnOk result (Appends (K.bytes sink.old) (K.bytes sink.new) text.now) }
     ensures prefix { OnErr result (PutsPrefix (K.bytes sink.old) (K.bytes sink.new) text.now) }

@@ -1,5 +1,5 @@
 //! A door at a port of this machine.
-ghost use Rattle.std.specs.Prelude.{◌≡◌, false, Ok};
+ghost use Rattle.std.specs.Prelude.{◌≡◌, false};
 ghost use Rattle.wire.specs.Knocks.{IfFound, is_closed, untold_door};
 
 use crate::faults::count_fault;

@@ -1,5 +1,5 @@
 //! Doors at ports of this machine, and calls at them.
-ghost use Rattle.std.specs.Prelude.{◌≡◌, ◌≤◌, [], All, None, vec_len, IfOk};
+ghost use Rattle.std.specs.Prelude.{◌≡◌, [], All, None, vec_len, IfOk};
 ghost use Rattle.wire.specs.Houses.{count_if, rose_once, untold_house};
 
 use crate::faults::count_fault;

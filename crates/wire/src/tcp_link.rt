@@ -1,5 +1,5 @@
 //! A connection of a server over TCP.
-ghost use Rattle.std.specs.Prelude.{◌≡◌, ◌≤◌, None, IfOk};
+ghost use Rattle.std.specs.Prelude.{◌≡◌, None, IfOk};
 
 use crate::faults::count_fault;
 use crate::front::Front;

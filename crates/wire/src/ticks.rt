@@ -1,5 +1,5 @@
 //! Reads and writes that wait for a second at most, and the time that many of them take together.
-ghost use Rattle.std.specs.Prelude.{◌≡◌, ◌<◌, ◌≤◌, length, IfOk, IfSome};
+ghost use Rattle.std.specs.Prelude.{◌<◌, ◌≤◌, length, IfOk, IfSome};
 
 use crate::Failed;
 use std::io;

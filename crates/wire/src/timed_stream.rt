@@ -1,5 +1,5 @@
 //! A connection of a server, whose client has so much time and no more.
-ghost use Rattle.std.specs.Prelude.{◌≡◌, ◌<◌, ◌≤◌, length, IfOk, IfSome, IsErr};
+ghost use Rattle.std.specs.Prelude.{◌<◌, ◌≤◌, length, IfOk, IfSome, IsErr};
 
 use crate::Failed;
 use crate::frame_watch::FrameWatch;
