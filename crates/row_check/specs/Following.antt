@@ -1,6 +1,7 @@
 -- Walks by places: each place has a cursor, which says where its kept move leads. Inside the crate.
 use Rattle.std.specs.Prelude.{◌≡◌, ◌≢◌, ℕ, zero, suc, ◌+◌, ◌-◌, ◌*◌, ◌%◌, ◌<◌, ◌≤◌, ◌⊎◌, List, length, slice_index, slice_index_or}
 use Rattle.root_cost.specs.declared.TheConstants.{STRAIGHT_KEY, DIAGONAL_KEY, NO_KEY}
+use Rattle.moves.specs.declared.TheConstants.{MAX_PASSABLE}
 use Rattle.run_pack.specs.declared.Run.{Run}
 use Rattle.run_pack.specs.Runs.{start_at, move_at, end_at, IsRow}
 use Rattle.row_store.specs.Rows.{row_at}
@@ -48,7 +49,7 @@ pub record IsKeyOf (cursors : List Cursor) (target from key : ℕ) : Type 0 wher
 
 -- cursors that can be followed: each leads to a place or nowhere, which is the number of places, by one step
 pub record CanFollow (cursors : List Cursor) (target : ℕ) : Type 0 where
-  pub few : length cursors ≤ 32768
+  pub few : length cursors ≤ MAX_PASSABLE
   pub inside : target < length cursors
   pub led : (place : ℕ) → place < length cursors → (cursor_of cursors place).next ≤ length cursors
   pub some : (place : ℕ) → place < length cursors → STRAIGHT_KEY ≤ (cursor_of cursors place).step
@@ -86,7 +87,7 @@ pub record IsFirstLost (cursors : List Cursor) (target from : ℕ) : Type 0 wher
 
 -- a row over all places for each place
 pub record AreRowsOver (rows : List (List Run)) (places : ℕ) : Type 0 where
-  pub few : places ≤ 32768
+  pub few : places ≤ MAX_PASSABLE
   pub whole : length rows ≡ places
   pub each : (source : ℕ) → source < places → IsRow (row_at rows source) places
 

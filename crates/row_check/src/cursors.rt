@@ -1,6 +1,7 @@
 //! Cursors: for each source the run of its row that covers the target, and where its move leads.
 
 ghost use Rattle.std.specs.Prelude.{◌≡◌, ◌≢◌, ◌+◌, ◌<◌, ◌≤◌, IfOk, length, map, All};
+ghost use Rattle.moves.specs.declared.TheConstants.{MAX_PASSABLE};
 ghost use Rattle.run_pack.specs.Runs.{run_of_word, IsRow};
 ghost use Rattle.row_check.specs.Following.{step_numbered, no_cursor, cursor_of, AreBehind, AreCursors, AreRowsOver, HasGoneOnAt, HaveGoneOn, IsBehind, IsCursor};
 ghost use Rattle.row_check.specs.Marking.{edges_of};
@@ -91,7 +92,7 @@ fn advance_one(
 /// The cursor at a run of a row over so many places.
 fn cursor_at(row: &[u32], run: usize, edges: &[u16; 8], places: usize) -> Cursor
     requires row { IsRow (map run_of_word row.now) places }
-    requires places { places ≤ 32768 }
+    requires places { places ≤ MAX_PASSABLE }
     requires run { run < length row.now }
     ensures cursor { IsCursor (map run_of_word row.now) edges.now places result }
     ensures run { result.run ≡ run }
