@@ -1,6 +1,6 @@
 //! Labels of a map that has the sides of a former version's.
 
-ghost use Rattle.std.specs.Prelude.{◌≡◌, ◌+◌, ◌<◌, ◌≤◌, IfOk, OnOk, IsTrue, IsFalse, ◌↔◌};
+ghost use Rattle.std.specs.Prelude.{◌≡◌, ◌+◌, IfOk, OnOk, IsTrue, IsFalse, ◌↔◌};
 ghost use Rattle.moves.specs.Maps.{IsInside, terrain_of};
 ghost use Rattle.moves.specs.Components.{IsComponentList};
 ghost use Rattle.components.specs.Edits.{HaveSameSides, AreChanged};

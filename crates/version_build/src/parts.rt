@@ -1,6 +1,6 @@
 //! The parts of a version that is built row by row: one for each component of its map.
 
-ghost use Rattle.std.specs.Prelude.{◌≡◌, ℕ, ◌+◌, ◌*◌, ◌<◌, ◌≤◌, ◌↔◌, [], ◌∷◌, ◌++◌, map, length, sum_by, slice_index_or, All, Some, None};
+ghost use Rattle.std.specs.Prelude.{◌≡◌, ℕ, ◌*◌, ◌<◌, ◌≤◌, ◌↔◌, [], map, length, sum_by, All, Some, None};
 ghost use Rattle.std.specs.Prelude.{IfOk, IfSome, IfNone, OnOk, OnErr, IsTrue};
 ghost use Rattle.std.specs.Arc.{arc_value};
 ghost use Rattle.std.specs.Option.{option_map};
@@ -8,8 +8,7 @@ ghost use Rattle.moves.specs.Maps.{IsSearchable};
 ghost use Rattle.row_store.specs.Comps.{IsComp};
 ghost use Rattle.build_pool.specs.Places.{AreComponent, CanBeBuilt};
 ghost use Rattle.build_pool.specs.Pieces.{AreSome, AreWordsOver};
-ghost use Rattle.versions.specs.Databases.{IsKeptAs};
-ghost use Rattle.version_build.specs.Plans.{ArePrepared, CanAllBeBuilt};
+ghost use Rattle.version_build.specs.Plans.{CanAllBeBuilt};
 ghost use Rattle.version_build.specs.Builders.{AreBegun, PushesRow, comp_of, part_at, part_from, rows_left};
 
 use crate::bases::{Base, Bases};

@@ -1,9 +1,9 @@
 //! Finds what a former version has of the components of a map.
 
-ghost use Rattle.std.specs.Prelude.{◌≡◌, ℕ, ◌+◌, ◌<◌, ◌≤◌, map, length, IfOk, IfSome, IfNone, IsTrue, ◌↔◌};
+ghost use Rattle.std.specs.Prelude.{◌≡◌, ◌+◌, ◌<◌, map, length, IfOk, IfSome, IfNone, IsTrue, ◌↔◌};
 ghost use Rattle.std.specs.Arc.{arc_value};
 ghost use Rattle.std.specs.Option.{option_map};
-ghost use Rattle.moves.specs.Maps.{IsSearchable, IsWithinLimits, passable_count};
+ghost use Rattle.moves.specs.Maps.{IsSearchable, passable_count};
 ghost use Rattle.moves.specs.Components.{IsComponentList};
 ghost use Rattle.versions.specs.Databases.{IsVersion};
 ghost use Rattle.versions.specs.Counts.{AreCounts};
