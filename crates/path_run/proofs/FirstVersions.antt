@@ -1,5 +1,5 @@
 -- A map has a first version in each order, whether or not it is built, and a path is what that answers.
-use Rattle.std.proofs.Common.{◌≡◌, ℕ, List, Result, Ok, Err, IfOk, IfErr, refl, sym}
+use Rattle.std.proofs.Common.{ℕ, List, Result, Ok, Err, IfOk, IfErr, refl}
 use Rattle.moves.specs.declared.Cell.{Cell}
 use Rattle.moves.specs.Maps.{Map, IsSearchable}
 use Rattle.cell_order.specs.declared.OrderKind.{OrderKind}

@@ -1,7 +1,7 @@
 -- Why a run ends as it does, where its files were read one after the other.
-use Rattle.std.proofs.Common.{◌≡◌, ◌≢◌, ◌≤◌, ◌<◌, ◌⊎◌, ℕ, length, Option, List, Result, IfSome, IfOk, IfErr, Ok, Err, None, inl, inr, refl, sym, subst, arith}
+use Rattle.std.proofs.Common.{◌≡◌, ◌≢◌, ◌≤◌, ◌<◌, ◌⊎◌, ℕ, length, Option, List, Result, IfSome, IfOk, IfErr, Ok, Err, None, inl, inr, refl, subst, arith}
 use Rattle.std.specs.Io.KnownBytes.{Appends}
-use Rattle.wire.specs.Causes.{NoneFell, Rose}
+use Rattle.wire.specs.Causes.{Rose}
 use Rattle.wire.specs.Contents.{AreRead, AtFiles, PutsPrefix}
 use Rattle.clap.specs.Walk.{Text}
 use Rattle.moves.specs.Maps.{Map}
@@ -11,7 +11,6 @@ use Rattle.path_replay.specs.declared.TheConstants.{MAX_EVENTS_BYTES}
 use Rattle.path_replay.specs.Events.{AreEventsOf, text_said}
 use Rattle.cell_order.specs.declared.OrderKind.{OrderKind}
 use Rattle.versions.specs.Databases.{Versioned}
-use Rattle.path_commands.specs.declared.request.Request.{Request}
 use Rattle.path_commands.specs.declared.request.RequestError.{RequestError}
 use Rattle.path_commands.specs.declared.request.RequestError.TheVariants as error
 use Rattle.path_commands.specs.declared.status.Status.{Status}
@@ -19,13 +18,12 @@ use Rattle.path_commands.specs.declared.status.Status.TheVariants as status
 use Rattle.path_commands.specs.declared.task.Task.{Task}
 use Rattle.path_commands.specs.declared.task.Task.TheVariants as task
 use Rattle.path_commands.specs.Statuses.{status_of, status_text}
-use Rattle.path_commands.specs.Commands.{kind_named}
-use Rattle.path_commands.specs.Requests.{Aim, Asked, Source, asked, kind_asked, by_formula, check, export, in_file, made, near, nearpath, path, replay, request_of, scen}
+use Rattle.path_commands.specs.Requests.{Aim, Asked, Source, asked, by_formula, check, export, in_file, made, near, nearpath, path, replay, request_of, scen}
 use Rattle.path_commands.specs.Runs.{Answers, AnswersOfMap, Asks, Fails, FailsOfMap, GivesMap, GivesNoMap, GivesNoTask, GivesTask, IsDbFileCause, IsEventsFileCause, IsFileCause, IsFirstAnswer, IsFirstCause, IsRight, IsScenFileCause, IsVersionCause, IsWordsCause, Run, RunFile, file_over}
 use Rattle.path_commands.specs.Serving.{Puts, PutsCause}
 use Rattle.path_run.specs.declared.Printed.{Printed}
 use Rattle.path_run.specs.Answering.{PutsAnswer, bytes_of}
-use Rattle.path_run.specs.RunEnds.{FailsOnly, Prints, RefusesWords, RunOutput}
+use Rattle.path_run.specs.RunEnds.{FailsOnly, Prints, RunOutput}
 
 -- ---- neither the end of the work nor a fault of the output is a cause
 
@@ -68,12 +66,6 @@ db_not_done file (Err cause) h = λ same. subst (IsDbFileCause file) same h
 pub db_no_fault : (file : RunFile) (answer : Result Printed Status) → IfErr answer (IsDbFileCause file) → IfErr answer (λ cause. cause ≢ status.WriteFault)
 db_no_fault file (Ok told) h = tt
 db_no_fault file (Err cause) h = λ same. subst (IsDbFileCause file) same h
-
--- ---- words that ask for something
-
--- what was asked for is of the kind that the words name
-pub own_kind : (words : List Text) (request given : Request) → kind_named words ≡ kind_asked (asked request) → request ≡ given → kind_named words ≡ kind_asked (asked given)
-own_kind words request given named same = subst (λ request. kind_named words ≡ kind_asked (asked request)) same named
 
 -- ---- words that ask for nothing
 

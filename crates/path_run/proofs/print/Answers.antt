@@ -1,7 +1,4 @@
-use Rattle.std.proofs.Common.{sym, subst}
-use Rattle.path_commands.specs.declared.status.Status.TheVariants as status
-use Rattle.path_run.specs.Answering.{PutsAnswer, bytes_of}
-use Rattle.path_run.proofs.RunLemmas.{puts_cause, puts_text}
+use Rattle.path_run.proofs.RunLemmas.{puts_cause}
 use Rattle.path_run.proofs.print.Goals as goal
 
 pub returns-in-Err-clause-put : goal.returns-in-Err-clause-put

@@ -1,11 +1,10 @@
-use Rattle.std.proofs.Common.{◌≡◌, ◌≢◌, ◌∙◌, Some, inl, inr, refl, subst}
+use Rattle.std.proofs.Common.{◌≡◌, ◌≢◌, ◌∙◌, Some, inl, refl, subst}
 use Rattle.path_commands.specs.declared.commands.Kind.TheVariants as kind
-use Rattle.path_commands.specs.Commands.{kind_named}
 use Rattle.path_commands.specs.Requests.{HasLimits, aim_of, asked, of_map, request_of, source_of, verify}
 use Rattle.path_commands.specs.Runs.{Asks, file_over, run_over}
 use Rattle.path_commands.specs.Words.{texts_of}
 use Rattle.path_run.specs.RunEnds.{output_over}
-use Rattle.path_run.proofs.RunLemmas.{db_no_fault, db_not_done, map_no_fault, map_not_done, own_kind, prints_answer, prints_refusal, words_cause}
+use Rattle.path_run.proofs.RunLemmas.{db_no_fault, db_not_done, map_no_fault, map_not_done, prints_answer, prints_refusal, words_cause}
 use Rattle.path_run.proofs.run.Goals as goal
 
 pub answer-requires-clause-sides : goal.answer-requires-clause-sides
