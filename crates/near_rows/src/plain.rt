@@ -59,7 +59,7 @@ fn put_blank(
     Ok(())
 }
 
-/// Builds the row at a place where it is blank. There is room for its widened sets.
+/// Builds the row at a place where it is blank. `wide` is room for its widened sets.
 fn put_plain(
     grid: &Grid,
     cells: &[Cell],
