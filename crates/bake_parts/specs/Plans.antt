@@ -66,6 +66,7 @@ pub record IsPartIn (version : Versioned) (sources : Sources) (words : List ℕ)
   pub has : HasSources version sources
   pub is : words ≡ part_of version sources
 
+-- each first version of the plan's map has these sources, and these are the words of their part
 abbrev pub IsPartOf : Planned → Sources → List ℕ → Type 0
 IsPartOf plan sources words = (version : Versioned) → IsFirstVersion plan.on plan.order version → IsPartIn version sources words
 
@@ -114,5 +115,6 @@ pub record IsReady (cells : List Cell) (bench : Bench) : Type 0 where
 abbrev pub HasRoom : Map → Plain → Type 0
 HasRoom on plain = on.width * on.height ≤ plain.search.room
 
+-- so it is where there is a plain search
 abbrev pub MayHaveRoom : Map → Option Plain → Type 0
 MayHaveRoom on plain = IfSome plain (HasRoom on)
