@@ -48,6 +48,7 @@ pub record Sight : Type 0 where
   pub seen : List Entry
   pub looks : ℕ
 
+-- what this pass sees
 abbrev pub sight_of : Pass → Sight
 sight_of pass = record { seen = seen_of pass; looks = looks_of pass }
 
