@@ -177,12 +177,13 @@ module _ {D C : Type 0} (house : RunHouse D C) (ear : RunEar) (served : List D �
   abbrev pub EndsAt : List ℕ → Option (List ℕ) → Option (List ℕ) → Status → Type 0
   EndsAt first before after ended = Begins first before after ended ⊎ FailsAtOnce first before after ended
 
--- how a run ends that serves a board at these doors, where the first line has been put, and where it has not
+-- how a run ends that serves a board at these doors, where the first line has been put
 abbrev pub ServesBegun : {D C : Type 0} → RunHouse D C → RunEar → Boarded → List D → Option (List ℕ) → Option (List ℕ)
     → Status → Type 0
 ServesBegun house ear board doors before after ended =
     EndsBegun house ear (IsServedSo house ear board doors) doors before after ended
 
+-- the same from before the first text is put
 abbrev pub ServesAt : {D C : Type 0} → RunHouse D C → RunEar → Boarded → List D → ℕ → Option (List ℕ) → Option (List ℕ)
     → Status → Type 0
 ServesAt house ear board doors port before after ended =
@@ -196,7 +197,7 @@ pub record AreOpened {D C : Type 0} (house : RunHouse D C) (asked : DoorsAsked) 
   pub port : All (λ door. TellsPort house.before.lent (house.door door) asked.port) doors
   pub unknocked : All (λ door. IsUnknocked (house.door door)) doors
 
--- the house, of which what comes before is that these doors were given
+-- the house of a run from where it has given these doors
 abbrev pub with_given : {D C : Type 0} → RunHouse D C → DoorsAsked → RunHouse D C
 with_given house asked =
     record house { before = with_doors_lent house.before asked.port asked.count }
