@@ -60,12 +60,13 @@ pub record CanBeLed {D C : Type 0} (at : D → AtDoor) (board : Boarded) (start 
   pub unknocked : IsUnknocked (at feed)
   pub lent : HasLentDoors house.lent (length doors + 1)
 
--- how a run ends that leads a board at these doors, where the first lines have been put, and where they have not
+-- how a run ends that leads a board at these doors, where the first lines have been put
 abbrev pub LeadsBegun : {D C : Type 0} → RunHouse D C → RunEar → Boarded → List D → D → Option (List ℕ)
     → Option (List ℕ) → Status → Type 0
 LeadsBegun house ear board doors feed before after ended =
     EndsBegun house ear (IsLedSo house ear board doors feed) (doors ++ feed ∷ []) before after ended
 
+-- the same from before the first text is put
 abbrev pub LeadsAt : {D C : Type 0} → RunHouse D C → RunEar → Boarded → List D → D → ℕ → ℕ → Option (List ℕ)
     → Option (List ℕ) → Status → Type 0
 LeadsAt house ear board doors feed port feed_port before after ended =
