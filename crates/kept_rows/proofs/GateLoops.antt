@@ -1,6 +1,6 @@
 -- What loops over the lanes of gates keep.
-use Rattle.std.proofs.Common.{◌≡◌, ◌≢◌, ℕ, ◌+◌, ◌<◌, ◌≤◌, ◌↔◌, Bool, List, [], ◌∷◌, ◌++◌, length, get_or, set, slice_index_or, All, Contains, bit_or, slice_index, inl, inr, sym, ap, subst, ◌∙◌, arith, get_or-set_same, get_or-set_other}
-use Rattle.std.proofs.lemmas.Bool.{cases_eq}
+use Rattle.std.proofs.Common.{◌≡◌, ◌≢◌, ℕ, ◌+◌, ◌-◌, ◌<◌, ◌≤◌, ◌↔◌, Bool, List, [], ◌∷◌, ◌++◌, length, get_or, set, slice_index_or, All, Contains, bit_or, slice_index, inl, inr, refl, sym, ap, subst, ◌∙◌, arith, get_or-set_same, get_or-set_other}
+use Rattle.std.proofs.lemmas.Bool.{cases_lt, cases_eq}
 use Rattle.std.proofs.lemmas.List.{get_or_default}
 use Rattle.std.proofs.Math.ListN.{length-set}
 use Rattle.std.proofs.lemmas.List.Elements.{Contains-append_left, Contains-push, All-push}
@@ -18,13 +18,20 @@ use Rattle.kept_rows.specs.declared.verdict.Verdict.TheVariants.{Lost, Kept}
 use Rattle.kept_rows.specs.Staying.{AllStay}
 use Rattle.kept_rows.specs.Verdicts.{Holds, AreJudged, AreSurveyed}
 use Rattle.kept_rows.specs.Pairs.{Searched, IsFirstByKeys, AreFirstByKeys}
-use Rattle.kept_rows.specs.Gates.{IsLeastSum, IsByLeast, IsClassKept, IsClassed, AreClasses, AreMore, IsLow, IsOfClass, LeadsBack, LeadOnlyBack, AgreesAtGates, AreGateKeys, KeepsJudged}
+use Rattle.kept_rows.specs.Gates.{IsRepeated, IsByLeast, IsClassKept, IsClassed, AreClasses, AreMore, IsLow, IsOfClass, LeadsBack, LeadOnlyBack, AgreesAtGates, AreGateKeys, KeepsJudged}
 
 -- what it costs to go by a lane
 abbrev pub sum_at : List ℕ → List ℕ → ℕ → ℕ
 sum_at there onward lane = slice_index there lane + slice_index onward lane
 
 -- ---- the least sum
+
+-- the sum is the least of all lanes
+pub record IsLeastSum (there onward : List ℕ) (sum : ℕ) : Type 0 where
+  pub least : (lane : ℕ) → lane < 15 → sum ≤ slice_index there lane + slice_index onward lane
+  pub lane : ℕ
+  pub early : lane < 15
+  pub attained : sum ≡ slice_index there lane + slice_index onward lane
 
 -- the sum is the least of the first lanes
 pub record IsLeastTo (there onward : List ℕ) (upto sum : ℕ) : Type 0 where
@@ -64,8 +71,20 @@ module _ (there onward : List ℕ) where
     attained = p.attained;
   }
 
-  pub least_all : (upto sum : ℕ) → IsLeastTo there onward upto sum → 15 ≤ upto → IsLeastSum there onward sum
-  least_all upto sum p all = record { least = λ lane l. p.least lane (omega arith); lane = p.lane; early = p.early; attained = p.attained }
+  -- behind so many lanes the sum is that of the last of these
+  sum_repeated : (count : ℕ) → IsRepeated count there → IsRepeated count onward → (lane : ℕ) → count ≤ lane → lane < 15 → sum_at there onward lane ≡ sum_at there onward (count - 1)
+  sum_repeated count there_is onward_is lane late l = omega (arith, there_is.same lane late l, onward_is.same lane late l)
+
+  pub least_all : (upto sum count : ℕ) → IsRepeated count there → IsRepeated count onward → IsLeastTo there onward upto sum → count ≤ upto → IsLeastSum there onward sum
+  least_all upto sum count there_is onward_is p all = record {
+    least = λ lane l. elim (cases_lt lane count) [
+      | inl early ↦ p.least lane (omega (arith, early, all))
+      | inr late ↦ omega (arith, sum_repeated count there_is onward_is lane late l, p.least (count - 1) (omega (arith, there_is.some, all)))
+    ];
+    lane = p.lane;
+    early = p.early;
+    attained = p.attained;
+  }
 
   -- ---- the moves by the lanes that have the sum
 
@@ -74,8 +93,22 @@ module _ (there onward : List ℕ) where
     pub each : (move : Move) → Has set move ↔ ((lane : ℕ) × (lane < upto) × (sum_at there onward lane ≡ sum) × Has (slice_index sets lane) move)
 
   module _ (sets : List ℕ) (sum : ℕ) where
-    pub joined_none : AreJoined sets sum 0 0
-    joined_none = record { each = λ move. (λ h. absurd (Has-none move h), λ h. absurd (let l = h.1 in omega arith)) }
+    pub joined_first : sum ≡ sum_at there onward 0 → AreJoined sets sum 1 (slice_index sets 0)
+    joined_first e = record {
+      each = λ move. (λ h. (0, omega arith, sym e, h), λ h. let first : h.0 ≡ 0 = (let l = h.1 in omega arith) in subst (λ k. Has (slice_index sets k) move) first h.3);
+    }
+
+    -- a lesser sum than all before
+    pub joined_anew : (upto former : ℕ) → IsLeastTo there onward upto former → sum < former → sum ≡ sum_at there onward upto → AreJoined sets sum (upto + 1) (slice_index sets upto)
+    joined_anew upto former p less e = record {
+      each = λ move. (
+        λ h. (upto, omega arith, sym e, h),
+        λ h. elim (cases_eq h.0 upto) [
+          | inl same ↦ subst (λ k. Has (slice_index sets k) move) same h.3
+          | inr other ↦ absurd (let l = h.1 in let is = h.2 in let most = p.least h.0 (omega arith) in omega arith)
+        ],
+      );
+    }
 
     pub joined_more : (upto set : ℕ) → AreJoined sets sum upto set → sum_at there onward upto ≡ sum → AreJoined sets sum (upto + 1) (bit_or set (slice_index sets upto))
     joined_more upto set p e = record {
@@ -103,17 +136,56 @@ module _ (there onward : List ℕ) where
       );
     }
 
-    pub joined_all : (upto set : ℕ) → AreJoined sets sum upto set → upto ≡ 15 → IsLeastSum there onward sum → (move : Move) → Has set move ↔ IsByLeast there onward sets move
-    joined_all upto set p all least move = (
+    pub joined_all : (upto set : ℕ) → IsRepeated upto there → IsRepeated upto onward → IsRepeated upto sets → AreJoined sets sum upto set → IsLeastSum there onward sum → (move : Move) → Has set move ↔ IsByLeast there onward sets move
+    joined_all upto set there_is onward_is sets_are p least move = (
       λ h.
           (let at = (p.each move).0 h in
-          (at.0, record { early = (let l = at.1 in omega arith); least = λ other l. (let e = at.2 in let m = least.least other l in omega arith) }, at.3)),
+          (at.0, record { early = (let l = at.1 in omega (arith, there_is.few)); least = λ other l. (let e = at.2 in let m = least.least other l in omega arith) }, at.3)),
       λ h.
           (let most = h.1.least least.lane least.early in
           let least_here = least.least h.0 h.1.early in
           let attained = least.attained in
-          (p.each move).1 (h.0, (let l = h.1.early in omega arith), omega arith, h.2)),
+          elim (cases_lt h.0 upto) [
+            | inl early ↦ (p.each move).1 (h.0, early, omega arith, h.2)
+            | inr late ↦ (p.each move).1 (
+              upto - 1,
+              omega (arith, there_is.some),
+              omega (arith, sum_repeated upto there_is onward_is h.0 late h.1.early),
+              subst (λ set. Has set move) (sets_are.same h.0 late h.1.early) h.2,
+            )
+          ]),
     )
+
+-- the least sum of the first lanes, and the moves by those that have it
+pub record IsBestTo (there onward sets : List ℕ) (upto least set : ℕ) : Type 0 where
+  pub is_least : IsLeastTo there onward upto least
+  pub joined : AreJoined there onward sets least upto set
+
+module _ (there onward sets : List ℕ) where
+  pub best_first : (sum : ℕ) → sum ≡ sum_at there onward 0 → IsBestTo there onward sets 1 sum (slice_index sets 0)
+  best_first sum e = record { is_least = least_first there onward sum e; joined = joined_first there onward sets sum e }
+
+  pub best_less : (upto least set sum : ℕ) → upto < 15 → IsBestTo there onward sets upto least set → sum ≡ sum_at there onward upto → sum < least → IsBestTo there onward sets (upto + 1) sum (slice_index sets upto)
+  best_less upto least set sum early p e less = record {
+    is_least = least_less there onward upto least sum early p.is_least e less;
+    joined = joined_anew there onward sets sum upto least p.is_least less e;
+  }
+
+  pub best_same : (upto least set : ℕ) → IsBestTo there onward sets upto least set → sum_at there onward upto ≡ least → IsBestTo there onward sets (upto + 1) least (bit_or set (slice_index sets upto))
+  best_same upto least set p same = record {
+    is_least = least_still there onward upto least _ p.is_least refl (omega (arith, same));
+    joined = joined_more there onward sets least upto set p.joined same;
+  }
+
+  pub best_still : (upto least set : ℕ) → IsBestTo there onward sets upto least set → least < sum_at there onward upto → IsBestTo there onward sets (upto + 1) least set
+  best_still upto least set p more = record {
+    is_least = least_still there onward upto least _ p.is_least refl (omega (arith, more));
+    joined = joined_still there onward sets least upto set p.joined (λ same. absurd (omega (arith, same, more)));
+  }
+
+  pub best_all : (upto least set : ℕ) → IsRepeated upto there → IsRepeated upto onward → IsRepeated upto sets → IsBestTo there onward sets upto least set → (move : Move) → Has set move ↔ IsByLeast there onward sets move
+  best_all upto least set there_is onward_is sets_are p =
+      joined_all there onward sets least upto set there_is onward_is sets_are p.joined (least_all there onward upto least upto there_is onward_is p.is_least (omega arith))
 
 -- ---- one set for both lists
 

@@ -2,6 +2,7 @@
 use Rattle.std.specs.Prelude.{◌≡◌, ℕ, ◌+◌, ◌≤◌, ◌<◌, nat_lt, if◌then◌else◌, List, [], ◌∷◌, length}
 use Rattle.moves.specs.declared.Cell.{Cell}
 use Rattle.moves.specs.FirstSetLists.{cell_of}
+use Rattle.kept_rows.specs.declared.gap.TheConstants.{MAX_GAPS}
 
 -- where a place of a list stands in that with one cell more: one later from the gap on
 abbrev pub past_one : ℕ → ℕ → ℕ
@@ -20,7 +21,7 @@ AreGaps least count (gap ∷ gaps) = (least ≤ gap) × (gap ≤ count) × AreGa
 -- one list has the cells of the other but for those at the gaps, in the same order
 pub record IsPart (whole part : List Cell) (gaps : List ℕ) : Type 0 where
   pub some : 0 < length gaps
-  pub few : length gaps ≤ 16
+  pub few : length gaps ≤ MAX_GAPS
   pub are_gaps : AreGaps 0 (length part) gaps
   pub size : length whole ≡ length part + length gaps
   pub same : (place : ℕ) → place < length part → cell_of part place ≡ cell_of whole (past gaps place)

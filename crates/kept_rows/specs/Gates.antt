@@ -1,5 +1,5 @@
 -- Gates over two lists of cells: the sources of the first fifteen lanes of two tiles. What is read of keys at them.
-use Rattle.std.specs.Prelude.{◌≡◌, ℕ, ◌+◌, ◌<◌, ◌≤◌, ◌⊎◌, ◌↔◌, Bool, false, true, List, length, slice_index, slice_index_or, All, Contains}
+use Rattle.std.specs.Prelude.{◌≡◌, ℕ, ◌+◌, ◌-◌, ◌<◌, ◌≤◌, ◌⊎◌, ◌↔◌, Bool, false, true, List, length, slice_index, slice_index_or, All, Contains}
 use Rattle.moves.specs.declared.Cell.{Cell}
 use Rattle.moves.specs.declared.Move.{Move}
 use Rattle.moves.specs.MoveSets.{Has}
@@ -54,13 +54,6 @@ pub record IsLeastLane (there onward : List ℕ) (lane : ℕ) : Type 0 where
   pub least : (other : ℕ) → other < 15
       → slice_index there lane + slice_index onward lane ≤ slice_index there other + slice_index onward other
 
--- the sum is the least that it costs to go by a lane
-pub record IsLeastSum (there onward : List ℕ) (sum : ℕ) : Type 0 where
-  pub least : (lane : ℕ) → lane < 15 → sum ≤ slice_index there lane + slice_index onward lane
-  pub lane : ℕ
-  pub early : lane < 15
-  pub attained : sum ≡ slice_index there lane + slice_index onward lane
-
 -- the move is in the set of a lane by which it costs the least to go
 abbrev pub IsByLeast : List ℕ → List ℕ → List ℕ → Move → Type 0
 IsByLeast there onward sets move = (lane : ℕ) × IsLeastLane there onward lane × Has (slice_index sets lane) move
@@ -69,6 +62,12 @@ IsByLeast there onward sets move = (lane : ℕ) × IsLeastLane there onward lane
 pub record IsEvenlyMore (more less : List ℕ) : Type 0 where
   pub amount : ℕ
   pub each : (lane : ℕ) → lane < 15 → slice_index more lane ≡ slice_index less lane + amount
+
+-- from the end of so many lanes on, all numbers are that of the last of these
+pub record IsRepeated (count : ℕ) (numbers : List ℕ) : Type 0 where
+  pub some : 0 < count
+  pub few : count ≤ 15
+  pub same : (lane : ℕ) → count ≤ lane → lane < 15 → slice_index numbers lane ≡ slice_index numbers (count - 1)
 
 -- ---- classes of places
 
@@ -85,6 +84,11 @@ pub record IsOfClass (whole part : Searched) (gaps : List ℕ) (place : ℕ) (cl
 abbrev pub IsSameClass : Class → Type 0
 IsSameClass class = (lane : ℕ) → lane < 15 → slice_index class.whole lane ≡ slice_index class.part lane
 
+-- the keys of the class are repeated over both lists
+pub record IsRepeatedClass (count : ℕ) (class : Class) : Type 0 where
+  pub whole : IsRepeated count class.whole
+  pub part : IsRepeated count class.part
+
 -- no number of the class is so great that a key of a gate and it are beyond the greatest
 pub record IsLow (class : Class) : Type 0 where
   pub whole : (lane : ℕ) → lane < 15 → slice_index class.whole lane ≤ MOST_TO_GATE
@@ -100,7 +104,7 @@ pub record AreClasses (whole part : Searched) (gaps : List ℕ) (side : List Boo
   pub each : (place : ℕ) → place < length part.cells → IsClassed whole part gaps side classes place
   pub low : All IsLow classes
 
--- the new list has the classes of the old one, and one more at most, none of them too great
+-- the new list has the classes of the old one, and none that is too great if the old one has none
 pub record AreMore (old new : List Class) : Type 0 where
   pub kept : (class : Class) → Contains old class → Contains new class
   pub low : All IsLow old → All IsLow new

@@ -4,5 +4,6 @@ pub mod Targets
 pub mod Pairs
 pub mod Staying
 pub mod Verdicts
+pub mod Surveys
 pub mod RowEdits
 pub mod Gates

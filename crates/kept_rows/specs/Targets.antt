@@ -5,6 +5,7 @@ use Rattle.moves.specs.declared.Move.{Move}
 use Rattle.moves.specs.FirstSetLists.{cell_of}
 use Rattle.kept_sources.specs.Balls.{IsBeside}
 use Rattle.lane_rows.specs.Tables.{edges_of, end_of}
+use Rattle.kept_rows.specs.declared.ball.TheConstants.{MAX_BALL}
 use Rattle.kept_rows.specs.Gaps.{past}
 
 -- the place is one of the first places
@@ -31,7 +32,7 @@ pub record IsGrown (former sources : List ℕ) (count : ℕ) (ball : List ℕ) :
 
 -- places of a list, few enough for a bit each
 pub record ArePlaces (cells : List Cell) (ball : List ℕ) : Type 0 where
-  pub few : length ball ≤ 64
+  pub few : length ball ≤ MAX_BALL
   pub inside : (index : ℕ) → index < length ball → slice_index ball index < length cells
 
 -- the ball has all cells of a list that are beside one cell

@@ -1,11 +1,10 @@
 //! The ball: cells round the gaps to which first sets and costs are compared.
 
-ghost use Rattle.std.specs.Prelude.{◌≡◌, ℕ, ◌+◌, ◌<◌, ◌≤◌, ◌⊎◌, IsTrue, IsFalse, OnOk, length, slice_index};
+ghost use Rattle.std.specs.Prelude.{◌<◌, ◌≤◌, IsTrue, IsFalse, OnOk, length};
 ghost use Rattle.moves.specs.declared.Move.{Move};
-ghost use Rattle.moves.specs.FirstSetLists.{cell_of};
 ghost use Rattle.kept_sources.specs.Balls.{IsBeside};
 ghost use Rattle.lane_rows.specs.Tables.{end_of};
-ghost use Rattle.kept_rows.specs.Targets.{AreMarked, ArePlaces, AreTargets, IsAmong, IsGrown, IsRound, IsRoundGaps, StaysIn};
+ghost use Rattle.kept_rows.specs.Targets.{AreMarked, ArePlaces, IsAmong, IsGrown, IsRound, IsRoundGaps, StaysIn};
 ghost use Rattle.kept_rows.specs.Pairs.{IsSearched};
 
 use crate::side::Side;

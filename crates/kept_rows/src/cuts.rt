@@ -1,12 +1,11 @@
 //! Gates that part some cells from those of the gaps.
 
 ghost use Rattle.std.specs.Prelude.{◌≡◌, ℕ, ◌<◌, IsTrue, length, slice_index};
-ghost use Rattle.kept_rows.specs.Pairs.{CanBePair, CanBeSearched};
+ghost use Rattle.kept_rows.specs.Pairs.{CanBePair};
 
-use crate::flow::{Band, Flow, edges_at};
+use crate::flow::{Band, Flow, Heading, edges_at};
 use crate::gap::place_before;
 use crate::pair::Pair;
-use crate::side::Side;
 use crate::targets::are_inside;
 use crate::verdict::{Verdict, count_open_in};
 use lane_rows::LANES;
@@ -16,14 +15,19 @@ use std::alloc::{AllocError, Global};
 /// told most of the maps that were met.
 const RADII: [u16; 6] = [8, 12, 16, 6, 24, 4];
 
+/// How often gates are sought: at each of the radii, and in all directions behind the first of them.
+const TURNS: usize = RADII.len() + 1;
+
 /// With how many undecided cells a side is worth a pair of tiles.
-const WORTH_A_PAIR: usize = 64;
+pub(crate) const WORTH_A_PAIR: usize = 160;
 
 /// Some gates, and the side that is left by them alone, by places of the shorter list. Nothing of it is believed.
 #[derive(Drop)]
 pub(crate) struct Cut {
     /// The gates of the lanes; that of the last lane is none.
     pub gates: [u16; LANES],
+    /// How many gates there are. The lanes behind them have the last one.
+    pub count: usize,
     /// Whether each place is of the side.
     pub side: Vec<bool>,
 }
@@ -39,19 +43,21 @@ impl Cut {
     }
 }
 
-/// Cuts round the gaps, one after the other. What lies beyond the gates of a radius falls into sides that no move joins,
-/// and each of them has its own gates: a side may see all as before where another does not.
+/// Cuts beside the gaps, one after the other: round them, or beyond them in a direction. What lies beyond the gates falls
+/// into sides that no move joins, and each of them has its own gates: a side may see all as before where another does not.
+/// Where rooms are joined by doors, costs to the gates all round change for most sources, and those to the gates in one
+/// direction for few.
 #[derive(Drop)]
 pub(crate) struct Cuts {
     alloc: Global,
     flow: Flow,
-    /// How many radii were tried, each twice.
+    /// How often gates were sought.
     turn: usize,
-    /// The gates of the last radius, by places of the longer list.
+    /// The last gates, by places of the longer list.
     gates: Vec<usize>,
-    /// The gates of the radius before.
+    /// The gates before them.
     former: Vec<usize>,
-    /// The sides of the last radius that were not given yet.
+    /// The sides of the last turn that were not given yet.
     cuts: Vec<Cut>,
 }
 
@@ -86,49 +92,69 @@ impl Cuts {
     ) -> Result<Option<Cut>, AllocError>
         requires can { CanBePair pair.now.whole pair.now.part pair.now.gaps.now }
     {
-        for turn in self.turn..2 * RADII.len() {
+        for turn in self.turn..TURNS {
             if let Some(cut) = self.next_side(verdicts) {
                 return Ok(Some(cut));
             }
             self.turn = turn.wrapping_add(1);
-            if self.turn_to(&pair.whole, turn)? {
-                self.note_sides(pair)?;
-            }
+            self.note_turn(pair, turn)?;
         }
         Ok(self.next_side(verdicts))
     }
 
-    /// The next side of the last radius with enough undecided cells.
+    /// The side of the last turn with the most undecided cells, where they are enough.
     fn next_side(&mut self, verdicts: &[Verdict]) -> Option<Cut> {
-        for _ in 0..self.cuts.len() {
-            let cut = self.cuts.pop()?;
-            if count_open_in(verdicts, &cut.side) >= WORTH_A_PAIR {
-                return Some(cut);
+        let mut best = 0usize;
+        let mut most = 0usize;
+        for (number, cut) in self.cuts.iter().enumerate() {
+            let open = count_open_in(verdicts, &cut.side);
+            if open > most {
+                best = number;
+                most = open;
             }
         }
-        None
+        if most < WORTH_A_PAIR || best >= self.cuts.len() {
+            self.cuts.clear();
+            return None;
+        }
+        Some(self.cuts.swap_remove(best))
     }
 
-    /// Finds the gates of a turn, and says whether they are others than before.
-    fn turn_to(&mut self, whole: &Side, turn: usize) -> Result<bool, AllocError>
-        requires can { CanBeSearched whole.now }
+    /// Notes the sides of a turn.
+    fn note_turn(&mut self, pair: &Pair, turn: usize) -> Result<(), AllocError>
+        requires can { CanBePair pair.now.whole pair.now.part pair.now.gaps.now }
     {
-        let near = if turn / 2 < RADII.len() {
-            RADII[turn / 2]
-        } else {
-            0
-        };
-        let band = Band {
-            near,
-            far: near.wrapping_mul(2).wrapping_add(4),
-            from_afar: turn % 2 == 1,
-        };
+        match turn {
+            0 => self.note_band(pair, Band::Ring(RADII[0])),
+            1 => self.note_directions(pair),
+            _ if turn <= RADII.len() => self.note_band(pair, Band::Ring(RADII[turn - 1])),
+            _ => Ok(()),
+        }
+    }
+
+    /// Notes the sides in all directions.
+    fn note_directions(&mut self, pair: &Pair) -> Result<(), AllocError>
+        requires can { CanBePair pair.now.whole pair.now.part pair.now.gaps.now }
+    {
+        self.note_band(pair, Band::Beyond(Heading::North))?;
+        self.note_band(pair, Band::Beyond(Heading::East))?;
+        self.note_band(pair, Band::Beyond(Heading::South))?;
+        self.note_band(pair, Band::Beyond(Heading::West))
+    }
+
+    /// Notes the sides beyond the gates of a band, where these are others than before.
+    fn note_band(&mut self, pair: &Pair, band: Band) -> Result<(), AllocError>
+        requires can { CanBePair pair.now.whole pair.now.part pair.now.gaps.now }
+    {
         self.former.clear();
         for gate in self.gates.iter() {
             self.former.push(*gate)?;
         }
         self.gates.clear();
-        Ok(self.flow.find_gates(whole, band, &mut self.gates)? && !self.is_as_before())
+        if self.flow.find_gates(&pair.whole, band, &mut self.gates)? && !self.is_as_before() {
+            self.note_sides(pair)?;
+        }
+        Ok(())
     }
 
     /// Whether the gates are those of the cut before.
@@ -169,17 +195,21 @@ impl Cuts {
             mark(&mut marks, place_before(pair.gaps, *place));
         }
         let mut gates = [0u16; LANES];
-        let mut lanes = 0usize;
+        let mut count = 0usize;
         for gate in self.gates.iter() {
             if leads_to(pair, *gate, &marks) {
                 let place = u16::try_from(place_before(pair.gaps, *gate)).unwrap_or(0);
-                for lane in lanes..LANES {
+                for lane in count..LANES {
                     gates[lane] = place;
                 }
-                lanes = lanes.saturating_add(1);
+                count = count.saturating_add(1);
             }
         }
-        Ok(Cut { gates, side: marks })
+        Ok(Cut {
+            gates,
+            count,
+            side: marks,
+        })
     }
 
     /// Marks the places of the longer list to which one comes from a place past none that is marked, and gives them.

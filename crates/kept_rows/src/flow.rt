@@ -5,6 +5,7 @@ ghost use Rattle.kept_rows.specs.Pairs.{CanBeSearched};
 
 use crate::side::Side;
 use crate::targets::SHARED_LANES;
+use moves::Cell;
 use std::alloc::{AllocError, Global};
 
 /// The distance of places to which no way leads.
@@ -13,13 +14,74 @@ const UNREACHED: u16 = u16::MAX;
 /// No place.
 const NOWHERE: usize = usize::MAX;
 
-/// Between which distances from the gaps, in moves, the cells are sought; and whether the search begins far from it, so
-/// that of several such sets of cells the farthest is found, and not the nearest.
+/// How many moves from the gaps all cells are near, whatever their direction.
+const CLOSE: u16 = 2;
+
+/// How many columns or rows beyond the first gap the cells in a direction are far.
+const DEPTH: u16 = 14;
+
+/// A direction over the map.
 #[derive(Clone, Copy, Debug)]
-pub(crate) struct Band {
-    pub near: u16,
-    pub far: u16,
-    pub from_afar: bool,
+pub(crate) enum Heading {
+    North,
+    East,
+    South,
+    West,
+}
+
+impl Heading {
+    /// What a cell is to a search for gates beyond another in this direction.
+    fn part(self, origin: Cell, cell: Cell) -> Part {
+        let (here, there) = match self {
+            Heading::North => (cell.y, origin.y),
+            Heading::East => (origin.x, cell.x),
+            Heading::South => (origin.y, cell.y),
+            Heading::West => (cell.x, origin.x),
+        };
+        if there < here {
+            Part::Start
+        } else if there - here > DEPTH {
+            Part::End
+        } else {
+            Part::Between
+        }
+    }
+}
+
+/// Which cells are near the gaps, and which are far: gates are sought among the others, and part the two.
+#[derive(Clone, Copy, Debug)]
+pub(crate) enum Band {
+    /// The near ones are so many moves away at most, and the far ones more than twice as many and four.
+    Ring(u16),
+    /// The far ones lie far beyond the gaps in a direction, and the near ones do not lie beyond them, or are close.
+    Beyond(Heading),
+}
+
+impl Band {
+    /// What a cell is that is so many moves from the gaps, of which the first is at the origin.
+    fn part(self, distance: u16, origin: Cell, cell: Cell) -> Part {
+        match self {
+            Band::Ring(near) => ring_part(distance, near),
+            Band::Beyond(heading) => {
+                if distance <= CLOSE {
+                    Part::Start
+                } else {
+                    heading.part(origin, cell)
+                }
+            }
+        }
+    }
+}
+
+/// What a cell is that is so many moves away, where so many are near.
+fn ring_part(distance: u16, near: u16) -> Part {
+    if distance <= near {
+        Part::Start
+    } else if distance > near.saturating_mul(2).saturating_add(4) {
+        Part::End
+    } else {
+        Part::Between
+    }
 }
 
 /// What a cell is to a search.
@@ -34,8 +96,12 @@ enum Part {
 /// enters it, and 2 · place + 1 where it leaves.
 #[derive(Drop)]
 pub(crate) struct Flow {
+    /// The cell of the first gap.
+    origin: Cell,
     /// How many moves each place is from the gaps.
     distance: Vec<u16>,
+    /// What each place is to a search.
+    parts: Vec<Part>,
     /// The place before each place on its path.
     before: Vec<usize>,
     /// For each state, one more than the state from which the search came.
@@ -55,7 +121,9 @@ impl Flow {
     {
         let count = whole.cells().len();
         let mut flow = Flow {
+            origin: first_cell(whole.cells(), gaps),
             distance: vec![in alloc; UNREACHED; count]?,
+            parts: vec![in alloc; Part::Between; count]?,
             before: vec![in alloc; NOWHERE; count]?,
             came: vec![in alloc; 0usize; 2 * count]?,
             queue: Vec::with_capacity(alloc, 2 * count)?,
@@ -104,22 +172,22 @@ impl Flow {
     }
 
     /// What a place is to a search.
-    fn part(&self, place: usize, band: Band) -> Part {
-        let distance = self.distance(place);
-        if distance <= band.near {
-            if band.from_afar {
-                Part::End
-            } else {
-                Part::Start
-            }
-        } else if distance > band.far {
-            if band.from_afar {
-                Part::Start
-            } else {
-                Part::End
-            }
+    fn part(&self, place: usize) -> Part {
+        if place < self.parts.len() {
+            self.parts[place]
         } else {
-            Part::Between
+            Part::Start
+        }
+    }
+
+    /// Begins anew between the near and the far of a band: no path is known.
+    fn begin(&mut self, whole: &Side, band: Band) {
+        for (place, cell) in whole.cells().iter().enumerate() {
+            put(&mut self.before, place, NOWHERE);
+            let part = band.part(self.distance(place), self.origin, *cell);
+            if place < self.parts.len() {
+                self.parts[place] = part;
+            }
         }
     }
 
@@ -137,14 +205,12 @@ impl Flow {
     ) -> Result<bool, AllocError>
         requires can { CanBeSearched whole.now }
     {
-        for place in 0..self.before.len() {
-            put(&mut self.before, place, NOWHERE);
-        }
+        self.begin(whole, band);
         for _ in 0..SHARED_LANES + 1 {
-            match self.search(whole, band)? {
+            match self.search(whole)? {
                 Some(end) => self.add_path(end),
                 None => {
-                    self.note_border(band, gates)?;
+                    self.note_border(gates)?;
                     return Ok(!gates.is_empty() && gates.len() <= SHARED_LANES);
                 }
             }
@@ -153,12 +219,12 @@ impl Flow {
     }
 
     /// Searches for one more path: the last state of it.
-    fn search(&mut self, whole: &Side, band: Band) -> Result<Option<usize>, AllocError>
+    fn search(&mut self, whole: &Side) -> Result<Option<usize>, AllocError>
         requires can { CanBeSearched whole.now }
     {
         self.clear();
         for place in 0..self.distance.len() {
-            if self.part(place, band) == Part::Start {
+            if self.part(place) == Part::Start {
                 let state = leaving(place);
                 self.visit(state, state)?;
             }
@@ -168,7 +234,7 @@ impl Flow {
                 return Ok(None);
             }
             let state = self.queue[head];
-            if self.go_on(whole, band, state)? {
+            if self.go_on(whole, state)? {
                 return Ok(Some(state));
             }
         }
@@ -186,7 +252,7 @@ impl Flow {
     }
 
     /// Goes on from a state, and says whether an end is beside it.
-    fn go_on(&mut self, whole: &Side, band: Band, state: usize) -> Result<bool, AllocError>
+    fn go_on(&mut self, whole: &Side, state: usize) -> Result<bool, AllocError>
         requires can { CanBeSearched whole.now }
     {
         let place = state / 2;
@@ -197,7 +263,7 @@ impl Flow {
             return Ok(false);
         }
         for to in edges_at(whole, place) {
-            if self.enter(band, usize::from(to), state)? {
+            if self.enter(usize::from(to), state)? {
                 return Ok(true);
             }
         }
@@ -208,11 +274,11 @@ impl Flow {
     }
 
     /// Enters a place from a state, and says whether it is an end.
-    fn enter(&mut self, band: Band, to: usize, from: usize) -> Result<bool, AllocError> {
+    fn enter(&mut self, to: usize, from: usize) -> Result<bool, AllocError> {
         if to >= self.distance.len() {
             return Ok(false);
         }
-        match self.part(to, band) {
+        match self.part(to) {
             Part::Start => Ok(false),
             Part::End => Ok(true),
             Part::Between => {
@@ -262,9 +328,9 @@ impl Flow {
     }
 
     /// Appends the places that the last search entered and could not leave.
-    fn note_border(&self, band: Band, gates: &mut Vec<usize>) -> Result<(), AllocError> {
+    fn note_border(&self, gates: &mut Vec<usize>) -> Result<(), AllocError> {
         for place in 0..self.distance.len() {
-            if self.part(place, band) == Part::Between
+            if self.part(place) == Part::Between
                 && self.is_met(entering(place))
                 && !self.is_met(leaving(place))
             {
@@ -278,6 +344,16 @@ impl Flow {
     fn is_met(&self, state: usize) -> bool {
         state < self.came.len() && self.came[state] != 0
     }
+}
+
+/// The cell of the first gap; that of the corner where there is none.
+fn first_cell(cells: &[Cell], gaps: &[usize]) -> Cell {
+    for gap in gaps.iter() {
+        if *gap < cells.len() {
+            return cells[*gap];
+        }
+    }
+    Cell { x: 0, y: 0 }
 }
 
 /// The state where a path enters a place.

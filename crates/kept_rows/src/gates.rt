@@ -5,12 +5,13 @@ ghost use Rattle.moves.specs.declared.Move.{Move};
 ghost use Rattle.moves.specs.MoveSets.{Has};
 ghost use Rattle.lane_rows.specs.Tables.{end_of};
 ghost use Rattle.kept_rows.specs.Targets.{IsAmong};
-ghost use Rattle.kept_rows.specs.Pairs.{CanBePair, IsPair};
+ghost use Rattle.kept_rows.specs.Pairs.{IsPair};
+ghost use Rattle.kept_rows.specs.Surveys.{CanSearch, HasSameLists};
 ghost use Rattle.kept_rows.specs.Staying.{AllStay};
-ghost use Rattle.kept_rows.specs.Gates.{AgreesAtGates, AreClasses, AreGates, IsByLeast, IsClassKept, IsLeastSum, IsLeftByLanes, IsLow, KeepsJudged, LeadOnlyBack, LeadsBack};
+ghost use Rattle.kept_rows.specs.Gates.{AgreesAtGates, AreClasses, AreGates, IsByLeast, IsClassKept, IsLeftByLanes, IsLow, IsRepeated, IsRepeatedClass, KeepsJudged, LeadOnlyBack, LeadsBack};
 
 use crate::ball::is_among;
-use crate::classes::{Class, MOST_TO_GATE, classes_of, gate_keys};
+use crate::classes::{Class, MOST_TO_GATE, are_repeated, classes_of, gate_keys, repeats_key};
 use crate::cuts::Cut;
 use crate::gap::{MAX_GAPS, place_before, place_past};
 use crate::pair::Pair;
@@ -40,12 +41,9 @@ pub(crate) fn ask_gates(
     cut: &Cut,
     verdicts: &mut Vec<Verdict>,
 ) -> Result<(), AllocError>
-    requires can { CanBePair pair.old.whole pair.old.part pair.old.gaps.now }
+    requires can { CanSearch pair.old }
     requires size { length verdicts.old.items ≡ length pair.old.part.cells }
-    ensures can { CanBePair pair.new.whole pair.new.part pair.new.gaps.now }
-    ensures gaps { pair.new.gaps.now ≡ pair.old.gaps.now }
-    ensures whole { pair.new.whole.cells ≡ pair.old.whole.cells }
-    ensures part { pair.new.part.cells ≡ pair.old.part.cells }
+    ensures still { HasSameLists pair.old pair.new }
     ensures judged { OnOk result (KeepsJudged pair.old.whole.cells pair.old.part.cells
         verdicts.old.items verdicts.new.items) }
 {
@@ -89,6 +87,9 @@ fn keep_by_gates(pair: &Pair, cut: &Cut, classes: &[Class], verdicts: &mut Vec<V
     ensures { KeepsJudged pair.now.whole.cells pair.now.part.cells
         verdicts.old.items verdicts.new.items }
 {
+    if !are_repeated(classes, cut.count) {
+        return;
+    }
     for place in 0..verdicts.len() {
         keep_if_stays(pair, cut, classes, place, verdicts);
     }
@@ -107,6 +108,7 @@ fn keep_if_stays(
     requires side { length cut.now.side.items ≡ length pair.now.part.cells }
     requires classes { AreClasses pair.now.whole pair.now.part pair.now.gaps.now cut.now.side.items
         classes.now }
+    requires repeated { All (IsRepeatedClass cut.now.count) classes.now }
     requires size { length verdicts.old.items ≡ length pair.now.part.cells }
     requires place { place < length pair.now.part.cells }
     ensures size { length verdicts.new.items ≡ length verdicts.old.items }
@@ -132,6 +134,7 @@ fn stays_by_gates(pair: &Pair, cut: &Cut, classes: &[Class], place: usize) -> bo
     requires side { length cut.now.side.items ≡ length pair.now.part.cells }
     requires classes { AreClasses pair.now.whole pair.now.part pair.now.gaps.now cut.now.side.items
         classes.now }
+    requires repeated { All (IsRepeatedClass cut.now.count) classes.now }
     requires place { place < length pair.now.part.cells }
     ensures { IsTrue result
         → AllStay pair.now.whole.cells pair.now.part.cells place }
@@ -140,7 +143,7 @@ fn stays_by_gates(pair: &Pair, cut: &Cut, classes: &[Class], place: usize) -> bo
         return false;
     }
     match ways_to_gates(pair, place) {
-        Some(ways) => are_kept(&ways, classes),
+        Some(ways) => are_kept(&ways, classes, cut.count),
         None => false,
     }
 }
@@ -192,13 +195,32 @@ fn are_equal_sets(a: [u8; LANES], b: [u8; LANES]) -> bool
 }
 
 /// Whether the first sets to the places of each class stay.
-fn are_kept(ways: &Ways, classes: &[Class]) -> bool
+fn are_kept(ways: &Ways, classes: &[Class], count: usize) -> bool
     requires keys { (lane : ℕ) → lane < 15 → slice_index ways.now.keys lane ≤ MOST_TO_GATE }
     requires low { All IsLow classes.now }
+    requires repeated { All (IsRepeatedClass count) classes.now }
     ensures { IsTrue result → All (IsClassKept ways.now.keys ways.now.sets) classes.now }
 {
+    if !repeats_key(ways.keys, count) || !repeats_set(ways.sets, count) {
+        return false;
+    }
     for class in classes.iter() {
-        if !is_kept(ways, class) {
+        if !is_kept(ways, class, count) {
+            return false;
+        }
+    }
+    true
+}
+
+/// Whether the sets behind so many lanes are that of the last of these.
+fn repeats_set(sets: [u8; LANES], count: usize) -> bool
+    ensures { IsTrue result → IsRepeated count sets }
+{
+    if count == 0 || count > SHARED_LANES {
+        return false;
+    }
+    for lane in count..SHARED_LANES {
+        if sets[lane] != sets[count - 1] {
             return false;
         }
     }
@@ -206,46 +228,42 @@ fn are_kept(ways: &Ways, classes: &[Class]) -> bool
 }
 
 /// Whether the first sets to the places of a class stay.
-fn is_kept(ways: &Ways, class: &Class) -> bool
+#[inline(always)]
+fn is_kept(ways: &Ways, class: &Class, count: usize) -> bool
     requires keys { (lane : ℕ) → lane < 15 → slice_index ways.now.keys lane ≤ MOST_TO_GATE }
     requires low { IsLow class.now }
+    requires keys_repeated { IsRepeated count ways.now.keys }
+    requires sets_repeated { IsRepeated count ways.now.sets }
+    requires repeated { IsRepeatedClass count class.now }
     ensures { IsTrue result → IsClassKept ways.now.keys ways.now.sets class.now }
 {
-    by_least(ways, class.whole) == by_least(ways, class.part)
+    by_least(ways, class.whole, count) == by_least(ways, class.part, count)
 }
 
 /// The first moves to a place, where the ways to it from the gates have these keys: those to the gates by which it
 /// costs the least to go.
-fn by_least(ways: &Ways, onward: [u32; LANES]) -> u8
+#[inline(always)]
+fn by_least(ways: &Ways, onward: [u32; LANES], count: usize) -> u8
     requires there { (lane : ℕ) → lane < 15 → slice_index ways.now.keys lane ≤ MOST_TO_GATE }
     requires onward { (lane : ℕ) → lane < 15 → slice_index onward lane ≤ MOST_TO_GATE }
+    requires keys_repeated { IsRepeated count ways.now.keys }
+    requires sets_repeated { IsRepeated count ways.now.sets }
+    requires onward_repeated { IsRepeated count onward }
     ensures { (move : Move) → Has result move
         ↔ IsByLeast ways.now.keys onward ways.now.sets move }
 {
-    let least = least_sum(&ways.keys, &onward);
-    let mut set = 0;
-    for lane in 0..SHARED_LANES {
-        if ways.keys[lane] + onward[lane] == least {
+    let mut least = ways.keys[0] + onward[0];
+    let mut set = ways.sets[0];
+    for lane in 1..count {
+        let sum = ways.keys[lane] + onward[lane];
+        if sum < least {
+            least = sum;
+            set = ways.sets[lane];
+        } else if sum == least {
             set |= ways.sets[lane];
         }
     }
     set
-}
-
-/// The least that it costs to go by a gate.
-fn least_sum(there: &[u32; LANES], onward: &[u32; LANES]) -> u32
-    requires there { (lane : ℕ) → lane < 15 → slice_index there.now lane ≤ MOST_TO_GATE }
-    requires onward { (lane : ℕ) → lane < 15 → slice_index onward.now lane ≤ MOST_TO_GATE }
-    ensures { IsLeastSum there.now onward.now result }
-{
-    let mut least = there[0] + onward[0];
-    for lane in 1..SHARED_LANES {
-        let sum = there[lane] + onward[lane];
-        if sum < least {
-            least = sum;
-        }
-    }
-    least
 }
 
 /// Whether over the longer list the side is left by the gates alone.

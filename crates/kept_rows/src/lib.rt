@@ -10,12 +10,11 @@
 //! (Botea 2011; Strasser, Harabor and Botea 2014)
 #![tactic(auto)]
 
-ghost use Rattle.std.specs.Prelude.{◌≡◌, ◌<◌, ◌≤◌, IfOk, IfSome, IsTrue, length};
-ghost use Rattle.lane_rows.specs.Tables.{AreNear, IsMutual, IsNumbered};
+ghost use Rattle.std.specs.Prelude.{IfOk, IfSome};
+ghost use Rattle.lane_rows.specs.Tables.{AreNear, IsMutual};
 ghost use Rattle.build_pool.specs.Places.{AreWithNear};
 ghost use Rattle.build_pool.specs.Pieces.{AreSome};
 ghost use Rattle.kept_rows.specs.Gaps.{IsPart};
-ghost use Rattle.kept_rows.specs.Pairs.{CanBePair};
 
 mod ball;
 mod classes;
@@ -41,8 +40,8 @@ use moves::Cell;
 use row_store::{CompData, RowPool};
 use std::alloc::{AllocError, Global};
 
-/// The rows of a component that follow from those of a former one, whose cells are these and a few more, or these
-/// without a few, in the same order: those of the sources whose first sets stay, where few sets decide them. All others
+/// The rows of a component that follow from those of a former one, whose cells are these and one to sixteen more, or
+/// these without one to sixteen, in the same order: those of the sources whose first sets stay, where few sets decide them. All others
 /// are blank. `None` where the two lists of cells differ otherwise, or their tiles are not solved.
 ///
 /// # Errors

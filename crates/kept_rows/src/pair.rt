@@ -10,6 +10,7 @@ use crate::gap::{MAX_GAPS, place_past};
 use crate::side::Side;
 use crate::targets::SHARED_LANES;
 use lane_rows::LANES;
+use moves::MAX_PASSABLE;
 use std::alloc::{AllocError, Global};
 
 /// A tile over either list, from the same cells. In the last lane the longer list has the cell of the first gap.
@@ -43,7 +44,7 @@ impl<'a> Pair<'a> {
 
 /// The sources over the longer list: the same cells, and in the last lane that of the first gap.
 pub(crate) fn moved(sources: [u16; LANES], gaps: &[usize]) -> [u16; LANES]
-    requires inside { (lane : ℕ) → lane < 16 → slice_index sources lane < 32768 }
+    requires inside { (lane : ℕ) → lane < 16 → slice_index sources lane < MAX_PASSABLE }
     requires some { 0 < length gaps.now }
     requires few { length gaps.now ≤ MAX_GAPS }
     requires first { slice_index gaps.now 0 < 65536 }

@@ -1,7 +1,6 @@
 //! New rows from former ones, and from the few sets that were found.
 
-ghost use Rattle.std.specs.Prelude.{◌≡◌, ℕ, ◌+◌, ◌<◌, ◌≤◌, [], ◌++◌, true, All, IfOk, IfSome, OnOk, IsTrue, length, map, slice_index, slice_index_or};
-ghost use Rattle.run_pack.specs.Runs.{run_of_word};
+ghost use Rattle.std.specs.Prelude.{◌≡◌, ℕ, ◌+◌, ◌<◌, ◌≤◌, [], ◌++◌, true, All, IfOk, IfSome, OnOk, IsTrue, length, slice_index, slice_index_or};
 ghost use Rattle.row_edit.specs.Edits.{TakesEdits};
 ghost use Rattle.moves.specs.Maps.{Map};
 ghost use Rattle.moves.specs.ComponentLaws.{HasJust};

@@ -1,11 +1,10 @@
 //! A list of cells with a tile that is solved over it.
 
 ghost use Rattle.std.specs.Prelude.{◌≡◌, ℕ, ◌<◌, IsTrue, IfOk, length, take, slice_index};
-ghost use Rattle.moves.specs.FirstSetLists.{cell_of};
 ghost use Rattle.lane_rows.specs.Tables.{edges_of, AreNear, IsMutual, IsNumbered};
 ghost use Rattle.lane_rows.specs.Equations.{lane_of};
 ghost use Rattle.lane_rows.specs.Tiles.{IsSolved};
-ghost use Rattle.kept_rows.specs.Pairs.{AreFirstByKeys, CanBeSearched, IsSearched, Searched};
+ghost use Rattle.kept_rows.specs.Pairs.{AreFirstByKeys, CanBeSearched, IsSearched};
 
 use crate::kernel::{bytes_in, first_sets};
 use lane_rows::{LANES, Near, Tiles};

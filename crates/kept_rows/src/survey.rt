@@ -1,31 +1,31 @@
 //! What pairs of tiles tell of all cells, one pair after the other.
 
-ghost use Rattle.std.specs.Prelude.{◌≡◌, ℕ, ◌+◌, ◌<◌, ◌≤◌, IfOk, IfSome, OnOk, length};
+ghost use Rattle.std.specs.Prelude.{◌≡◌, ◌+◌, ◌<◌, ◌≤◌, IfOk, IfSome, OnOk, length};
 ghost use Rattle.kept_rows.specs.Targets.{AreTargets};
-ghost use Rattle.kept_rows.specs.Pairs.{CanBePair, IsPair};
-ghost use Rattle.kept_rows.specs.Verdicts.{AreSurveyed};
+ghost use Rattle.kept_rows.specs.Pairs.{IsPair};
+ghost use Rattle.kept_rows.specs.Surveys.{CanSearch, HasSameLists, IsSurveyOf};
 
 use crate::ball::{MAX_BALL, grow, is_round, marks_of};
-use crate::cuts::Cuts;
+use crate::cuts::{Cuts, WORTH_A_PAIR};
 use crate::gates::ask_gates;
 use crate::pair::{Pair, sets_of};
 use crate::targets::{Targets, first_targets, next_targets, round_targets};
-use crate::verdict::{Stage, Verdict, count_open, fails_of, judge_all};
+use crate::verdict::{Stage, Verdict, count_open, fails_of, has_kept, judge_all};
 use lane_rows::LANES;
 use std::alloc::{AllocError, Global};
 
-/// How many pairs of tiles are solved at most.
+/// How many pairs of tiles are solved for the ball at most.
 const MAX_PAIRS: usize = 4;
 
 /// How many pairs of tiles are solved from gates at most.
 const MAX_CUTS: usize = 4;
 
-/// How many cells there are for each pair that is solved: all pairs together take a fifth of the time that all rows
-/// take at most.
+/// How many cells there are for each pair behind the first, so that all pairs together take a fifth of the time that all
+/// rows take at most. Until the ball is round the gaps it is half as many.
 const CELLS_A_PAIR: usize = 400;
 
-/// With how many undecided cells another pair does not pay: so many rows are soon built.
-const MOST_UNDECIDED: usize = 160;
+/// What share of the undecided cells, at least, a pair has to decide so that another one from the ball may pay.
+const LEAST_SHARE: usize = 8;
 
 /// What was found of all cells of the shorter list.
 #[derive(Drop)]
@@ -44,39 +44,33 @@ pub(crate) struct Survey {
     pub sets: Vec<[u8; LANES]>,
 }
 
-/// What pairs of tiles tell; `None` where the first one is not solved.
+/// What pairs of tiles tell; `None` where the first one is not solved, or no cell is known to keep its first sets.
 ///
 /// # Errors
 ///
 /// `AllocError` where memory runs out.
 pub(crate) fn take_survey(alloc: Global, pair: &mut Pair) -> Result<Option<Survey>, AllocError>
-    requires can { CanBePair pair.old.whole pair.old.part pair.old.gaps.now }
-    ensures can { CanBePair pair.new.whole pair.new.part pair.new.gaps.now }
-    ensures gaps { pair.new.gaps.now ≡ pair.old.gaps.now }
-    ensures whole { pair.new.whole.cells ≡ pair.old.whole.cells }
-    ensures part { pair.new.part.cells ≡ pair.old.part.cells }
-    ensures surveyed { IfOk result (λ found. IfSome found (λ survey. AreSurveyed
-        pair.new.whole.cells pair.new.part.cells pair.new.gaps.now survey.sources survey.sets.items
-        survey.ball.items survey.verdicts.items)) }
+    requires can { CanSearch pair.old }
+    ensures still { HasSameLists pair.old pair.new }
+    ensures surveyed { IfOk result (λ found. IfSome found (IsSurveyOf pair.new)) }
 {
     let Some(mut survey) = begin(alloc, pair)? else {
         return Ok(None);
     };
     go_on(pair, &mut survey)?;
     ask_cuts(alloc, pair, &mut survey)?;
-    Ok(Some(survey))
+    if has_kept(&survey.verdicts) {
+        Ok(Some(survey))
+    } else {
+        Ok(None)
+    }
 }
 
 /// What the first pair tells.
 fn begin(alloc: Global, pair: &mut Pair) -> Result<Option<Survey>, AllocError>
-    requires can { CanBePair pair.old.whole pair.old.part pair.old.gaps.now }
-    ensures can { CanBePair pair.new.whole pair.new.part pair.new.gaps.now }
-    ensures gaps { pair.new.gaps.now ≡ pair.old.gaps.now }
-    ensures whole { pair.new.whole.cells ≡ pair.old.whole.cells }
-    ensures part { pair.new.part.cells ≡ pair.old.part.cells }
-    ensures surveyed { IfOk result (λ found. IfSome found (λ survey. AreSurveyed
-        pair.new.whole.cells pair.new.part.cells pair.new.gaps.now survey.sources survey.sets.items
-        survey.ball.items survey.verdicts.items)) }
+    requires can { CanSearch pair.old }
+    ensures still { HasSameLists pair.old pair.new }
+    ensures surveyed { IfOk result (λ found. IfSome found (IsSurveyOf pair.new)) }
 {
     let Some(targets) = first_targets(pair) else {
         return Ok(None);
@@ -90,11 +84,10 @@ fn begin(alloc: Global, pair: &mut Pair) -> Result<Option<Survey>, AllocError>
 /// What the first pair tells, once it is solved.
 fn first_survey(alloc: Global, pair: &Pair, targets: Targets) -> Result<Survey, AllocError>
     requires searched { IsPair pair.now.whole pair.now.part pair.now.gaps.now }
-    requires can { CanBePair pair.now.whole pair.now.part pair.now.gaps.now }
+    requires can { CanSearch pair.now }
     requires targets { AreTargets pair.now.part.cells targets.sources targets.count }
     requires sources { pair.now.part.tile.sources ≡ targets.sources }
-    ensures { IfOk result (λ survey. AreSurveyed pair.now.whole.cells pair.now.part.cells
-        pair.now.gaps.now survey.sources survey.sets.items survey.ball.items survey.verdicts.items) }
+    ensures { IfOk result (IsSurveyOf pair.now) }
 {
     let mut ball = Vec::with_capacity(alloc, MAX_BALL)?;
     grow(&mut ball, targets)?;
@@ -126,51 +119,44 @@ fn first_survey(alloc: Global, pair: &Pair, targets: Targets) -> Result<Survey, 
 ///
 /// `AllocError` where memory runs out.
 fn go_on(pair: &mut Pair, survey: &mut Survey) -> Result<(), AllocError>
-    requires can { CanBePair pair.old.whole pair.old.part pair.old.gaps.now }
-    requires surveyed { AreSurveyed pair.old.whole.cells pair.old.part.cells pair.old.gaps.now
-        survey.old.sources survey.old.sets.items survey.old.ball.items survey.old.verdicts.items }
-    ensures can { CanBePair pair.new.whole pair.new.part pair.new.gaps.now }
-    ensures gaps { pair.new.gaps.now ≡ pair.old.gaps.now }
-    ensures whole { pair.new.whole.cells ≡ pair.old.whole.cells }
-    ensures part { pair.new.part.cells ≡ pair.old.part.cells }
-    ensures surveyed { OnOk result (AreSurveyed pair.new.whole.cells pair.new.part.cells
-        pair.new.gaps.now survey.new.sources survey.new.sets.items survey.new.ball.items
-        survey.new.verdicts.items) }
+    requires can { CanSearch pair.old }
+    requires surveyed { IsSurveyOf pair.old survey.old }
+    ensures still { HasSameLists pair.old pair.new }
+    ensures surveyed { OnOk result (IsSurveyOf pair.new survey.new) }
 {
+    let mut former = usize::MAX;
     for turn in 1..MAX_PAIRS {
-        if !pays(survey, turn) || !solve_next(pair, survey)? {
+        let open = count_open(&survey.verdicts);
+        if !pays(survey, turn, open, former) || !solve_next(pair, survey)? {
             return Ok(());
         }
+        former = open;
     }
     Ok(())
 }
 
-/// Whether another pair may pay after so many. Until the ball is round the gaps nothing is known to stay, and twice as
-/// many are solved.
-fn pays(survey: &Survey, turn: usize) -> bool
+/// Whether another pair may pay after so many, where so many cells are undecided, and so many were before the last pair:
+/// where that decided few, gates tell more. Until the ball is round the gaps nothing is known to stay, and twice as many
+/// are solved.
+fn pays(survey: &Survey, turn: usize, open: usize, former: usize) -> bool
     requires { turn < MAX_PAIRS }
 {
-    let few = if survey.is_round {
-        CELLS_A_PAIR
+    let count = survey.verdicts.len();
+    if survey.is_round {
+        (turn + 1) * CELLS_A_PAIR <= count
+            && open > WORTH_A_PAIR
+            && open <= former - former / LEAST_SHARE
     } else {
-        CELLS_A_PAIR / 2
-    };
-    let is_open = !survey.is_round || count_open(&survey.verdicts) > MOST_UNDECIDED;
-    (turn + 1) * few <= survey.verdicts.len() && is_open
+        (turn + 1) * (CELLS_A_PAIR / 2) <= count
+    }
 }
 
 /// Solves one pair more, and says whether it did.
 fn solve_next(pair: &mut Pair, survey: &mut Survey) -> Result<bool, AllocError>
-    requires can { CanBePair pair.old.whole pair.old.part pair.old.gaps.now }
-    requires surveyed { AreSurveyed pair.old.whole.cells pair.old.part.cells pair.old.gaps.now
-        survey.old.sources survey.old.sets.items survey.old.ball.items survey.old.verdicts.items }
-    ensures can { CanBePair pair.new.whole pair.new.part pair.new.gaps.now }
-    ensures gaps { pair.new.gaps.now ≡ pair.old.gaps.now }
-    ensures whole { pair.new.whole.cells ≡ pair.old.whole.cells }
-    ensures part { pair.new.part.cells ≡ pair.old.part.cells }
-    ensures surveyed { OnOk result (AreSurveyed pair.new.whole.cells pair.new.part.cells
-        pair.new.gaps.now survey.new.sources survey.new.sets.items survey.new.ball.items
-        survey.new.verdicts.items) }
+    requires can { CanSearch pair.old }
+    requires surveyed { IsSurveyOf pair.old survey.old }
+    ensures still { HasSameLists pair.old pair.new }
+    ensures surveyed { OnOk result (IsSurveyOf pair.new survey.new) }
 {
     let Some(targets) = targets_after(pair, survey) else {
         return Ok(false);
@@ -184,7 +170,7 @@ fn solve_next(pair: &mut Pair, survey: &mut Survey) -> Result<bool, AllocError>
 
 /// The targets of the next pair, if there are some.
 fn targets_after(pair: &Pair, survey: &Survey) -> Option<Targets>
-    requires can { CanBePair pair.now.whole pair.now.part pair.now.gaps.now }
+    requires can { CanSearch pair.now }
     ensures { IfSome result (λ targets. AreTargets pair.now.part.cells targets.sources targets.count) }
 {
     if survey.is_round {
@@ -200,11 +186,9 @@ fn judge_next(pair: &Pair, targets: Targets, survey: &mut Survey) -> Result<(), 
     requires searched { IsPair pair.now.whole pair.now.part pair.now.gaps.now }
     requires targets { AreTargets pair.now.part.cells targets.sources targets.count }
     requires sources { pair.now.part.tile.sources ≡ targets.sources }
-    requires few { length survey.old.ball.items + targets.count ≤ 64 }
-    requires surveyed { AreSurveyed pair.now.whole.cells pair.now.part.cells pair.now.gaps.now
-        survey.old.sources survey.old.sets.items survey.old.ball.items survey.old.verdicts.items }
-    ensures { OnOk result (AreSurveyed pair.now.whole.cells pair.now.part.cells pair.now.gaps.now
-        survey.new.sources survey.new.sets.items survey.new.ball.items survey.new.verdicts.items) }
+    requires few { length survey.old.ball.items + targets.count ≤ MAX_BALL }
+    requires surveyed { IsSurveyOf pair.now survey.old }
+    ensures { OnOk result (IsSurveyOf pair.now survey.new) }
 {
     let former = survey.ball.len();
     grow(&mut survey.ball, targets)?;
@@ -228,26 +212,21 @@ fn judge_next(pair: &Pair, targets: Targets, survey: &mut Survey) -> Result<(), 
 ///
 /// `AllocError` where memory runs out.
 fn ask_cuts(alloc: Global, pair: &mut Pair, survey: &mut Survey) -> Result<(), AllocError>
-    requires can { CanBePair pair.old.whole pair.old.part pair.old.gaps.now }
-    requires surveyed { AreSurveyed pair.old.whole.cells pair.old.part.cells pair.old.gaps.now
-        survey.old.sources survey.old.sets.items survey.old.ball.items survey.old.verdicts.items }
-    ensures can { CanBePair pair.new.whole pair.new.part pair.new.gaps.now }
-    ensures gaps { pair.new.gaps.now ≡ pair.old.gaps.now }
-    ensures whole { pair.new.whole.cells ≡ pair.old.whole.cells }
-    ensures part { pair.new.part.cells ≡ pair.old.part.cells }
-    ensures surveyed { OnOk result (AreSurveyed pair.new.whole.cells pair.new.part.cells
-        pair.new.gaps.now survey.new.sources survey.new.sets.items survey.new.ball.items
-        survey.new.verdicts.items) }
+    requires can { CanSearch pair.old }
+    requires surveyed { IsSurveyOf pair.old survey.old }
+    ensures still { HasSameLists pair.old pair.new }
+    ensures surveyed { OnOk result (IsSurveyOf pair.new survey.new) }
 {
     let most = MAX_CUTS.min((survey.verdicts.len() / CELLS_A_PAIR).saturating_sub(MAX_PAIRS));
-    if most == 0 || count_open(&survey.verdicts) <= MOST_UNDECIDED {
+    if most == 0 || count_open(&survey.verdicts) <= WORTH_A_PAIR {
         return Ok(());
     }
     let mut cuts = Cuts::new(alloc, pair)?;
     for _ in 0..most {
-        if count_open(&survey.verdicts) <= MOST_UNDECIDED
-            || !ask_next(alloc, pair, &mut cuts, survey)?
-        {
+        if count_open(&survey.verdicts) <= WORTH_A_PAIR {
+            return Ok(());
+        }
+        if !ask_next(alloc, pair, &mut cuts, survey)? {
             return Ok(());
         }
     }
@@ -261,16 +240,10 @@ fn ask_next(
     cuts: &mut Cuts,
     survey: &mut Survey,
 ) -> Result<bool, AllocError>
-    requires can { CanBePair pair.old.whole pair.old.part pair.old.gaps.now }
-    requires surveyed { AreSurveyed pair.old.whole.cells pair.old.part.cells pair.old.gaps.now
-        survey.old.sources survey.old.sets.items survey.old.ball.items survey.old.verdicts.items }
-    ensures can { CanBePair pair.new.whole pair.new.part pair.new.gaps.now }
-    ensures gaps { pair.new.gaps.now ≡ pair.old.gaps.now }
-    ensures whole { pair.new.whole.cells ≡ pair.old.whole.cells }
-    ensures part { pair.new.part.cells ≡ pair.old.part.cells }
-    ensures surveyed { OnOk result (AreSurveyed pair.new.whole.cells pair.new.part.cells
-        pair.new.gaps.now survey.new.sources survey.new.sets.items survey.new.ball.items
-        survey.new.verdicts.items) }
+    requires can { CanSearch pair.old }
+    requires surveyed { IsSurveyOf pair.old survey.old }
+    ensures still { HasSameLists pair.old pair.new }
+    ensures surveyed { OnOk result (IsSurveyOf pair.new survey.new) }
 {
     match cuts.next(pair, &survey.verdicts)? {
         Some(cut) => {

@@ -1,7 +1,7 @@
 //! The cells to which first sets are compared: those round the gaps first, and then those beside which most cells fail.
 //! Nothing is believed of a choice but what is checked of it.
 
-ghost use Rattle.std.specs.Prelude.{◌≡◌, ℕ, ◌<◌, ◌≤◌, IsTrue, IfSome, length, slice_index};
+ghost use Rattle.std.specs.Prelude.{ℕ, ◌<◌, ◌≤◌, IsTrue, IfSome, length, slice_index};
 ghost use Rattle.kept_rows.specs.Targets.{AreTargets};
 ghost use Rattle.kept_rows.specs.Pairs.{CanBePair, CanBeSearched};
 
@@ -189,7 +189,7 @@ fn fill(part: &Side, ball: &[u16], targets: &mut Targets)
 
 /// Where the greatest number stands, the first of equal ones.
 fn greatest(numbers: [u32; MAX_BALL]) -> usize
-    ensures { result < 64 }
+    ensures { result < MAX_BALL }
 {
     let mut best = 0usize;
     for index in 0..MAX_BALL {

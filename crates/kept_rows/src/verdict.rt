@@ -1,9 +1,6 @@
 //! What is known of each cell of the shorter list, and how a pair of tiles tells more of it.
 
 ghost use Rattle.std.specs.Prelude.{◌≡◌, ℕ, ◌-◌, ◌+◌, ◌<◌, ◌≤◌, ◌⊎◌, IsBitSet, IsTrue, IsFalse, IfSome, length, slice_index, slice_index_or};
-ghost use Rattle.lane_rows.specs.Equations.{lane_of};
-ghost use Rattle.kept_rows.specs.Gaps.{past};
-ghost use Rattle.kept_rows.specs.Pairs.{IsPair};
 ghost use Rattle.kept_rows.specs.Verdicts.{AreJudged, Holds, IsOpen, IsStage};
 ghost use Rattle.kept_rows.specs.declared.verdict.Verdict.TheVariants.{Kept, Lost};
 
@@ -60,6 +57,16 @@ pub(crate) fn is_kept(verdict: Verdict) -> bool
     ensures { IsTrue result → verdict ≡ Kept }
 {
     matches!(verdict, Verdict::Kept)
+}
+
+/// Whether the first sets of some cell stay.
+pub(crate) fn has_kept(verdicts: &[Verdict]) -> bool {
+    for verdict in verdicts.iter() {
+        if is_kept(*verdict) {
+            return true;
+        }
+    }
+    false
 }
 
 /// Tells more of a cell.
@@ -136,7 +143,7 @@ fn differ(a: [u8; LANES], b: [u8; LANES], count: usize) -> bool
 /// The bits, and those of the first lanes in which two keys are equal, from one bit on.
 fn with_equal(bits: u64, from: usize, a: [u32; LANES], b: [u32; LANES], count: usize) -> u64
     requires lanes { count ≤ 16 }
-    requires few { from + count ≤ 64 }
+    requires few { from + count ≤ MAX_BALL }
     ensures { (index : ℕ) → IsBitSet result index → IsBitSet bits index ⊎ ((from ≤ index)
         × (index < from + count) × (slice_index a (index - from) ≡ slice_index b (index - from))) }
 {
@@ -150,7 +157,7 @@ fn with_equal(bits: u64, from: usize, a: [u32; LANES], b: [u32; LANES], count: u
 /// The bits, and one more where it is to be set.
 #[tactic(auto, using(crate::proofs::Bits::bit_there, crate::proofs::Bits::bit_still, crate::proofs::Bits::bit_from))]
 pub(crate) fn with_bit(bits: u64, index: usize, set: bool) -> u64
-    requires { index < 64 }
+    requires { index < MAX_BALL }
     ensures only { (other : ℕ) → IsBitSet result other
         → IsBitSet bits other ⊎ ((other ≡ index) × IsTrue set) }
     ensures still { (other : ℕ) → IsBitSet bits other → IsBitSet result other }
