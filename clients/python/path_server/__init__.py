@@ -12,10 +12,11 @@
 Each reply is a value of a class of its own (`frames`), and each fault an exception (`faults`).
 """
 
-from .client import TIMEOUT, Client, Pending
+from .client import START_TIMEOUT, TIMEOUT, Client, Pending
 from .faults import (
     BadReply,
     ConnectionLost,
+    NeedsHello,
     NotConnected,
     PathServerError,
     ProgramEnded,
@@ -85,6 +86,7 @@ __all__ = [
     "Link",
     "Malformed",
     "Move",
+    "NeedsHello",
     "NotConnected",
     "NothingNew",
     "OutOfMemory",
@@ -104,6 +106,7 @@ __all__ = [
     "RequestRefused",
     "Server",
     "ServerOutOfMemory",
+    "START_TIMEOUT",
     "SessionOver",
     "Status",
     "Stop",

@@ -9,6 +9,7 @@ from typing import Deque, Generic, Iterable, Iterator, Optional, Tuple, Type, Ty
 
 from .faults import (
     BadReply,
+    NeedsHello,
     PathServerError,
     ProgramEnded,
     RequestRefused,
@@ -17,6 +18,7 @@ from .faults import (
     TimedOut,
 )
 from .frames import (
+    MAX_CHANGES,
     Accepted,
     AskStatus,
     Build,
@@ -47,6 +49,7 @@ from .frames import (
     Welcome,
     decoded,
     encoded,
+    needs_hello,
 )
 from .links import ChildLink, Link, TcpLink
 from .programs import find_program
@@ -55,6 +58,8 @@ Answer = TypeVar("Answer")
 
 TIMEOUT = 10.0
 """Seconds that a reply may take where nothing else is said."""
+START_TIMEOUT = 60.0
+"""Seconds that a child process may take until its first reply, before which it builds the map's database."""
 _SHORTEST_PAUSE, _LONGEST_PAUSE = 0.001, 0.05  # seconds between two looks at the version
 _ANSWERS = {
     Query: (Path, Unreachable, Refused),
@@ -109,12 +114,16 @@ class Pending(Generic[Answer]):
 class Client:
     """One session. It is for one thread at a time, and ends with `close` or with a `with` block.
 
-    Time-outs are seconds, and `math.inf` waits for ever. Where a call has none, it is that of the client.
+    Time-outs are seconds, and `math.inf` waits for ever. Where a call has none, it is that of the client, or up to the
+    first reply the `start_timeout` where that is longer.
     """
 
-    def __init__(self, link: Link, timeout: float = TIMEOUT) -> None:
+    def __init__(self, link: Link, timeout: float = TIMEOUT, start_timeout: float = 0.0) -> None:
         self._link = link
         self._timeout = timeout
+        self._start_timeout = max(timeout, start_timeout)
+        self._is_begun = False
+        self._hello: Optional[Pending[Reply]] = None
         self._waiting: Deque[Pending[Reply]] = collections.deque()
         self._is_closed = False
         self._fault: Optional[PathServerError] = None
@@ -128,27 +137,42 @@ class Client:
         return cls(TcpLink(port, host, timeout), timeout)
 
     @classmethod
-    def talk(cls, map_file: str, *options: str, program: Optional[str] = None, timeout: float = TIMEOUT) -> Client:
-        """A session with a program of one's own, `path_server talk MAP_FILE OPTIONS`, as a child process.
+    def talk(
+        cls,
+        map_file: str,
+        *options: str,
+        program: Optional[str] = None,
+        timeout: float = TIMEOUT,
+        start_timeout: float = START_TIMEOUT,
+    ) -> Client:
+        """A session with a program of one's own, `path_server talk MAP_FILE OPTIONS`, as a child process. It builds the
+        map's database first, and the first reply may take `start_timeout` seconds.
 
         NotConnected: there is no such program. A map that is refused is told by the first reply: ProgramEnded.
         """
-        return cls(ChildLink([program or find_program(), "talk", map_file, *options]), timeout)
+        return cls(ChildLink([program or find_program(), "talk", map_file, *options]), timeout, start_timeout)
 
     @classmethod
     def follow(
-        cls, feed: int, rounds: int, *options: str, program: Optional[str] = None, timeout: float = TIMEOUT
+        cls,
+        feed: int,
+        rounds: int,
+        *options: str,
+        program: Optional[str] = None,
+        timeout: float = TIMEOUT,
+        start_timeout: float = START_TIMEOUT,
     ) -> Client:
         """A session with a follower of one's own, `path_server follow FEED ROUNDS OPTIONS`, as a child process. It asks the
         leader so many times for up to 1,024 edits that it does not know yet, and answers then from its own board, whose
-        edits are the leader's first: `status` tells how many. It waits `timeout` seconds until it has followed.
+        edits are the leader's first: `status` tells how many. It waits `start_timeout` seconds, or `timeout` where that is
+        longer, until it has followed.
 
         NotConnected: there is no such program. ProgramEnded: nobody feeds at the port, or something else than a feed
         came. TimedOut: it did not follow in time.
         """
         link = ChildLink([program or find_program(), "follow", str(feed), str(rounds), *options])
         try:
-            line = link.first_line(time.monotonic() + timeout)
+            line = link.first_line(time.monotonic() + max(timeout, start_timeout))
             if not line.startswith(b"following "):
                 link.end(time.monotonic() + timeout)
                 raise ProgramEnded(link.process.wait(timeout), link.told(), line)
@@ -164,24 +188,34 @@ class Client:
         return self.send_query(start, goal).result(timeout)
 
     def change(self, cell: Cell, terrain: Terrain, timeout: Optional[float] = None) -> ChangeReply:
-        """Makes a cell blocked, land or, behind a `hello`, water. Queries see it once a version with it was published:
-        `wait_for`."""
+        """Makes a cell blocked, land or water. Queries see it once a version with it was published: `wait_for`.
+
+        NeedsHello: it is water, and the session began without a `hello`.
+        """
         return cast("Pending[ChangeReply]", self.send(Change(cell, terrain))).result(timeout)
 
     def edit(self, changes: Iterable[Tuple[Cell, Terrain]], timeout: Optional[float] = None) -> ChangeReply:
-        """Makes 1 to 64 changes together, or none of them: one edit. More than one behind a `hello` alone.
+        """Makes 1 to 64 changes together, or none of them: one edit.
 
-        ValueError: there are no changes, or more than 64.
+        ValueError: there are no changes, or more than 64. NeedsHello: there are several, or one to water, and the session
+        began without a `hello`.
         """
         each = tuple(Change(cell, terrain) for cell, terrain in changes)
+        if not 1 <= len(each) <= MAX_CHANGES:
+            raise ValueError("an edit has 1 to %d changes, not %d" % (MAX_CHANGES, len(each)))
         request: Request = each[0] if len(each) == 1 else Edit(each)
         return cast("Pending[ChangeReply]", self.send(request)).result(timeout)
 
     def hello(self, timeout: Optional[float] = None) -> bool:
-        """Asks for the second protocol, which has water and edits of several changes: as the first request of a session
-        alone. Whether the server knows it; where it does not, the session goes on without."""
+        """Whether water and edits of several changes may be sent in this session. As the first request it asks the server
+        for the second protocol, which has them, and later it tells what came of that. A session whose first request needs
+        it says hello by itself; one that may need it later says it first."""
+        if not self._is_begun:
+            self.send(Hello())
+        if self._hello is None:
+            return False
         try:
-            cast("Pending[Welcome]", self.send(Hello())).result(timeout)
+            self._hello.result(timeout)
         except RequestRefused:
             return False
         return True
@@ -230,11 +264,22 @@ class Client:
     def send(self, request: Request, timeout: Optional[float] = None) -> Pending[Reply]:
         """Sends a request without waiting for its reply. Any number may be in flight; replies come in their order.
 
-        ValueError: a number of it fits no frame. SessionOver: the session was closed or has ended by a fault.
+        ValueError, TypeError: it fits no frame. NeedsHello: it has water or several changes, and the session began without
+        a `hello`. SessionOver: the session was closed or has ended by a fault.
         """
         data = encoded(request)
         self._must_be_open()
         pending: Pending[Reply] = Pending(self, request)
+        if not self._is_begun:
+            self._is_begun = True
+            if isinstance(request, Hello):
+                self._hello = pending
+            elif needs_hello(request):
+                self._hello = Pending(self, Hello())
+                self._waiting.append(self._hello)
+                data = encoded(Hello()) + data
+        elif self._hello is None and needs_hello(request):
+            raise NeedsHello("for water and edits of several cells hello() has to be the first request of a session")
         self._waiting.append(pending)
         try:
             self._link.send(data, self.deadline(timeout))
@@ -267,6 +312,7 @@ class Client:
             frame = self._link.receive(deadline)
             self._waiting[0].take(decoded(frame))
             self._waiting.popleft()
+            self._start_timeout = self._timeout
         except TimedOut:
             raise
         except PathServerError as fault:
@@ -296,4 +342,4 @@ class Client:
 
     def deadline(self, timeout: Optional[float]) -> float:
         """The time of `time.monotonic()` that lies so many seconds ahead, or as many as the client says."""
-        return time.monotonic() + (self._timeout if timeout is None else timeout)
+        return time.monotonic() + (self._start_timeout if timeout is None else timeout)

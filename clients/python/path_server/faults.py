@@ -1,5 +1,6 @@
 """What may go wrong in a session. Each fault is an exception of its own; where the system said why, that is its
-`__cause__`. After any of them but `TimedOut`, `ServerOutOfMemory` and `RequestRefused` the session is over."""
+`__cause__`. After any of them but `TimedOut`, `ServerOutOfMemory`, `RequestRefused` and `NeedsHello` the session is
+over."""
 
 from __future__ import annotations
 
@@ -60,6 +61,11 @@ class RequestRefused(PathServerError):
         super().__init__("the server knows no request of kind %d with %d bytes" % (kind, length))
         self.kind = kind
         self.length = length
+
+
+class NeedsHello(PathServerError):
+    """The request has water or several changes, and the session began with another request than a hello. Nothing was
+    sent, and the session goes on."""
 
 
 class SessionOver(PathServerError):

@@ -301,26 +301,44 @@ _KINDS = {type(request): kind for kind, request in _BARE.items()}
 _REQUEST_LENGTH = struct.Struct(">H")
 
 
+def needs_hello(request: Request) -> bool:
+    """Whether it is spoken behind a Hello alone: an edit of several changes, and a change to water."""
+    return isinstance(request, Edit) or isinstance(request, Change) and request.terrain is Terrain.WATER
+
+
 def frame_of(request: Request) -> bytes:
     """The frame of a request, without its length.
 
-    ValueError: a column or a row is not from 0 to 65,535, or an edit has not from 2 to 64 changes.
+    ValueError: a column or a row is not from 0 to 65,535, or an edit has not from 2 to 64 changes. TypeError: a change is
+    to something else than a Terrain.
     """
     if isinstance(request, Hello):
         return _HELLO
-    if isinstance(request, Edit) and not 2 <= len(request.changes) <= MAX_CHANGES:
-        raise ValueError("an edit of several changes has 2 to %d: %r" % (MAX_CHANGES, request))
-    try:
-        if isinstance(request, Query):
-            return _QUERY.pack(0x01, *request.start, *request.goal)
-        if isinstance(request, Change):
-            return _CHANGE.pack(0x02, *request.cell, request.terrain.value)
-        if isinstance(request, Edit):
-            each = [_ONE_CHANGE.pack(*change.cell, change.terrain.value) for change in request.changes]
-            return bytes([_CHANGES, len(each)]) + b"".join(each)
-    except struct.error:
-        raise ValueError("columns and rows are from 0 to %d: %r" % (MAX_COORDINATE, request)) from None
+    if isinstance(request, Query):
+        return _packed(_QUERY, request, 0x01, *request.start, *request.goal)
+    if isinstance(request, Change):
+        return b"\x02" + _change_bytes(request)
+    if isinstance(request, Edit):
+        count = len(request.changes)
+        if not 2 <= count <= MAX_CHANGES:
+            raise ValueError("an Edit has 2 to %d changes, not %d; one alone is a Change" % (MAX_CHANGES, count))
+        return bytes([_CHANGES, count]) + b"".join(map(_change_bytes, request.changes))
     return bytes([_KINDS[type(request)]])
+
+
+def _change_bytes(change: Change) -> bytes:
+    """A change as it stands in a frame, behind the kind."""
+    if not isinstance(change.terrain, Terrain):
+        raise TypeError("a change makes a cell one of Terrain, not %r" % (change.terrain,))
+    return _packed(_ONE_CHANGE, change, *change.cell, change.terrain.value)
+
+
+def _packed(shape: struct.Struct, named: Request, *numbers: int) -> bytes:
+    """Numbers as bytes; the request that they are of is named where they do not fit."""
+    try:
+        return shape.pack(*numbers)
+    except struct.error:
+        raise ValueError("columns and rows are from 0 to %d: %r" % (MAX_COORDINATE, named)) from None
 
 
 def framed(frame: bytes) -> bytes:

@@ -35,6 +35,7 @@ from path_server import (
     End,
     Hello,
     Move,
+    NeedsHello,
     NotConnected,
     NothingNew,
     Path,
@@ -105,6 +106,18 @@ def stand_in(*answers: bytes, hang_up: bool = True) -> Iterator[int]:
         thread.join(5)
 
 
+@contextlib.contextmanager
+def slow_program() -> Iterator[str]:
+    """A program that answers two requests after a second, a status and a query, and then nothing until its input ends."""
+    told = bytes.fromhex("00000019 89" + 24 * "00" + "00000005 82 00000000")
+    with tempfile.TemporaryDirectory() as folder:
+        name = os.path.join(folder, "program")
+        with open(name, "w", encoding="utf-8") as file:
+            file.write("#!/bin/sh\nsleep 1\nprintf '%s'\nexec sed d\n" % "".join("\\%03o" % byte for byte in told))
+        os.chmod(name, 0o755)
+        yield name
+
+
 class Timed(unittest.TestCase):
     @contextlib.contextmanager
     def within(self, seconds: float) -> Iterator[None]:
@@ -142,15 +155,37 @@ class Sessions(Timed):
                 self.assertEqual(client.wait_for(1), Status(1, 1, 1, 1, 1))
                 self.assertEqual(client.edit(ends[:1] * 2), EditRefused(EditFault.REPEATED))
                 self.assertEqual(client.edit([((1, 0), Terrain.WATER)]), Accepted(2))
-                self.assertFalse(client.hello())
+                self.assertTrue(client.hello())
                 client.bye()
+
+    def test_a_first_request_that_needs_a_hello(self) -> None:
+        ends = [((0, 0), Terrain.BLOCKED), ((2, 0), Terrain.BLOCKED)]
+        with both_ways("...") as clients:
+            for number, client in enumerate(clients):
+                if number == 0:
+                    self.assertEqual(client.edit(ends), Accepted(1))
+                else:
+                    self.assertEqual(client.change((0, 0), Terrain.WATER), Accepted(1))
+                self.assertTrue(client.hello())
+                self.assertEqual(client.change((1, 0), Terrain.WATER), Accepted(2))
+                client.bye()
+
+    def test_a_hello_that_the_server_does_not_know(self) -> None:
+        answers = (bytes.fromhex("00000004 8B 07 0002 00000004 8B 02 0006"), bytes.fromhex("00000005 84 00000001"))
+        with stand_in(*answers) as port, Client.connect(port) as client:
+            with self.assertRaises(RequestRefused) as refused:
+                client.change((0, 0), Terrain.WATER)
+            self.assertEqual((refused.exception.kind, refused.exception.length), (2, 6))
+            self.assertFalse(client.hello())
+            self.assertEqual(client.change((0, 0), Terrain.LAND), Accepted(1))
 
     def test_no_hello(self) -> None:
         with map_file("...") as name, Client.talk(name) as client:
             self.assertEqual(client.status().version, 0)
             self.assertFalse(client.hello())
-            self.assertRaises(RequestRefused, client.edit, [((0, 0), Terrain.LAND), ((1, 0), Terrain.LAND)])
-            self.assertRaises(RequestRefused, client.change, (0, 0), Terrain.WATER)
+            with self.assertRaisesRegex(NeedsHello, r"hello\(\)"):
+                client.edit([((0, 0), Terrain.LAND), ((1, 0), Terrain.LAND)])
+            self.assertRaises(NeedsHello, client.change, (0, 0), Terrain.WATER)
             self.assertEqual(client.edit([((0, 0), Terrain.BLOCKED)]), Accepted(1))
 
     def test_build(self) -> None:
@@ -205,6 +240,18 @@ class Sessions(Timed):
                 self.assertRaises(ValueError, client.query, (0, 0), (65_536, 0))
                 self.assertEqual(client.query((65_535, 0), (0, 0)), Refused(0, Reason.OUTSIDE, End.START))
 
+    def test_edits_that_are_none(self) -> None:
+        one = ((1, 0), Terrain.LAND)
+        with map_file(ROW) as name, Client.talk(name) as client:
+            for count in (0, 65):
+                with self.assertRaisesRegex(ValueError, "^an edit has 1 to 64 changes, not %d$" % count):
+                    client.edit([one] * count)
+            with self.assertRaisesRegex(ValueError, r"Change\(cell=\(0, 65536\), [^()]*\)$"):
+                client.edit([one, ((0, 65_536), Terrain.LAND)])
+            with self.assertRaisesRegex(TypeError, "one of Terrain, not 5"):
+                client.change((1, 0), 5)  # type: ignore[arg-type]
+            self.assertEqual(client.change(*one), Accepted(1))
+
     def test_stop(self) -> None:
         with map_file(ROW) as name, Server(name) as server:
             with server.connect() as client:
@@ -249,6 +296,18 @@ class Faults(Timed):
             os.kill(server.process.pid, signal.SIGCONT)
             self.assertEqual(pending.result(5), Unreachable(0))
             self.assertEqual(client.status(5).version, 0)
+
+    def test_a_program_that_builds_for_long(self) -> None:
+        with slow_program() as program:
+            with Client.talk("-", program=program, timeout=0.2) as client:
+                with self.within(0.1), self.assertRaises(TimedOut):
+                    client.status(timeout=0.1)
+                self.assertEqual(client.query((0, 0), (2, 0)), Unreachable(0))
+                with self.within(0.2), self.assertRaises(TimedOut):
+                    client.query((0, 0), (2, 0))
+            with Client.talk("-", program=program, timeout=0.2, start_timeout=0.3) as client:
+                with self.within(0.3), self.assertRaises(TimedOut):
+                    client.query((0, 0), (2, 0))
 
     def test_a_server_that_takes_nothing(self) -> None:
         with stand_in(hang_up=False) as port, Client.connect(port, timeout=0.3) as client:
