@@ -110,8 +110,8 @@ def runs_view(grid: Grid, order: str) -> Picture:
 
 
 def difference_view(name: str, old: Grid, new: Grid, ends: List[Ends], order: str) -> Picture:
-    """What differs between two versions of a map: the cells, those whose rows the program builds anew, and paths before
-    and after.
+    """What differs between two versions of a map: the cells, the components that the program builds and keeps, and paths
+    before and after.
 
     ViewFault: the maps have other sides, or the program refuses the change or an end.
     """
@@ -130,7 +130,7 @@ def difference_view(name: str, old: Grid, new: Grid, ends: List[Ends], order: st
         after = [client.query(*pair) for pair in ends]
     for pair, former, later in zip(ends, before, after):
         _draw_change(picture, pair, former, later)
-    picture.key([(ADDED, "now passable"), (REMOVED, "now blocked"), (REBUILT, "row built anew"), (LAND, "row kept")])
+    picture.key([(ADDED, "now passable"), (REMOVED, "now blocked"), (REBUILT, "component built"), (LAND, "component kept")])
     picture.caption("%d cells differ; %s" % (len(changed), built))
     return picture
 
@@ -162,7 +162,9 @@ def _publish(client: Client, new: Grid, changed: List[int]) -> str:
             if not isinstance(answer, Accepted):
                 raise ViewFault("the program refuses the change of column %d and row %d" % new.cell(place))
     built = client.build(timeout=600)
-    return "%d rows built, %d kept" % (built.built, built.kept) if isinstance(built, Published) else "nothing built"
+    if not isinstance(built, Published):
+        return "nothing built"
+    return "components of %d cells built, of %d kept" % (built.built, built.kept)
 
 
 def _draw_change(picture: Picture, ends: Ends, former: QueryReply, later: QueryReply) -> None:

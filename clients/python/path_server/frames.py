@@ -224,7 +224,8 @@ class EditRefused:
 
 @dataclass(frozen=True)
 class Published:
-    """A version was built and published: the rows of so many cells were built anew, and those of others kept."""
+    """A version was built and published: its components that were built have so many cells, and those that were kept whole
+    so many others. Of a built component too rows may be taken from the version before; that is not counted."""
 
     version: int
     built: int
