@@ -212,6 +212,25 @@ def judge_example():
     judge("the tutorial's scenarios", (status, results), (0, {"match"}))
 
 
+def judge_outputs():
+    """Where an output takes nothing the status is 4, with a line, and without one where it is a pipe that was closed."""
+    example = os.path.join(TOP, "maps/tutorial.map")
+    command = [os.path.join(TOP, "tools/scenarios"), example, example + ".scen"]
+    reads, writes = os.pipe()
+    os.close(reads)
+    with open("/dev/full", "w") as full, os.fdopen(writes, "w") as closed:
+        for name, words, output, wanted in (
+            ("a full disk", [], full, "tools/scenarios: the output failed: [Errno 28] No space left on device\n"),
+            ("no room for paths", ["--paths", "/dev/full"], subprocess.DEVNULL,
+             "tools/scenarios: the output failed: [Errno 28] No space left on device\n"),
+            ("no folder for totals", ["--totals", "/nowhere/t.csv"], subprocess.DEVNULL,
+             "tools/scenarios: the output failed: [Errno 2] No such file or directory: '/nowhere/t.csv'\n"),
+            ("a closed pipe", [], closed, ""),
+        ):
+            done = subprocess.run([*command, *words], stdin=subprocess.DEVNULL, stdout=output, stderr=subprocess.PIPE, timeout=120)
+            judge(f"{name}: status and words", (done.returncode, done.stderr.decode()), (4, wanted))
+
+
 def judge_views(folder):
     """Each view is well-formed, on a map of one cell, on one that is all blocked, on those of two components, and on one
     with water."""
@@ -247,4 +266,5 @@ with tempfile.TemporaryDirectory() as folder:
 judge_checker()
 judge_answers()
 judge_example()
+judge_outputs()
 sys.exit(judge.failed)
