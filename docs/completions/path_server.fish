@@ -14,6 +14,7 @@ complete -c path_server -F -n '__fish_seen_subcommand_from scen'
 complete -c path_server -f -n __fish_use_subcommand -a made -d 'measures the map that a formula makes of two sides and a seed'
 complete -c path_server -x -n '__fish_seen_subcommand_from made' -l order -a 'rows dfs'
 complete -c path_server -x -n '__fish_seen_subcommand_from made' -l workers
+complete -c path_server -f -n '__fish_seen_subcommand_from made'
 complete -c path_server -f -n __fish_use_subcommand -a replay -d 'prints what edits, builds and queries of a file come to, line by line'
 complete -c path_server -x -n '__fish_seen_subcommand_from replay' -l order -a 'rows dfs'
 complete -c path_server -x -n '__fish_seen_subcommand_from replay' -l workers
@@ -29,6 +30,8 @@ complete -c path_server -x -n '__fish_seen_subcommand_from serve' -l workers
 complete -c path_server -x -n '__fish_seen_subcommand_from serve' -l room
 complete -c path_server -F -n '__fish_seen_subcommand_from serve'
 complete -c path_server -f -n __fish_use_subcommand -a ask -d 'prints what a server answers to one request'
+complete -c path_server -f -n '__fish_seen_subcommand_from ask'
+complete -c path_server -n '__fish_seen_subcommand_from ask; and test (count (commandline -opc)) -eq 3' -a 'query change build status bye stop'
 complete -c path_server -f -n __fish_use_subcommand -a export -d 'puts the file of the map\'s database on standard output'
 complete -c path_server -x -n '__fish_seen_subcommand_from export' -l order -a 'rows dfs'
 complete -c path_server -x -n '__fish_seen_subcommand_from export' -l workers
@@ -50,3 +53,4 @@ complete -c path_server -x -n '__fish_seen_subcommand_from lead' -l room
 complete -c path_server -F -n '__fish_seen_subcommand_from lead'
 complete -c path_server -f -n __fish_use_subcommand -a follow -d 'takes the accepted edits of a leader, and then answers requests as talk does'
 complete -c path_server -x -n '__fish_seen_subcommand_from follow' -l order -a 'rows dfs'
+complete -c path_server -f -n '__fish_seen_subcommand_from follow'
