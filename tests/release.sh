@@ -167,6 +167,22 @@ tells 1 "it has to say version, sources, kit and bytes" "$other/release/verify"
 rm "$other/release/manifest"
 state "no manifest: fails" && tells 1 "is missing in release/" "$other/release/verify"
 
+fresh_release
+mkdir "$other/release/pathdb" && cd "$other/release/pathdb" || exit 1
+for name in libpathdb.a libpathdb.so path_bake; do echo "$name" >"$name"; done
+sha256sum -- * >SHA256SUMS
+cd "$top" || exit 1
+sums_differ="another SHA-256 than release/pathdb/SHA256SUMS says"
+state "the library beside it" && tells 0 "all bytes are the same" "$other/release/verify"
+change_byte "$other/release/pathdb/libpathdb.so" 3
+state "a byte of the library changed: fails" && tells 1 "$sums_differ" "$other/release/verify"
+echo libpathdb.so >"$other/release/pathdb/libpathdb.so"
+state "a byte of the library changed back" && tells 0 "all bytes are the same" "$other/release/verify"
+sed -i '/path_bake/d' "$other/release/pathdb/SHA256SUMS"
+state "no SHA-256 of path_bake: fails" && tells 1 "$sums_differ" "$other/release/verify"
+rm "$other/release/pathdb/SHA256SUMS"
+state "no SHA-256 of the library: fails" && tells 1 "$sums_differ" "$other/release/verify"
+
 # ---- sources ahead of it ----
 
 fresh_release
@@ -274,5 +290,9 @@ if [[ -e $top/release/manifest ]]; then
     moves="E E E E E E E E SE SE E E E E SE SE SE SE S S SE E E E SE E E S SE SE SE SE E E E E E E"
     prints 0 $'cost 26 12\nlength 42.970562\nmoves '"$moves" \
         "${without_rt[@]}" "$room/alone/path_server" path "$room/alone/maps/tutorial.map" 2 2 37 17
+    for sums in release/path_server.sha256 release/pathdb/SHA256SUMS; do
+        state "the real release: $sums"
+        prints 0 "" env -C "$top/${sums%/*}" sha256sum --check --strict --quiet "${sums##*/}"
+    done
 fi
 exit $failed
