@@ -96,6 +96,22 @@ for order in rows dfs; do
   fi
 done
 
+# The files that lie beside the map.
+answers 'the events of the tutorial' 0 "0 version 0 cost 2 0 moves E E
+0 accepted 1
+0 job 1 rows 1
+0 row left 0
+0 published 1 built 1 kept 598
+0 version 0 blocked start
+1 version 1 accepted 1
+1 version 1 unreachable" replay "$tutorial" "${tutorial%.map}.events"
+tried=$((tried + 1))
+found=$("$program" scen "$tutorial" "$tutorial.scen" | tail -n 1)
+if [ "$found" != "scenarios 21 match 21 differs 0 unreachable 0 refused 0 scaled 0" ]; then
+  failed=1
+  printf 'files.sh: the scenarios of the tutorial: %s\n' "$found"
+fi
+
 # The same bytes from any number of workers.
 for words in 'made 64 64 7' 'made 49 49 1 --order dfs' "path $tutorial 2 2 37 17" "check $tutorial --order dfs"; do
   alone=$("$program" $words)
