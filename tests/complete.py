@@ -1,5 +1,5 @@
-"""What bash makes of a line in which the tabulator is pressed, with the completion of path_server read. Prints only where
-something is not as it should be.
+"""What bash makes of a line in which the tabulator is pressed, with the completion of path_server read. Prints only
+where something is not as it should be.
 
 complete.py FILE; manual.sh runs it.
 """
@@ -10,7 +10,12 @@ from terminal import Terminal
 
 FILES = "my map.map", "4000.map", "other.scen"
 # in place of the program a function that tells its words
-BEGIN = "bind 'set bell-style none'\nbind 'set completion-query-items 0'\nPS1=\npath_server() { printf 'told '; printf '<%s>' \"$@\"; echo; }\n. \"$COMPLETION\"\n"
+BEGIN = """bind 'set bell-style none'
+bind 'set completion-query-items 0'
+PS1=
+path_server() { printf 'told '; printf '<%s>' "$@"; echo; }
+. "$COMPLETION"
+"""
 # what is typed behind the program's name, and the words that it is called with then
 TYPED = (
     ("che\t my\t", "<check><my map.map>"),

@@ -1,7 +1,7 @@
 #!/usr/bin/env bash
-# Each shell that is here reads its completion, and bash completes by it what is typed at a terminal. Where a program was
-# built, the man page and the completions are what tools/manual makes of it. Prints only where something is not as it
-# should be.
+# Each shell that is here reads its completion, and bash completes by it what is typed at a terminal. Where a program
+# was built, the man pages and the completions are what tools/manual makes of it. Prints only where something is not as
+# it should be.
 set -u
 # shellcheck source=tests/built.bash
 . "$(dirname "$(readlink -f "${BASH_SOURCE[0]}")")/built.bash" || exit 1

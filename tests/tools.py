@@ -213,7 +213,7 @@ def judge_example():
 
 
 def judge_outputs():
-    """Where an output takes nothing the status is 4, with a line, and without one where it is a pipe that was closed."""
+    """Where an output takes nothing the status is 4, with a line, and without one behind a pipe that was closed."""
     example = os.path.join(TOP, "maps/tutorial.map")
     command = [os.path.join(TOP, "tools/scenarios"), example, example + ".scen"]
     reads, writes = os.pipe()
@@ -227,8 +227,10 @@ def judge_outputs():
              "tools/scenarios: the output failed: [Errno 2] No such file or directory: '/nowhere/t.csv'\n"),
             ("a closed pipe", [], closed, ""),
         ):
-            done = subprocess.run([*command, *words], stdin=subprocess.DEVNULL, stdout=output, stderr=subprocess.PIPE, timeout=120)
-            judge(f"{name}: status and words", (done.returncode, done.stderr.decode()), (4, wanted))
+            done = subprocess.run(
+                [*command, *words], stdin=subprocess.DEVNULL, stdout=output, stderr=subprocess.PIPE, text=True
+            )
+            judge(f"{name}: status and words", (done.returncode, done.stderr), (4, wanted))
 
 
 def judge_views(folder):

@@ -110,8 +110,8 @@ def runs_view(grid: Grid, order: str) -> Picture:
 
 
 def difference_view(name: str, old: Grid, new: Grid, ends: List[Ends], order: str) -> Picture:
-    """What differs between two versions of a map: the cells, the components that the program builds and keeps, and paths
-    before and after.
+    """What differs between two versions of a map: the cells, the components that the program builds and keeps, and
+    paths before and after.
 
     ViewFault: the maps have other sides, or the program refuses the change or an end.
     """
@@ -130,7 +130,8 @@ def difference_view(name: str, old: Grid, new: Grid, ends: List[Ends], order: st
         after = [client.query(*pair) for pair in ends]
     for pair, former, later in zip(ends, before, after):
         _draw_change(picture, pair, former, later)
-    picture.key([(ADDED, "now passable"), (REMOVED, "now blocked"), (REBUILT, "component built"), (LAND, "component kept")])
+    changes = [(ADDED, "now passable"), (REMOVED, "now blocked")]
+    picture.key([*changes, (REBUILT, "component built"), (LAND, "component kept")])
     picture.caption("%d cells differ; %s" % (len(changed), built))
     return picture
 

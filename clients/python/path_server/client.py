@@ -164,8 +164,8 @@ class Client:
     ) -> Client:
         """A session with a follower of one's own, `path_server follow FEED ROUNDS OPTIONS`, as a child process. It asks the
         leader so many times for up to 1,024 edits that it does not know yet, and answers then from its own board, whose
-        edits are the leader's first: `status` tells how many. It waits `start_timeout` seconds, or `timeout` where that is
-        longer, until it has followed.
+        edits are the leader's first: `status` tells how many. It waits `start_timeout` seconds, or `timeout` where that
+        is longer, until it has followed.
 
         NotConnected: there is no such program. ProgramEnded: nobody feeds at the port, or something else than a feed
         came. TimedOut: it did not follow in time.
@@ -197,8 +197,8 @@ class Client:
     def edit(self, changes: Iterable[Tuple[Cell, Terrain]], timeout: Optional[float] = None) -> ChangeReply:
         """Makes 1 to 64 changes together, or none of them: one edit.
 
-        ValueError: there are no changes, or more than 64. NeedsHello: there are several, or one to water, and the session
-        began without a `hello`.
+        ValueError: there are no changes, or more than 64. NeedsHello: there are several, or one to water, and the
+        session began without a `hello`.
         """
         each = tuple(Change(cell, terrain) for cell, terrain in changes)
         if not 1 <= len(each) <= MAX_CHANGES:
@@ -207,9 +207,9 @@ class Client:
         return cast("Pending[ChangeReply]", self.send(request)).result(timeout)
 
     def hello(self, timeout: Optional[float] = None) -> bool:
-        """Whether water and edits of several changes may be sent in this session. As the first request it asks the server
-        for the second protocol, which has them, and later it tells what came of that. A session whose first request needs
-        it says hello by itself; one that may need it later says it first."""
+        """Whether water and edits of several changes may be sent in this session. As the first request it asks the
+        server for the second protocol, which has them, and later it tells what came of that. A session whose first
+        request needs it says hello by itself; one that may need it later says it first."""
         if not self._is_begun:
             self.send(Hello())
         if self._hello is None:
@@ -264,8 +264,8 @@ class Client:
     def send(self, request: Request, timeout: Optional[float] = None) -> Pending[Reply]:
         """Sends a request without waiting for its reply. Any number may be in flight; replies come in their order.
 
-        ValueError, TypeError: it fits no frame. NeedsHello: it has water or several changes, and the session began without
-        a `hello`. SessionOver: the session was closed or has ended by a fault.
+        ValueError, TypeError: it fits no frame. NeedsHello: it has water or several changes, and the session began
+        without a `hello`. SessionOver: the session was closed or has ended by a fault.
         """
         data = encoded(request)
         self._must_be_open()

@@ -224,8 +224,8 @@ class EditRefused:
 
 @dataclass(frozen=True)
 class Published:
-    """A version was built and published: its components that were built have so many cells, and those that were kept whole
-    so many others. Of a built component too rows may be taken from the version before; that is not counted."""
+    """A version was built and published: its components that were built have so many cells, and those that were kept
+    whole so many others. Of a built component too rows may be taken from the version before; that is not counted."""
 
     version: int
     built: int
@@ -310,8 +310,8 @@ def needs_hello(request: Request) -> bool:
 def frame_of(request: Request) -> bytes:
     """The frame of a request, without its length.
 
-    ValueError: a column or a row is not from 0 to 65,535, or an edit has not from 2 to 64 changes. TypeError: a change is
-    to something else than a Terrain.
+    ValueError: a column or a row is not from 0 to 65,535, or an edit has not from 2 to 64 changes. TypeError: a change
+    is to something else than a Terrain.
     """
     if isinstance(request, Hello):
         return _HELLO

@@ -108,12 +108,13 @@ def stand_in(*answers: bytes, hang_up: bool = True) -> Iterator[int]:
 
 @contextlib.contextmanager
 def slow_program() -> Iterator[str]:
-    """A program that answers two requests after a second, a status and a query, and then nothing until its input ends."""
+    """A program that answers a status and a query after a second, and then nothing until its input ends."""
     told = bytes.fromhex("00000019 89" + 24 * "00" + "00000005 82 00000000")
+    text = "".join("\\%03o" % byte for byte in told)
     with tempfile.TemporaryDirectory() as folder:
         name = os.path.join(folder, "program")
         with open(name, "w", encoding="utf-8") as file:
-            file.write("#!/bin/sh\nsleep 1\nprintf '%s'\nexec sed d\n" % "".join("\\%03o" % byte for byte in told))
+            file.write("#!/bin/sh\nsleep 1\nprintf '%s'\nexec sed d\n" % text)
         os.chmod(name, 0o755)
         yield name
 
