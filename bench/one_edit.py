@@ -28,7 +28,7 @@ from path_server import Build, Bye, Change, Edit, Hello, Published, Terrain  # n
 from path_server.frames import decoded, encoded, split_replies  # noqa: E402
 
 WALL = 5  # cells of a wall
-KINDS = [("open", 64), ("rooms", 67), ("rooms", 101), ("caves", 90), ("caves", 120), ("blocked20", 80)]
+KINDS = [("open", 64), ("rooms", 67), ("rooms", 101), ("caves", 90), ("caves", 120), ("blocked25", 80)]
 BEGINS, ENDS = "version_build::planning::plan*", "version_build::building::build*"
 
 
