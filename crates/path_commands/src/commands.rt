@@ -271,9 +271,9 @@ impl Verb {
         match self {
             Verb::Path => "path_server path maps/tutorial.map 2 2 37 17",
             Verb::Check => "path_server check maps/tutorial.map --order dfs",
-            Verb::Scen => "path_server scen maps/tutorial.map tutorial.scen",
+            Verb::Scen => "path_server scen maps/tutorial.map maps/tutorial.map.scen",
             Verb::Made => "path_server made 64 64 7",
-            Verb::Replay => "path_server replay maps/tutorial.map events.txt",
+            Verb::Replay => "path_server replay maps/tutorial.map maps/tutorial.events",
             Verb::Talk => "path_server talk maps/tutorial.map --room 1000",
             Verb::Serve => "path_server serve maps/tutorial.map 4000 8",
             Verb::Ask => "path_server ask 4000 change 20 9 0",
