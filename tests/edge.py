@@ -119,6 +119,31 @@ def never_reads(port):
         return "ended" if ended.poll(1000 * (REPLY_TIME + FILL_TIME)) else "nothing"
 
 
+def reads_late(port):
+    """Takes its replies late once, and asks again when more time than a reply may take has gone by since."""
+    with socket.socket() as link:
+        for option in (socket.SO_RCVBUF, socket.SO_SNDBUF):
+            link.setsockopt(socket.SOL_SOCKET, option, 4096)
+        link.connect(("127.0.0.1", port))
+        link.setblocking(False)
+        taken, sent = select.poll(), 0
+        taken.register(link.fileno(), select.POLLOUT)
+        while taken.poll(2000):
+            sent += link.send(STATUS * 1000)
+        link.setblocking(True)
+        whole, part = divmod(sent, len(STATUS))
+        for _ in range(whole):
+            link.recv(29, socket.MSG_WAITALL)
+        link.sendall(STATUS[part:])
+        link.recv(29, socket.MSG_WAITALL)
+        time.sleep(REPLY_TIME + 2)
+        for _ in range(2):
+            link.sendall(STATUS)
+            if len(link.recv(29, socket.MSG_WAITALL)) != 29:
+                return "ended"
+        return "answered"
+
+
 log = {**os.environ, "PATH_SERVER_LOG": "1"}
 port = free_port()
 with tempfile.TemporaryFile() as words:
@@ -130,6 +155,7 @@ with tempfile.TemporaryFile() as words:
     trials = [(Trial(work, port), work.__name__, limit, spare) for work, limit, spare in
               ((half_frame, FRAME_TIME, LEEWAY), (half_length, FRAME_TIME, LEEWAY), (byte_by_byte, FRAME_TIME, LEEWAY),
                (never_reads, REPLY_TIME, FILL_TIME))]
+    late = Trial(reads_late, port)
     slowest = 0
     until = time.monotonic() + REPLY_TIME + 2
     while time.monotonic() < until:
@@ -140,6 +166,8 @@ with tempfile.TemporaryFile() as words:
     judge(f"the slowest reply meanwhile, {slowest:.2f} seconds", slowest < 2, True)
     for trial, name, limit, spare in trials:
         trial.within(name, ("ended", "reset"), limit, spare)
+    late.join(2 * REPLY_TIME + FILL_TIME)
+    judge("a session that once took its replies late", late.found[0], "answered")
     judge("a session that was silent meanwhile", len(answer(silent)), 25)
 
     # a stop: nobody is let in any more, and who is in has some time
