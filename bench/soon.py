@@ -45,7 +45,8 @@ def main():
     options = parser.parse_args()
     rows = maps.drawn(options.kind, options.side)
     rng = random.Random(options.seed)
-    cells = [cell for some in chosen(rows, options.edits, rng).values() for cell in some]
+    places = chosen(rows, options.edits, rng)
+    cells = [cell for (cell,) in places["doors"] + places["random cells"]]
     print("%s, %d cells, %d edits" % (options.kind, sum(row.count(".") for row in rows), 2 * len(cells)))
     with tempfile.TemporaryDirectory() as folder:
         name = os.path.join(folder, "a.map")
