@@ -58,6 +58,10 @@ pub record IsTight (runs : List Run) (sets : List ℕ) : Type 0 where
 pub record HasFewest (runs : List Run) (sets : List ℕ) : Type 0 where
   pub fewest : (other : List Run) → Fits other sets → length runs ≤ length other
 
+-- tight rows have the fewest runs of all rows that hold for their sets
+abbrev pub TightRowsHaveFewestRuns : Type 0
+TightRowsHaveFewestRuns = (runs : List Run) (sets : List ℕ) → IsTight runs sets → HasFewest runs sets
+
 -- no other row is tight for these sets
 pub record IsOnlyTight (runs : List Run) (sets : List ℕ) : Type 0 where
   pub only : (other : List Run) → IsTight other sets → other ≡ runs

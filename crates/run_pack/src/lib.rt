@@ -11,6 +11,7 @@ ghost use Rattle.run_pack.specs.Sets.{IsShared, AreShared, ShareNone, IsLeastIn}
 ghost use Rattle.run_pack.specs.Stretches.{GrowsBy, IsCutBefore};
 ghost use Rattle.run_pack.specs.Runs.{Rises, ArePackable, IsTight, IsPacked, IsFound, AppendsRow, word_of, run_of_word};
 
+pub mod laws;
 mod near;
 mod row;
 pub mod steps;

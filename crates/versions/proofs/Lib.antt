@@ -8,3 +8,4 @@ pub mod OneRow
 pub mod OneRowComps
 pub mod Refusals
 pub mod Counting
+pub mod FewestRuns

@@ -5,3 +5,4 @@ pub mod Answers
 pub mod Stored
 pub mod Counts
 pub mod OneRow
+pub mod FewestRuns

@@ -2,10 +2,16 @@
 
 ghost use Rattle.versions.specs.Answers.{QueriesHaveOneAnswer, WalksAreBest};
 ghost use Rattle.versions.specs.Databases.{DatabasesAreDetermined};
+ghost use Rattle.versions.specs.FewestRuns.{VersionsHaveFewestRuns};
 
 /// A map has one database in each order, however it is built.
 pub fn databases_are_determined()
     ensures { DatabasesAreDetermined }
+{}
+
+/// Each row of a version has the fewest runs of all rows that name a first move of a best path to each cell.
+pub fn versions_have_fewest_runs()
+    ensures { VersionsHaveFewestRuns }
 {}
 
 /// Walks are best: where a path exists the database spells one walk, which is a best path of the whole map.
