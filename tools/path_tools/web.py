@@ -17,12 +17,13 @@ from __future__ import annotations
 import argparse
 import json
 import os
+import socket
 import sys
 import threading
 import time
 import webbrowser
 from http.server import BaseHTTPRequestHandler, ThreadingHTTPServer
-from typing import Any, Callable, Dict, List, Optional, Tuple, TypeVar
+from typing import Any, Callable, Dict, List, Optional, Tuple, TypeVar, Union
 from urllib.parse import parse_qs, urlsplit
 
 from path_server import (
@@ -46,7 +47,7 @@ from . import TOP, program_here
 from .grids import Grid, MapFault, read_grid
 from .searches import ORDERS, components
 
-Json = Dict[str, Any]
+Json = Dict[str, object]
 Found = TypeVar("Found")
 PAGE = os.path.join(os.path.dirname(os.path.abspath(__file__)), "page")
 FILES = {"/": ("page.html", "text/html"), "/page.js": ("page.js", "text/javascript")}
@@ -64,7 +65,7 @@ class Table:
         self._server = server
         self._client: Optional[Client] = None
         self._session, self._news = threading.Lock(), threading.Condition()
-        self._edits: Dict[int, List[Any]] = {}
+        self._edits: Dict[int, Tuple[int, int, int]] = {}
         self._awaited: Optional[Tuple[int, float]] = None
         self.build_ms: Optional[float] = None
         threading.Thread(target=self._watch, daemon=True).start()
@@ -99,7 +100,7 @@ class Table:
                 answer = client.change(cell, terrain)
                 if isinstance(answer, Accepted):
                     last = answer.number
-                    self._edits[last] = [*cell, terrain.value]
+                    self._edits[last] = (*cell, terrain.value)
                     self._await(last)
                 else:
                     refused.append(answer.fault.name.lower().replace("_", " "))
@@ -207,6 +208,7 @@ class Handler(BaseHTTPRequestHandler):
         self._answer(lambda: self._change(json.loads(body)))
 
     def _change(self, asked: Any) -> Json:
+        """Makes the change that a browser's JSON asks for, which may be anything: faults are raised as it is read."""
         cells = [(int(column), int(row)) for column, row in asked["cells"]]
         if any(not 0 <= number <= MAX_COORDINATE for cell in cells for number in cell):
             raise ValueError("no such cell")
@@ -227,7 +229,7 @@ class Handler(BaseHTTPRequestHandler):
         except (ValueError, KeyError, TypeError, LookupError) as fault:
             self._send(400, {"fault": "faulty request: %s" % fault})
 
-    def _send(self, status: int, body: Any, kind: str = "application/json") -> None:
+    def _send(self, status: int, body: Union[bytes, Json], kind: str = "application/json") -> None:
         data = body if isinstance(body, bytes) else json.dumps(body).encode()
         self.send_response(status)
         for name, value in (("Content-Type", kind), ("Content-Length", str(len(data))), ("Cache-Control", "no-store")):
@@ -238,7 +240,7 @@ class Handler(BaseHTTPRequestHandler):
         except ConnectionError:
             self.close_connection = True
 
-    def log_message(self, format: str, *args: Any) -> None:
+    def log_message(self, format: str, *args: object) -> None:
         """Nothing: a request comes with each frame."""
 
 
@@ -257,7 +259,9 @@ class QuietServer(ThreadingHTTPServer):
 
     daemon_threads = True
 
-    def handle_error(self, request: Any, client_address: Any) -> None:
+    def handle_error(
+        self, request: Union[socket.socket, Tuple[bytes, socket.socket]], client_address: Tuple[str, int]
+    ) -> None:
         """Prints what is not a browser's hanging up."""
         if not isinstance(sys.exc_info()[1], ConnectionError):
             super().handle_error(request, client_address)

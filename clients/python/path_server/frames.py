@@ -361,7 +361,8 @@ def encoded(request: Request) -> bytes:
 def split_requests(data: bytes) -> Tuple[List[bytes], bytes]:
     """The whole frames at the front of what a client sent, without their lengths, and the bytes behind them. It ends at
     a length above the limit too, at which a server ends the session."""
-    frames, rest, protocol = [], data, Protocol.START
+    frames: List[bytes] = []
+    rest, protocol = data, Protocol.START
     while True:
         one, behind = _split(rest, _REQUEST_LENGTH, protocol.limit, 1)
         if not one:
@@ -416,7 +417,8 @@ def split_replies(data: bytes) -> Tuple[List[bytes], bytes]:
 
 
 def _split(data: bytes, head: struct.Struct, most: int, count: float = math.inf) -> Tuple[List[bytes], bytes]:
-    frames, at = [], 0
+    frames: List[bytes] = []
+    at = 0
     while len(data) - at >= head.size and len(frames) < count:
         length = head.unpack_from(data, at)[0]
         if length > most or len(data) - at - head.size < length:

@@ -250,7 +250,7 @@ class Sessions(Timed):
             with self.assertRaisesRegex(ValueError, r"Change\(cell=\(0, 65536\), [^()]*\)$"):
                 client.edit([one, ((0, 65_536), Terrain.LAND)])
             with self.assertRaisesRegex(TypeError, "one of Terrain, not 5"):
-                client.change((1, 0), 5)  # type: ignore[arg-type]
+                client.change((1, 0), 5)  # type: ignore[arg-type]  # what untyped code may do
             self.assertEqual(client.change(*one), Accepted(1))
 
     def test_stop(self) -> None:
