@@ -127,7 +127,7 @@ COLUMNS = (
 def line_of(done: Run) -> List[object]:
     """A run as a line of CSV."""
     problem, path = done.problem, done.path
-    found: List[object] = [path.straight, path.diagonal, path.length, len(path.moves)] if path else [""] * 4
+    found: List[object] = [path.straight, path.diagonal, path.exact_length, len(path.move_bytes)] if path else [""] * 4
     taken = "" if done.nanoseconds is None else done.nanoseconds
     return [problem.number, problem.bucket, *problem.start, *problem.goal, problem.stated, *found, taken, done.words]
 
@@ -170,7 +170,7 @@ class Totals:
 
     def line(self, bucket: str) -> List[object]:
         """The sums as a line of CSV."""
-        length = Path(0, self.straight, self.diagonal, ()).length
+        length = Path(0, self.straight, self.diagonal, b"").exact_length
         mean = self.nanoseconds // self.timed if self.timed else ""
         sums = [self.straight, self.diagonal, length, self.straight + self.diagonal, mean]
         return [bucket, sum(self.counts.values()), *self.counts.values(), *sums]

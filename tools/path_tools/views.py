@@ -68,7 +68,7 @@ def told(answer: QueryReply) -> str:
         raise ViewFault("the %s is %s" % (answer.end.name.lower(), answer.reason.name.lower()))
     if isinstance(answer, Unreachable):
         return "no path leads from A to B"
-    return "A to B: %d straight and %d diagonal moves, length %s" % (answer.straight, answer.diagonal, answer.length)
+    return "A to B: %d straight and %d diagonal moves, length %s" % (answer.straight, answer.diagonal, answer.exact_length)
 
 
 def components_view(grid: Grid) -> Picture:

@@ -159,8 +159,8 @@ def answer_of(reply: QueryReply) -> Json:
             "version": reply.version,
             "straight": reply.straight,
             "diagonal": reply.diagonal,
-            "length": reply.length,
-            "moves": reply.moves,
+            "length": reply.exact_length,
+            "moves": list(reply.move_bytes),
         }
     if isinstance(reply, Refused):
         return {

@@ -64,7 +64,7 @@ class RequestRefused(PathServerError):
 
 
 class NeedsHello(PathServerError):
-    """The request has water or several changes, and the session began with another request than a hello. Nothing was
+    """The request has water or several changes, and the server does not speak the protocol that has them. Nothing was
     sent, and the session goes on."""
 
 

@@ -11,7 +11,7 @@ import enum
 import math
 import struct
 from dataclasses import dataclass
-from typing import Callable, Dict, List, Optional, Tuple, Union
+from typing import Callable, Dict, Iterable, List, Optional, Tuple, Union
 
 from .faults import BadReply
 
@@ -83,6 +83,7 @@ class Move(enum.IntEnum):
         return self % 2 == 1
 
 
+_ROOT = math.sqrt(2)
 _STEPS = ((0, -1), (1, -1), (1, 0), (1, 1), (0, 1), (-1, 1), (-1, 0), (-1, -1))
 
 
@@ -172,7 +173,18 @@ class Path:
     version: int
     straight: int
     diagonal: int
-    moves: Tuple[Move, ...]
+    move_bytes: bytes
+    """The moves, a byte each: the number of a `Move`."""
+
+    @property
+    def moves(self) -> Tuple[Move, ...]:
+        """The moves from the start to the goal."""
+        return tuple([_MOVES[number] for number in self.move_bytes])
+
+    @property
+    def length(self) -> float:
+        """The length in cells, as near as a float comes."""
+        return self.straight + self.diagonal * _ROOT
 
     @property
     def micro_length(self) -> int:
@@ -180,15 +192,18 @@ class Path:
         return self.straight * 10**6 + math.isqrt(2 * self.diagonal**2 * 10**12)
 
     @property
-    def length(self) -> str:
+    def exact_length(self) -> str:
         """The exact length with six digits, the rest cut off, as the program prints it."""
         return "%d.%06d" % divmod(self.micro_length, 10**6)
 
     def cells(self, start: Cell) -> List[Cell]:
         """The cells of the path from its start on; the start is the query's."""
-        found = [start]
-        for move in self.moves:
-            found.append((found[-1][0] + move.step[0], found[-1][1] + move.step[1]))
+        column, row = start
+        found = [(column, row)]
+        for number in self.move_bytes:
+            right, down = _STEPS[number]
+            column, row = column + right, row + down
+            found.append((column, row))
         return found
 
 
@@ -295,6 +310,7 @@ Reply = Union[QueryReply, ChangeReply, BuildReply, Status, Done, Welcome, Malfor
 _QUERY = struct.Struct(">B4H")
 _CHANGE = struct.Struct(">BHHB")
 _ONE_CHANGE = struct.Struct(">HHB")
+_CELL = struct.Struct(">HH")
 _CHANGES = 0x08
 _HELLO = b"\x07\x02"
 _BARE: Dict[int, Request] = {0x03: Build(), 0x04: AskStatus(), 0x05: Bye(), 0x06: Stop()}
@@ -307,16 +323,27 @@ def needs_hello(request: Request) -> bool:
     return isinstance(request, Edit) or isinstance(request, Change) and request.terrain is Terrain.WATER
 
 
+def edit_of(changes: Iterable[Tuple[Cell, Terrain]]) -> Union[Change, Edit]:
+    """The request that makes 1 to 64 changes together.
+
+    ValueError: there are no changes, or more than 64.
+    """
+    each = tuple(Change(cell, terrain) for cell, terrain in changes)
+    if not 1 <= len(each) <= MAX_CHANGES:
+        raise ValueError("an edit has 1 to %d changes, not %d" % (MAX_CHANGES, len(each)))
+    return each[0] if len(each) == 1 else Edit(each)
+
+
 def frame_of(request: Request) -> bytes:
     """The frame of a request, without its length.
 
-    ValueError: a column or a row is not from 0 to 65,535, or an edit has not from 2 to 64 changes. TypeError: a change
-    is to something else than a Terrain.
+    ValueError: a column or a row is not from 0 to 65,535, or an edit has not from 2 to 64 changes. TypeError: a cell is
+    not two whole numbers, or a change is to something else than a Terrain.
     """
     if isinstance(request, Hello):
         return _HELLO
     if isinstance(request, Query):
-        return _packed(_QUERY, request, 0x01, *request.start, *request.goal)
+        return b"\x01" + _cell_bytes("start", request.start) + _cell_bytes("goal", request.goal)
     if isinstance(request, Change):
         return b"\x02" + _change_bytes(request)
     if isinstance(request, Edit):
@@ -331,15 +358,20 @@ def _change_bytes(change: Change) -> bytes:
     """A change as it stands in a frame, behind the kind."""
     if not isinstance(change.terrain, Terrain):
         raise TypeError("a change makes a cell one of Terrain, not %r" % (change.terrain,))
-    return _packed(_ONE_CHANGE, change, *change.cell, change.terrain.value)
+    return _cell_bytes("cell", change.cell) + bytes([change.terrain.value])
 
 
-def _packed(shape: struct.Struct, named: Request, *numbers: int) -> bytes:
-    """Numbers as bytes; the request that they are of is named where they do not fit."""
+def _cell_bytes(name: str, cell: Cell) -> bytes:
+    """A cell as it stands in a frame. `name` is that of the argument, for the error's message."""
     try:
-        return shape.pack(*numbers)
+        column, row = cell
+        return _CELL.pack(column, row)
+    except (TypeError, ValueError):
+        pass
     except struct.error:
-        raise ValueError("columns and rows are from 0 to %d: %r" % (MAX_COORDINATE, named)) from None
+        if hasattr(column, "__index__") and hasattr(row, "__index__"):
+            raise ValueError("%s %r: columns and rows are from 0 to %d" % (name, cell, MAX_COORDINATE)) from None
+    raise TypeError("%s is a column and a row, two whole numbers, and not %r" % (name, cell))
 
 
 def framed(frame: bytes) -> bytes:
@@ -401,6 +433,7 @@ def _edit(frame: bytes) -> Optional[Request]:
 _REPLY_LENGTH = struct.Struct(">I")
 _PATH_HEAD = struct.Struct(">3I")
 _MOVES = tuple(Move)
+_DIAGONAL = bytes(move for move in Move if move.is_diagonal)
 
 
 def split_replies(data: bytes) -> Tuple[List[bytes], bytes]:
@@ -451,11 +484,10 @@ def reply_bytes(frame: bytes) -> bytes:
 def _path(rest: bytes) -> Path:
     version, straight, diagonal = _PATH_HEAD.unpack_from(rest)
     numbers = rest[_PATH_HEAD.size :]
-    moves = tuple([_MOVES[number] for number in numbers])
-    odd = sum(number % 2 for number in numbers)
-    if (len(numbers) - odd, odd) != (straight, diagonal):
+    odd = sum(map(numbers.count, _DIAGONAL))
+    if (len(numbers) - odd, odd) != (straight, diagonal) or max(numbers, default=0) > Move.NW:
         raise ValueError("the moves are not those that are counted")
-    return Path(version, straight, diagonal, moves)
+    return Path(version, straight, diagonal, numbers)
 
 
 def _refused(rest: bytes) -> Refused:

@@ -9,6 +9,7 @@ from __future__ import annotations
 import abc
 import array
 import collections
+import contextlib
 import math
 import os
 import select
@@ -26,7 +27,7 @@ _LAST_WORDS = 1.0  # seconds in which a program ends that has closed its output
 
 
 class Link(abc.ABC):
-    """One connection. It is for one thread at a time."""
+    """One connection. It is for one thread at a time, but for `interrupt`."""
 
     def __init__(self, read_end: int, write_end: int) -> None:
         self._read_end, self._write_end = read_end, write_end
@@ -120,6 +121,10 @@ class Link(abc.ABC):
         """Tells the other side that no more is sent; its replies may still be read."""
 
     @abc.abstractmethod
+    def interrupt(self) -> None:
+        """Ends what another thread waits for here, by a fault of its own."""
+
+    @abc.abstractmethod
     def close(self) -> None:
         """Ends the connection. A second time is no fault."""
 
@@ -145,6 +150,10 @@ class TcpLink(Link):
 
     def end_input(self) -> None:
         self._socket.shutdown(socket.SHUT_WR)
+
+    def interrupt(self) -> None:
+        with contextlib.suppress(OSError):
+            self._socket.shutdown(socket.SHUT_RDWR)
 
     def close(self) -> None:
         self._socket.close()
@@ -201,6 +210,9 @@ class ChildLink(Link):
     def end_input(self) -> None:
         self._program.input.close()
         self._write_end = -1
+
+    def interrupt(self) -> None:
+        self.process.kill()
 
     def close(self) -> None:
         """Closes the pipes, at which the program ends; it is killed where it does not in a second."""

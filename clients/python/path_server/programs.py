@@ -2,10 +2,15 @@
 
 from __future__ import annotations
 
+import ctypes
 import os
 import shutil
+import signal
 import subprocess
+import sys
 import tempfile
+import threading
+import weakref
 from typing import IO, Optional, Sequence, cast
 
 from .faults import NotConnected
@@ -22,9 +27,25 @@ def find_program() -> str:
     return found
 
 
+_DIE_WITH_PARENT = 1  # PR_SET_PDEATHSIG
+_LIBC = ctypes.CDLL(None)
+
+
+def _die_with_parent() -> None:
+    """Has the system end this child with the thread that started it, however that ends. (prctl(2))"""
+    _LIBC.prctl(_DIE_WITH_PARENT, signal.SIGKILL)
+
+
+def _kill(process: subprocess.Popen[bytes]) -> None:
+    """Ends a child process where it still runs."""
+    if process.poll() is None:
+        process.kill()
+        process.wait()
+
+
 class Program:
     """A child process with a pipe for its output, and one for its input where that is asked for. What it says on
-    standard error is kept."""
+    standard error is kept. It ends with this Python, or as soon as nothing names it any more."""
 
     def __init__(self, command: Sequence[str], has_input: bool) -> None:
         """Starts it.
@@ -34,13 +55,21 @@ class Program:
         self._told = tempfile.TemporaryFile()
         self._last_words = ""
         given = subprocess.PIPE if has_input else subprocess.DEVNULL
+        # a child would end with its thread, so of other threads than the first it has to be asked at the end
+        lasts = sys.platform == "linux" and threading.current_thread() is threading.main_thread()
         try:
             self.process = subprocess.Popen(
-                list(command), bufsize=0, stdin=given, stdout=subprocess.PIPE, stderr=self._told
+                list(command),
+                bufsize=0,
+                stdin=given,
+                stdout=subprocess.PIPE,
+                stderr=self._told,
+                preexec_fn=_die_with_parent if lasts else None,
             )
         except (OSError, ValueError) as fault:
             self._told.close()
             raise NotConnected("%s could not be started" % command[0]) from fault
+        weakref.finalize(self, _kill, self.process)
 
     @property
     def output(self) -> IO[bytes]:
@@ -71,8 +100,6 @@ class Program:
                 status = self.process.wait(patience)
             except subprocess.TimeoutExpired:
                 pass
-        if status is None:
-            self.process.kill()
-            self.process.wait()
+        _kill(self.process)
         self.told()
         self._told.close()

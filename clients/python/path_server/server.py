@@ -13,6 +13,7 @@ from .client import Client
 from .faults import ProgramEnded, TimedOut
 from .programs import Program, find_program
 
+_GRACE = 15.0  # seconds in which a server ends after a stop: open sessions have ten
 _TRIES = 5  # free ports that may be taken by another before the server has them
 _PORT_TAKEN = 5  # the program's status then
 
@@ -97,10 +98,11 @@ class Server:
             raise ValueError("the server has no port for followers")
         return Client.follow(self.feed, rounds, *options, program=program, timeout=timeout)
 
-    def stop(self, timeout: float = 10.0) -> Totals:
+    def stop(self, timeout: float = _GRACE) -> Totals:
         """Stops it, waits until its last session has ended, and reads what it says then.
 
-        TimedOut: it did not end in time, as where a session of one's own is still open, and is killed. ProgramEnded: it ended with another status than 0.
+        Sessions that are still open are cut off after ten seconds. TimedOut: it did not end in time, and is killed.
+        ProgramEnded: it ended with another status than 0.
         """
         try:
             with self.connect(timeout) as client:
@@ -110,7 +112,7 @@ class Server:
             raise
         return self.ended(timeout)
 
-    def ended(self, timeout: float = 10.0) -> Totals:
+    def ended(self, timeout: float = _GRACE) -> Totals:
         """Waits until it has ended by a stop, and reads what it says then."""
         try:
             text = self.process.communicate(timeout=timeout)[0].decode(errors="replace")

@@ -8,12 +8,14 @@ FILE is the program. Stand-ins answer with bytes that no server sends.
 
 from __future__ import annotations
 
+import asyncio
 import contextlib
 import io
 import math
 import os
 import signal
 import socket
+import subprocess
 import sys
 import tempfile
 import threading
@@ -26,6 +28,7 @@ sys.path.insert(0, os.path.dirname(os.path.dirname(os.path.abspath(__file__))))
 from path_server import (
     Accepted,
     BadReply,
+    Change,
     Client,
     ConnectionLost,
     Done,
@@ -57,11 +60,12 @@ from path_server import (
     Welcome,
     free_port,
 )
-from path_server import frames
+from path_server import aio, frames
 
 LEEWAY = 2.0  # seconds that an exception may come later than the time-out says, on a loaded machine
 ROW = ".@."
 HALL = "\n".join(["." * 60] * 40)
+WELCOME = bytes.fromhex("00000002 8D 02")
 
 
 @contextlib.contextmanager
@@ -83,8 +87,9 @@ def both_ways(rows: str, timeout: float = 10.0) -> Iterator[list[Client]]:
 
 
 @contextlib.contextmanager
-def stand_in(*answers: bytes, hang_up: bool = True) -> Iterator[int]:
-    """A port where a peer sends the next answer after each piece that it reads, and hangs up behind the last one."""
+def stand_in(*answers: bytes, hello: bytes = WELCOME, hang_up: bool = True) -> Iterator[int]:
+    """A port where a peer sends the next answer after each piece that it reads, the first one after its answer to a hello,
+    and hangs up after the last."""
     with socket.socket() as listener:
         listener.bind(("127.0.0.1", 0))
         listener.listen()
@@ -93,9 +98,9 @@ def stand_in(*answers: bytes, hang_up: bool = True) -> Iterator[int]:
         def peer() -> None:
             link, _ = listener.accept()
             with link, contextlib.suppress(OSError):
-                for answer in answers:
+                for number, answer in enumerate(answers):
                     link.recv(64)
-                    link.sendall(answer)
+                    link.sendall(answer if number else hello + answer)
                 if not hang_up:
                     over.wait(30)
 
@@ -109,7 +114,7 @@ def stand_in(*answers: bytes, hang_up: bool = True) -> Iterator[int]:
 @contextlib.contextmanager
 def slow_program() -> Iterator[str]:
     """A program that answers a status and a query after a second, and then nothing until its input ends."""
-    told = bytes.fromhex("00000019 89" + 24 * "00" + "00000005 82 00000000")
+    told = WELCOME + bytes.fromhex("00000019 89" + 24 * "00" + "00000005 82 00000000")
     text = "".join("\\%03o" % byte for byte in told)
     with tempfile.TemporaryDirectory() as folder:
         name = os.path.join(folder, "program")
@@ -138,11 +143,11 @@ class Sessions(Timed):
                 self.assertEqual(client.query((0, 0), (2, 0)), Unreachable(0))
                 self.assertEqual(client.query((3, 0), (1, 0)), Refused(0, Reason.OUTSIDE, End.START))
                 self.assertEqual(client.query((0, 0), (1, 0)), Refused(0, Reason.BLOCKED, End.GOAL))
-                self.assertEqual(client.query((0, 0), (0, 0)), Path(0, 0, 0, ()))
+                self.assertEqual(client.query((0, 0), (0, 0)), Path(0, 0, 0, b""))
                 self.assertEqual(client.change((0, 1), Terrain.LAND), EditRefused(EditFault.OUTSIDE))
                 self.assertEqual(client.change((1, 0), Terrain.LAND), Accepted(1))
                 self.assertEqual(client.wait_for(1), Status(1, 1, 3, 1, 4))
-                self.assertEqual(client.query((0, 0), (2, 0)), Path(1, 2, 0, (Move.E, Move.E)))
+                self.assertEqual(client.query((0, 0), (2, 0)), Path(1, 2, 0, bytes([Move.E, Move.E])))
                 self.assertEqual(client.build(), NothingNew(1))
                 self.assertEqual(client.bye(), Done())
                 self.assertRaises(SessionOver, client.status)
@@ -172,22 +177,25 @@ class Sessions(Timed):
                 client.bye()
 
     def test_a_hello_that_the_server_does_not_know(self) -> None:
-        answers = (bytes.fromhex("00000004 8B 07 0002 00000004 8B 02 0006"), bytes.fromhex("00000005 84 00000001"))
-        with stand_in(*answers) as port, Client.connect(port) as client:
+        refusals = bytes.fromhex("00000004 8B 07 0002"), bytes.fromhex("00000004 8B 02 0006")
+        accepted = bytes.fromhex("00000005 84 00000001")
+        with stand_in(refusals[1], accepted, hello=refusals[0]) as port, Client.connect(port) as client:
             with self.assertRaises(RequestRefused) as refused:
                 client.change((0, 0), Terrain.WATER)
             self.assertEqual((refused.exception.kind, refused.exception.length), (2, 6))
             self.assertFalse(client.hello())
+            self.assertRaises(NeedsHello, client.change, (0, 0), Terrain.WATER)
+            with self.assertRaises(NeedsHello):
+                client.edit([((0, 0), Terrain.LAND), ((1, 0), Terrain.LAND)])
             self.assertEqual(client.change((0, 0), Terrain.LAND), Accepted(1))
 
-    def test_no_hello(self) -> None:
-        with map_file("...") as name, Client.talk(name) as client:
-            self.assertEqual(client.status().version, 0)
-            self.assertFalse(client.hello())
-            with self.assertRaisesRegex(NeedsHello, r"hello\(\)"):
-                client.edit([((0, 0), Terrain.LAND), ((1, 0), Terrain.LAND)])
-            self.assertRaises(NeedsHello, client.change, (0, 0), Terrain.WATER)
-            self.assertEqual(client.edit([((0, 0), Terrain.BLOCKED)]), Accepted(1))
+    def test_edits_of_several_cells_at_any_time(self) -> None:
+        ends = [((0, 0), Terrain.BLOCKED), ((2, 0), Terrain.WATER)]
+        with both_ways("...") as clients:
+            for client in clients:
+                client.query((0, 0), (2, 0))
+                self.assertEqual(client.edit(ends), Accepted(1))
+                self.assertTrue(client.hello())
 
     def test_build(self) -> None:
         with map_file(ROW) as name, Client.talk(name) as client:
@@ -200,7 +208,8 @@ class Sessions(Timed):
             for client in clients:
                 path = client.query((0, 0), (1, 1))
                 assert isinstance(path, Path)
-                self.assertEqual((path.straight, path.diagonal, path.length), (0, 1, "1.414213"))
+                self.assertEqual((path.straight, path.diagonal, path.exact_length), (0, 1, "1.414213"))
+                self.assertEqual((path.moves, path.length), ((Move.SE,), 2**0.5))
                 self.assertEqual(path.cells((0, 0)), [(0, 0), (1, 1)])
 
     def test_a_thousand_in_flight(self) -> None:
@@ -211,6 +220,36 @@ class Sessions(Timed):
                     path = pending.result()
                     assert isinstance(path, Path)
                     self.assertEqual(path.cells((0, 0))[-1], (number % 60, number % 40))
+
+    def test_threads_that_share_a_session(self) -> None:
+        def ask(client: Client, row: int, wrong: list[object]) -> None:
+            for column in range(60):
+                path = client.query((0, row), (column, row))
+                if not isinstance(path, Path) or path.cells((0, row))[-1] != (column, row):
+                    wrong.append(path)
+
+        with both_ways(HALL) as clients:
+            for client in clients:
+                wrong: list[object] = []
+                threads = [threading.Thread(target=ask, args=(client, row, wrong)) for row in range(16)]
+                for thread in threads:
+                    thread.start()
+                for thread in threads:
+                    thread.join(30)
+                self.assertEqual(wrong, [])
+
+    def test_a_thread_waits_no_longer_than_it_says(self) -> None:
+        with stand_in(hang_up=False) as port, Client.connect(port, timeout=5) as client:
+            first = threading.Thread(target=lambda: self.assertRaises(PathServerError, client.status), daemon=True)
+            first.start()
+            while not client._waiting:
+                time.sleep(0.01)
+            with self.within(0.2), self.assertRaises(TimedOut):
+                client.status(timeout=0.2)
+            with self.within(0):
+                client.close()
+            first.join(LEEWAY)
+            self.assertFalse(first.is_alive())
 
     def test_more_in_flight_than_pipes_hold(self) -> None:
         # neither the requests nor the replies fit into pipes
@@ -234,6 +273,13 @@ class Sessions(Timed):
                     client.wait_for(1, timeout=0.2)
                 self.assertEqual(client.status().version, 0)
 
+    def test_cells_that_are_none(self) -> None:
+        with map_file(ROW) as name, Client.talk(name) as client:
+            for cell in ((2.0, 0), (0, 0, 0), "ab", None):
+                with self.assertRaisesRegex(TypeError, "^goal is a column and a row, two whole numbers, and not "):
+                    client.query((0, 0), cell)  # type: ignore[arg-type]
+            self.assertEqual(client.query((0, 0), (2, 0)), Unreachable(0))
+
     def test_numbers_that_fit_no_frame(self) -> None:
         with both_ways(ROW) as clients:
             for client in clients:
@@ -247,11 +293,26 @@ class Sessions(Timed):
             for count in (0, 65):
                 with self.assertRaisesRegex(ValueError, "^an edit has 1 to 64 changes, not %d$" % count):
                     client.edit([one] * count)
-            with self.assertRaisesRegex(ValueError, r"Change\(cell=\(0, 65536\), [^()]*\)$"):
+            with self.assertRaisesRegex(ValueError, r"^cell \(0, 65536\): columns and rows are from 0 to 65535$"):
                 client.edit([one, ((0, 65_536), Terrain.LAND)])
             with self.assertRaisesRegex(TypeError, "one of Terrain, not 5"):
                 client.change((1, 0), 5)  # type: ignore[arg-type]  # what untyped code may do
             self.assertEqual(client.change(*one), Accepted(1))
+
+    def test_stop_beside_an_open_session(self) -> None:
+        with map_file(ROW) as name, Server(name) as server, server.connect() as client:
+            client.status()
+            self.assertEqual(server.stop().version, 0)
+
+    def test_a_server_ends_with_its_parent(self) -> None:
+        folder = os.path.dirname(os.path.dirname(os.path.abspath(__file__)))
+        begin = "import os, sys; sys.path.insert(0, %r); from path_server import Server; server = Server(%r, port=%d)"
+        for how, end in {"at its end": "", "killed": "; os.kill(os.getpid(), 9)"}.items():
+            with self.subTest(how), map_file(ROW) as name:
+                port = free_port()
+                subprocess.run([sys.executable, "-c", begin % (folder, name, port) + end], check=False)
+                time.sleep(0.2)
+                self.assertRaises(NotConnected, Client.connect, port)
 
     def test_stop(self) -> None:
         with map_file(ROW) as name, Server(name) as server:
@@ -260,6 +321,68 @@ class Sessions(Timed):
                 client.wait_for(1)
             self.assertEqual(server.stop().version, 1)
             self.assertRaises(NotConnected, server.connect)
+
+
+class Asyncio(Timed):
+    """The same calls over asyncio."""
+
+    def test_each_call(self) -> None:
+        async def session(port: int) -> None:
+            async with await aio.Client.connect(port) as client:
+                self.assertEqual(await client.query((0, 0), (2, 0)), Unreachable(0))
+                self.assertTrue(await client.hello())
+                self.assertEqual(await client.edit([((1, 0), Terrain.LAND), ((0, 0), Terrain.LAND)]), Accepted(1))
+                self.assertEqual(await client.change((0, 0), Terrain.WATER), Accepted(2))
+                self.assertEqual((await client.wait_for(2)).version, 2)
+                self.assertEqual(await client.build(), NothingNew(2))
+                self.assertEqual(await client.bye(), Done())
+                with self.assertRaises(SessionOver):
+                    await client.status()
+
+        with map_file(ROW) as name, Server(name) as server:
+            asyncio.run(session(server.port))
+
+    def test_many_in_flight(self) -> None:
+        async def session(port: int) -> None:
+            async with await aio.Client.connect(port) as client:
+                goals = [(column, row) for row in range(40) for column in range(60)]
+                answers = await asyncio.gather(*(client.query((0, 0), goal) for goal in goals))
+                for goal, answer in zip(goals, answers):
+                    assert isinstance(answer, Path)
+                    self.assertEqual(answer.cells((0, 0))[-1], goal)
+
+        with map_file(HALL) as name, Server(name) as server:
+            asyncio.run(session(server.port))
+
+    def test_faults(self) -> None:
+        async def late(port: int) -> None:
+            async with await aio.Client.connect(port, timeout=0.2) as client:
+                with self.within(0.2), self.assertRaises(TimedOut):
+                    await client.status()
+
+        async def lost(port: int) -> None:
+            async with await aio.Client.connect(port) as client:
+                with self.assertRaises(ConnectionLost):
+                    await asyncio.gather(client.status(), client.status())
+                with self.assertRaises(SessionOver):
+                    await client.status()
+
+        async def nonsense(port: int) -> None:
+            async with await aio.Client.connect(port) as client:
+                with self.assertRaises(BadReply):
+                    await client.status()
+
+        async def nobody(port: int) -> None:
+            with self.assertRaises(NotConnected):
+                await aio.Client.connect(port, timeout=1)
+
+        with stand_in(hang_up=False) as port:
+            asyncio.run(late(port))
+        with stand_in(b"") as port:
+            asyncio.run(lost(port))
+        with stand_in(b"HTTP/1.1 400 Bad Request\r\n\r\n", hang_up=False) as port:
+            asyncio.run(nonsense(port))
+        asyncio.run(nobody(free_port()))
 
 
 class Faults(Timed):
@@ -274,6 +397,22 @@ class Faults(Timed):
             with self.assertRaises(SessionOver) as over:
                 client.status()
             self.assertIsInstance(over.exception.__cause__, ConnectionLost)
+
+    def test_a_connection_that_is_made_again(self) -> None:
+        with map_file(ROW) as name, Server(name) as first:
+            with Client.connect(first.port, reconnect=True) as client:
+                self.assertEqual(client.change((1, 0), Terrain.LAND), Accepted(1))
+                os.kill(first.process.pid, signal.SIGSTOP)
+                lost = client.send_query((0, 0), (2, 0))
+                first.kill()
+                with self.assertRaises(ConnectionLost):
+                    lost.result()
+                with self.assertRaises(NotConnected):
+                    client.status()
+                with Server(name, port=first.port):
+                    self.assertEqual(client.status().accepted, 0)
+                    self.assertEqual(client.connections, 2)
+                    self.assertRaises(SessionOver, lost.result)
 
     def test_a_program_that_is_killed(self) -> None:
         with map_file(ROW) as name, Client.talk(name) as client:
@@ -314,7 +453,7 @@ class Faults(Timed):
         with stand_in(hang_up=False) as port, Client.connect(port, timeout=0.3) as client:
             with self.assertRaises(TimedOut):
                 for _ in range(10**6):
-                    client.send(Query((0, 0), (0, 0)))
+                    client.send(Edit(64 * (Change((0, 0), Terrain.LAND),)))
 
     def test_a_server_without_a_free_door(self) -> None:
         with map_file(ROW) as name, Server(name, doors=1) as server, server.connect() as first:
@@ -390,21 +529,26 @@ class Faults(Timed):
 
 
 class Readme(unittest.TestCase):
-    def test_its_example(self) -> None:
+    """README.md: its examples, one after the other, at the top of the repository."""
+
+    def test_its_examples(self) -> None:
         folder = os.path.dirname(os.path.dirname(os.path.abspath(__file__)))
         with open(os.path.join(folder, "README.md"), encoding="utf-8") as file:
-            code = file.read().split("```python\n")[1].split("```")[0]
+            examples = [part.split("```")[0] for part in file.read().split("```python\n")[1:]]
         place = os.getcwd()
         os.chdir(os.path.join(folder, "../.."))
+        said = []
         try:
-            with contextlib.redirect_stdout(io.StringIO()) as out:
-                exec(code, {})
+            for code in examples:
+                with contextlib.redirect_stdout(io.StringIO()) as out:
+                    exec(code, {})
+                said.append(out.getvalue().splitlines())
         finally:
             os.chdir(place)
-        lines = out.getvalue().splitlines()
-        self.assertEqual(lines[0], "26 12 42.970562")
-        self.assertEqual(lines[1], "Status(version=1, accepted=1, cells=597, components=1, runs=21754)")
-        self.assertEqual(len(lines), 3 + 11)
+        first, second = said
+        self.assertTrue(first[0].startswith("26 12 42.970562"), first[0])
+        self.assertEqual(first[1], "Status(version=1, accepted=1, cells=597, components=1, runs=21754)")
+        self.assertEqual((len(first), len(second)), (3 + 11, 11))
 
 
 class Frames(unittest.TestCase):
@@ -436,7 +580,7 @@ class Frames(unittest.TestCase):
     def test_replies(self) -> None:
         told = bytes.fromhex("0000000582000000000000000F81000000010000000200000000020200")
         whole, rest = frames.split_replies(told)
-        self.assertEqual([frames.decoded(frame) for frame in whole], [Unreachable(0), Path(1, 2, 0, (Move.E, Move.E))])
+        self.assertEqual([frames.decoded(frame) for frame in whole], [Unreachable(0), Path(1, 2, 0, bytes([Move.E, Move.E]))])
         self.assertEqual(rest, b"\0")
         self.assertRaises(BadReply, frames.decoded, b"")
 
@@ -457,8 +601,8 @@ class Frames(unittest.TestCase):
                 self.assertRaises(BadReply, frames.decoded, bytes([kind]) + b"\1" * (other - 1))
 
     def test_lengths_are_cut_off(self) -> None:
-        self.assertEqual(Path(0, 26, 12, ()).length, "42.970562")
-        self.assertEqual(Path(0, 0, 32_767, ()).micro_length, math.isqrt(2 * 32_767**2 * 10**12))
+        self.assertEqual(Path(0, 26, 12, b"").exact_length, "42.970562")
+        self.assertEqual(Path(0, 0, 32_767, b"").micro_length, math.isqrt(2 * 32_767**2 * 10**12))
 
 
 if __name__ == "__main__":
