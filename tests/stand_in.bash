@@ -23,7 +23,10 @@ exec 7<. && flock 7
 name=$(basename "$PWD")
 echo "$name" >>"$CALLS"
 if [ -e broken ]; then echo "error: $name is broken"; exit 1; fi
-if [ -e out/unusable ]; then echo "rt: the kept work of $name cannot be used: remove $PWD/out .."; exit 1; fi
+if [ -e out/unusable ]; then
+  echo "rt: the kept work of $name cannot be used: remove $PWD/out, and run this again"
+  exit 1
+fi
 mkdir -p out
 sum=$(cat src/* ../low/src/* | sha256sum)
 if [ "$(cat out/stamp 2>/dev/null)" != "$sum" ] || { [ "$1" = run ] && [ ! -e "out/$name" ]; }; then
