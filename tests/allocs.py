@@ -1,19 +1,24 @@
-"""Want of memory: one request for memory after the other is refused, in sessions of `talk` and of `serve`, in `export` and
-in `verify`, in `follow`, and in `lead` with a feed (allocs.sh says what is right then, and runs it).
+#!/usr/bin/env python3
+"""Want of memory in the program: the N-th request for memory is refused, for N from 1 until a run meets no refusal, in
+a session of `talk` and in one of `serve`, with the room that they have and with none, in `export` and in `verify`, in
+`follow` and its session, and in `lead` with a feed; and then all requests from the N-th on. (allocs.c refuses)
 
-allocs.py PROGRAM LIBRARY MAP OPEN_MAP DATABASE, where LIBRARY is made of allocs.c, MAP is `.@.` and OPEN_MAP `...`.
-DATABASE is where the file of MAP's database may lie.
+Each run ends with status 7, or one reply tells of want of memory: that to a build or, without room, to an edit or a
+stop. All other replies are right for a board on which nothing came of it. A run that feels nothing of a single refusal
+did without that memory: a list grew by less, or was not cut to its size; a thread's work was done by another (only the
+threads that `serve` tries before it begins are felt: status 7). Where all that follow are refused too, only the last
+requests go unfelt, behind the last reply.
 """
-import os, socket, subprocess, sys, time
+import os, shutil, socket, subprocess, sys, tempfile, time
 
-import judging  # the way to the client
+from judging import ROW_MAP, TOP, Judge, program_here, skip
 from nodes import ONE_EDIT, ROW_START, FakeLeader
 from path_server import (Accepted, AskStatus, BadReply, Build, Bye, Change, ConnectionLost, Done, Move, NotConnected,
                          NothingNew, OutOfMemory, Path, Published, Query, Status, Stop, TcpLink, Terrain, Unreachable, free_port)
 from path_server.frames import decoded, encoded, split_replies
 
-program, library, row, open_map, database = sys.argv[1:]
-failed = 0
+program, row = program_here(), ROW_MAP
+judge = Judge()
 QUERY, CHANGE = Query((0, 0), (2, 0)), Change((1, 0), Terrain.LAND)
 TALK = [QUERY, CHANGE, QUERY, Build(), QUERY, AskStatus(), Bye()]
 NAMES = {Query: "query", Change: "change", Build: "build", AskStatus: "status", Bye: "bye", Stop: "stop"}
@@ -182,7 +187,13 @@ def lead(number, lasting, room):
         right = text + more in (b"out of memory\n", begun + b"out of memory\n", b"")
         return told, ["status 7"], not right and f"status 7 behind {text + more!r}"
     edits = 0 if replies[1:2] == [OutOfMemory()] else 1
-    felt = [name for name, is_felt in (("change", not edits), ("stop", stops[:1] == [OutOfMemory()]), ("feed", feed in (NO_MEMORY_FED, ROW_START + NO_MEMORY_FED)), ("no feed", feed == b"")) if is_felt]
+    refused = {
+        "change": not edits,
+        "stop": stops[:1] == [OutOfMemory()],
+        "feed": feed in (NO_MEMORY_FED, ROW_START + NO_MEMORY_FED),
+        "no feed": feed == b"",
+    }
+    felt = [name for name, is_felt in refused.items() if is_felt]
     wrong = (
         status != 0
         or replies != [Path(0, 2, 0, EAST_TWICE), Accepted(1) if edits else OutOfMemory(), Done()]
@@ -201,7 +212,6 @@ def prints(number, lasting, words):
 
 def refuse_each(run, lasting, room, allowed):
     """Refuses one request after the other, and says what came of it. Nothing but what is allowed may."""
-    global failed
     name = " ".join([run.__name__, *room, *["lasting" for _ in range(lasting)]])
     seen, unfelt = set(), False
     # `serve` tries whether the threads are there that its door and its builder need, and does not begin with fewer
@@ -215,8 +225,7 @@ def refuse_each(run, lasting, room, allowed):
         if not wrong and (not told or len(felt) > 1 or set(felt) - allowed or tried < 0 or (lasting and felt and unfelt)):
             wrong = f"refused: {told!r}, and felt: {felt}"
         if wrong:
-            failed = 1
-            print(f"allocs.sh: {name}, request {number}: {wrong}", file=sys.stderr)
+            judge.fail(f"{name}, request {number}: {wrong}")
             if not told:
                 break
         seen.update(felt)
@@ -226,16 +235,21 @@ def refuse_each(run, lasting, room, allowed):
 def try_all(run, lasting, room, allowed):
     """The same, and all that is allowed does come. The threads of `serve` ask for memory in no fixed order, so that a
     number may be another request each time: what did not come is looked for twice more."""
-    global failed
     seen = set()
     for _ in range(3):
         name, more = refuse_each(run, lasting, room, allowed)
         seen |= more
         if seen == allowed:
             return
-    failed = 1
-    print(f"allocs.sh: {name}: felt {sorted(seen)}, and not {sorted(allowed)}", file=sys.stderr)
+    judge(f"{name}, what is felt", sorted(seen), sorted(allowed))
 
+if not shutil.which("gcc"):
+    skip("there is no gcc")
+folder = tempfile.TemporaryDirectory()
+library, open_map, database = (os.path.join(folder.name, name) for name in ("allocs.so", "open.map", "row.db"))
+subprocess.run(["gcc", "-shared", "-fPIC", "-O2", "-o", library, os.path.join(TOP, "tests/allocs.c")], check=True)
+with open(open_map, "w") as file:
+    file.write("type octile\nheight 1\nwidth 3\nmap\n...\n")
 port, feed_port = free_port(), free_port()
 whole = {"export": subprocess.run([program, "export", row], capture_output=True, check=True).stdout}
 with open(database, "wb") as file:
@@ -251,4 +265,4 @@ for lasting in (False, True):
     try_all(lead, lasting, [], {"status 7"} if lasting else {"status 7", "feed", "no feed"})
 # nothing but its end would end a server that has no memory for a stop
 try_all(serve, False, ["--room", "0"], {"status 7", "stop"})
-sys.exit(failed)
+sys.exit(judge.failed)

@@ -1,20 +1,20 @@
+#!/usr/bin/env python3
 """`path_bake` beside a plain model, a reader of images and the main program: images of made maps of land and water, and
 of those of this repository, have the words of the model in both orders and by any number of workers; a path read from
 one is what `path` prints, word for word; and where something is wrong the status and the line are those of `export`.
 
-bake.py PROGRAM BAKE [QUERIES], where QUERIES paths are asked of each map in each order, 10 where it is not given;
-bake.sh runs it.
+    tests/bake.py [QUERIES], where QUERIES paths are asked of each map in each order, 10 where it is not given
 """
 import glob, os, random, re, resource, signal, struct, subprocess, sys, tempfile
 
 from map_model import Map, made_map, rows_of, text_of
 from images import Image, words_of
-from judging import TOP, Judge
+from judging import TOP, Judge, bake_here, program_here
 from terminal import CLEARED, Terminal
 
-program, bake = sys.argv[1:3]
-queries = int(sys.argv[3]) if len(sys.argv) > 3 else 10
-judge = Judge("bake.sh")
+program, bake = program_here(), bake_here()
+queries = int(sys.argv[1]) if len(sys.argv) > 1 else 10
+judge = Judge()
 ORDERS = ["rows", "dfs"]
 USAGE = "usage: path_bake MAP [--order rows|dfs] [--workers N]\n"
 PIECE = 4096  # how many bytes are put at once

@@ -1,16 +1,15 @@
+#!/usr/bin/env python3
 """One build at a time: clients that each change a cell and ask for a build, all at once, at a server whose builder is
 woken by each change. No build is overtaken, the server says of each version what it built, and processor time and memory
 stay near those of one build. Prints only where something is not as it should be; with `--show` what was measured too.
-
-builds.py PROGRAM; builds.sh runs it.
 """
 import collections, os, random, re, subprocess, sys, tempfile, threading, time
 
-from judging import Judge
+from judging import Judge, program_here
 from path_server import Client, NothingNew, Published, Terrain, free_port
 
-program, shows = sys.argv[1], "--show" in sys.argv
-judge = Judge("builds.sh")
+program, shows = program_here(), "--show" in sys.argv
+judge = Judge()
 CLIENTS, SIDE, SEED = 6, 64, 5
 TICKS = os.sysconf("SC_CLK_TCK")
 

@@ -1,18 +1,19 @@
+#!/usr/bin/env python3
 """`export` and `verify` beside a plain model: files of made maps of land and water in both orders are those of the model
 byte for byte, each is accepted, and of each file that was spoilt, by a bit, a word, a run, a row, a cut or bytes more,
 `verify` names the first fault that the model names; it accepts none but the file of a map. Prints only where something
 is not as it should be.
 
-db.py PROGRAM [COUNT], where COUNT files are spoilt, 1,500 where it is not given; db.sh runs it.
+    tests/db.py [COUNT], where COUNT files are spoilt, 1,500 where it is not given
 """
 import os, random, struct, subprocess, sys, tempfile
 
 from db_model import fields, file_of, head_bytes, row_bytes, wanted
-from judging import Judge
+from judging import Judge, program_here
 from map_model import Map, made_map, rows_of, text_of
 
-program, count = sys.argv[1], int(sys.argv[2]) if len(sys.argv) > 2 else 1500
-judge = Judge("db.sh")
+program, count = program_here(), int(sys.argv[1]) if len(sys.argv) > 1 else 1500
+judge = Judge()
 
 
 # ---- files that are spoilt

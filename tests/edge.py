@@ -1,15 +1,19 @@
+#!/usr/bin/env python3
 """The program beside peers that are slow or silent, at its end, and where the system gives little.
 
-edge.py PROGRAM MAP SERVE [--long], where MAP is `.@.` and SERVE deploy/serve; edge.sh runs it.
+    tests/edge.py [--long]
+
+The times that docs/FORMATS.md states, who is refused after a stop, words for the operator, and deploy/serve. It takes
+some 45 seconds, and two minutes more with --long.
 """
 import os, re, resource, select, signal, socket, subprocess, sys, tempfile, threading, time
 
-from judging import Judge
+from judging import ROW_MAP, TOP, Judge, program_here
 from path_server import AskStatus, Bye, Change, Query, Server, Stop, Terrain, free_port
 from path_server.frames import encoded
 
-program, row, serve = sys.argv[1:4]
-judge = Judge("edge.sh")
+program, row, serve = program_here(), ROW_MAP, f"{TOP}/deploy/serve"
+judge = Judge()
 STATUS, BYE, STOP, DONE = encoded(AskStatus()), encoded(Bye()), encoded(Stop()), b"\0\0\0\1\x8a"
 FRAME_TIME, REPLY_TIME, CLOSING_TIME, ANSWER_TIME = 10, 30, 10, 120  # as docs/FORMATS.md states them, in seconds
 LEEWAY = 5  # seconds that a loaded machine may take beyond them

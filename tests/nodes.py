@@ -1,7 +1,7 @@
 #!/usr/bin/env python3
 """Tries `path_server lead` and `path_server follow` from outside, over TCP.
 
-    tests/nodes.py PROGRAM [--seconds N] [--clients N] [--side K] [--seed S] [--speed]
+    tests/nodes.py [--seconds N] [--clients N] [--side K] [--seed S] [--speed]
 
 First what a leader sends and what a follower makes of what it gets, byte by byte: each end of a feed, each status. Then
 clients edit a leader for some seconds. Beside them followers come one after the other, some ask often and some once;
@@ -21,10 +21,8 @@ import tempfile
 import threading
 import time
 
-HERE = os.path.dirname(os.path.abspath(__file__))
-sys.path.insert(0, os.path.join(HERE, "..", "clients", "python"))
-
-from path_server import (  # noqa: E402
+from judging import program_here
+from path_server import (
     Accepted,
     Change,
     Client,
@@ -35,7 +33,7 @@ from path_server import (  # noqa: E402
     Terrain,
     free_port,
 )
-from path_server.frames import encoded  # noqa: E402
+from path_server.frames import encoded
 
 PATIENCE = 60  # seconds that an answer may take
 ASK_TIME = 10  # seconds in which an ask that was begun has to be whole
@@ -445,13 +443,12 @@ def tell_speed(options, program, folder):
 
 def main():
     parser = argparse.ArgumentParser(description=__doc__.split("\n", maxsplit=1)[0])
-    parser.add_argument("program")
     parser.add_argument("--seconds", type=float, default=8)
     for name, default in (("clients", 8), ("side", 40), ("seed", 1)):
         parser.add_argument("--" + name, type=int, default=default)
     parser.add_argument("--speed", action="store_true")
     options = parser.parse_args()
-    program = os.path.abspath(options.program)
+    program = program_here()
     with tempfile.TemporaryDirectory() as folder:
         try:
             try_follow(program)

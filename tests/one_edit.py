@@ -1,7 +1,7 @@
 #!/usr/bin/env python3
 """Compares versions after one edit, whose rows come from the version before, with the same map built anew.
 
-    tests/one_edit.py PROGRAM [--edits N] [--every K] [--seed S]
+    tests/one_edit.py [--edits N] [--every K] [--seed S]
 
 On ten maps of some 300 to 9,000 cells so many edits are made one after the other, in a session of `talk` and, by fewer
 edits on the smaller maps, by `replay`, which builds row by row: cells are blocked and freed, mostly one at a time, now and
@@ -16,8 +16,9 @@ import subprocess
 import sys
 import tempfile
 
-HERE = os.path.dirname(os.path.abspath(__file__))
-sys.path[:0] = [os.path.join(HERE, "..", "clients", "python"), os.path.join(HERE, "..", "bench")]
+from judging import TOP, program_here
+
+sys.path.insert(0, os.path.join(TOP, "bench"))
 
 from maps import drawn  # noqa: E402
 from path_server import Accepted, Client, Path, Published, Terrain, Unreachable  # noqa: E402
@@ -164,20 +165,19 @@ def try_replay(program, made, options, folder):
 
 def main():
     parser = argparse.ArgumentParser(description=__doc__.split("\n", maxsplit=1)[0])
-    parser.add_argument("program")
     parser.add_argument("--edits", type=int, default=30)
     parser.add_argument("--every", type=int, default=5)
     parser.add_argument("--seed", type=int, default=1)
     options = parser.parse_args()
-    failed = 0
+    program, failed = program_here(), 0
     for kind, side in KINDS:
         rng = random.Random("%d %s %d" % (options.seed, kind, side))
         made = Made(kind, side, rng)
         with tempfile.TemporaryDirectory() as folder:
             try:
-                try_session(options.program, made, options, folder)
+                try_session(program, made, options, folder)
                 if len(made.cells()) <= REPLAYED:
-                    try_replay(options.program, made, options, folder)
+                    try_replay(program, made, options, folder)
             except Different as fault:
                 failed = 1
                 print("one_edit.py: %s of %d: %s" % (kind, side, fault), file=sys.stderr)

@@ -5,8 +5,8 @@ page says with `path` on the edited map; then the other layers, a second page, a
     tests/page.py [--pictures FOLDER]
 
 It needs `chromium` and `chromedriver` (Debian: chromium, chromium-driver), takes some ten seconds, and is skipped where
-they are not there. --pictures keeps three pictures of the page. Status: 0 all is as it should be, or it was skipped;
-1 something is not, and it is printed.
+they are not there. --pictures keeps three pictures of the page. Status: 0 all is as it should be; 77 it was skipped; 1
+something is not, and it is printed.
 """
 
 import argparse
@@ -23,14 +23,14 @@ import time
 import urllib.error
 import urllib.request
 
-from judging import TOP, Judge, program_here
+from judging import TOP, Judge, program_here, skip
 from path_server import free_port
 
 sys.path.insert(0, os.path.join(TOP, "tools"))
 from path_tools.grids import read_grid
 from path_tools.searches import stored_moves
 
-judge = Judge("page.py")
+judge = Judge()
 PATIENCE = 15  # seconds
 MAP = os.path.join(TOP, "maps/tutorial.map")
 DOOR, START, GOAL = (20, 9), (2, 2), (25, 11)
@@ -239,8 +239,7 @@ def main():
     parser.add_argument("--pictures", metavar="FOLDER")
     pictures = parser.parse_args().pictures
     if not (shutil.which("chromedriver") and shutil.which("chromium")):
-        print("page.py: skipped, there is no chromium with chromedriver", file=sys.stderr)
-        return 0
+        skip("there is no chromium with chromedriver")
     demo, address = start_demo()
     browser = Browser()
     try:

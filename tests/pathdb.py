@@ -1,9 +1,9 @@
 #!/usr/bin/env python3
 """The library for C beside the program: on random maps in both orders each path of the library, the sample in Python
 between, is word for word what `path_server path` prints; images in parts are those of one call, and those that
-`path_bake` puts, where it is named; and what the calls say of faulty maps, rooms, parts and images.
+`path_bake` puts; and what the calls say of faulty maps, rooms, parts and images.
 
-    tests/pathdb.py LIBRARY PROGRAM [--bake PROGRAM] [--maps N] [--queries N] [--seed S]
+    tests/pathdb.py [--maps N] [--queries N] [--seed S]
 
 Prints what differs, and the status is 1 then.
 """
@@ -18,12 +18,12 @@ import sys
 import tempfile
 from ctypes import byref, c_size_t, c_uint8, c_uint32
 
-from judging import TOP, Judge
+from judging import TOP, Judge, bake_here, library_here, program_here
 from paths import length_of
 from replay import WATER, cells_of, map_text
 
 ORDERS = ("rows", "dfs")
-judge = Judge("pathdb.py")
+judge = Judge()
 
 
 def sample():
@@ -69,7 +69,7 @@ def walk_by_steps(library, image, start, goal, most):
     return moves
 
 
-def compare_maps(library, program, options):
+def compare_maps(library, program, bake, options):
     rng = random.Random(options.seed)
     with tempfile.TemporaryDirectory() as folder:
         name = os.path.join(folder, "m.map")
@@ -84,9 +84,8 @@ def compare_maps(library, program, options):
                 library.check(image)
                 plan = (width, height, bytes_of(width, height, cells))
                 compare_parts(library, f"map {number} {order_name}", plan, order, list(image))
-                if options.bake:
-                    put = subprocess.run([options.bake, name, "--order", order_name], stdout=subprocess.PIPE).stdout
-                    judge(f"path_bake of map {number} {order_name}", put, struct.pack(f"<{len(image)}I", *image))
+                put = subprocess.run([bake, name, "--order", order_name], stdout=subprocess.PIPE).stdout
+                judge(f"path_bake of map {number} {order_name}", put, struct.pack(f"<{len(image)}I", *image))
                 for _ in range(options.queries):
                     start = (rng.randint(0, width), rng.randint(0, height))
                     goal = (rng.randint(0, width), rng.randint(0, height))
@@ -268,16 +267,13 @@ def with_parts(library, image):
 
 def main():
     parser = argparse.ArgumentParser(description=__doc__.split("\n")[0])
-    parser.add_argument("library")
-    parser.add_argument("program")
-    parser.add_argument("--bake")
     parser.add_argument("--maps", type=int, default=20)
     parser.add_argument("--queries", type=int, default=20)
     parser.add_argument("--seed", type=int, default=1)
     options = parser.parse_args()
-    library = ctypes_path.Pathdb(options.library)
+    library = ctypes_path.Pathdb(library_here().removesuffix("a") + "so")
     faults(library)
-    compare_maps(library, options.program, options)
+    compare_maps(library, program_here(), bake_here(), options)
     return judge.failed
 
 

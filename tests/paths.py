@@ -1,7 +1,7 @@
 #!/usr/bin/env python3
 """Compares `path_server path` and `check` with a plain model, over random maps.
 
-    tests/paths.py [--maps N] [--seed S] [--side K] [--program FILE]
+    tests/paths.py [--maps N] [--seed S] [--side K]
 
 Maps have land and water, and at most K by K cells (9 where no other side is given). The model is that of replay.py: it
 shares nothing with the program. Of each map all four lines of `check` are compared, and of some queries, ends outside
@@ -62,12 +62,11 @@ def answer_of(program, words):
 
 def main():
     parser = argparse.ArgumentParser(description=__doc__.split("\n")[0])
-    parser.add_argument("--maps", type=int, default=300)
+    parser.add_argument("--maps", type=int, default=200)
     parser.add_argument("--seed", type=int, default=1)
     parser.add_argument("--side", type=int, default=9)
-    parser.add_argument("--program", default=program_here())
     options = parser.parse_args()
-    rng, answers, differing = random.Random(options.seed), 0, 0
+    program, rng, answers, differing = program_here(), random.Random(options.seed), 0, 0
     with tempfile.TemporaryDirectory() as folder:
         name = os.path.join(folder, "m.map")
         for _ in range(options.maps):
@@ -84,7 +83,7 @@ def main():
                 words = ["path", name] + [str(number) for number in start + goal] + build
                 asked.append((words, path_wanted(version, start, goal)))
             for words, wanted in asked:
-                answers, found = answers + 1, answer_of(options.program, words)
+                answers, found = answers + 1, answer_of(program, words)
                 if found != wanted:
                     differing += 1
                     if differing <= 3:

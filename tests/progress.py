@@ -1,15 +1,14 @@
+#!/usr/bin/env python3
 """How far a build is, on standard error: at a terminal, in a pipe, and as the environment says.
-
-progress.py PROGRAM MAP, where MAP is `.@.`; progress.sh runs it.
 """
 import os, re, subprocess, sys, tempfile, time
 
-from judging import Judge
+from judging import ROW_MAP, Judge, program_here
 from path_server import Client, free_port
 from terminal import CLEARED, Terminal
 
-program, row = sys.argv[1:3]
-judge = Judge("progress.sh")
+program, row = program_here(), ROW_MAP
+judge = Judge()
 MADE = ("made", "120", "120", "5")  # some seconds
 ROWS = 11540  # of that map
 LONGER = ("made", "150", "150", "5")

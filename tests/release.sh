@@ -7,7 +7,7 @@
 set -u
 # shellcheck source=tests/stand_in.bash
 . "$(dirname -- "${BASH_SOURCE[0]}")/stand_in.bash" || exit 1
-command -v git >/dev/null || { echo "release.sh: not tried, for there is no command git"; exit 0; }
+command -v git >/dev/null || { echo "there is no git"; exit 77; }
 other=$room/elsewhere/other
 export GIT_CONFIG_GLOBAL=/dev/null GIT_CONFIG_SYSTEM=/dev/null
 export GIT_AUTHOR_NAME=one GIT_AUTHOR_EMAIL=one@localhost GIT_COMMITTER_NAME=one GIT_COMMITTER_EMAIL=one@localhost
@@ -34,7 +34,7 @@ fresh_commit() {
     rm -rf "$other"
     mkdir -p "$repo/.ci" "$repo/tests"
     cp -- "$top/.ci/run" "$repo/.ci"
-    printf '#!/bin/sh\n' >"$repo/tests/none.sh" && chmod 755 "$repo/tests/none.sh"
+    printf '%s\n' '#!/bin/sh' 'echo tried' "exit \${TESTS_END-0}" >"$repo/tests/run" && chmod 755 "$repo/tests/run"
     printf 'out/\n' >"$repo/.gitignore"
     printf '# Changes\n\n## %s\n\n- All.\n' "$1" >"$repo/CHANGELOG.md"
     in_repo init
@@ -69,6 +69,12 @@ fresh_commit 0.2.0
 state "none yet: verify says so" && prints 3 "release: there is none yet" "$repo/release/verify"
 state "none yet: the gate goes on" && prints 0 "" "$repo/.ci/run"
 state "none yet: the gate says so" && said "release: there is none yet"
+state "the gate runs the tests" && said tried
+state "the gate, where a test fails" && prints 1 "" env TESTS_END=1 "$repo/.ci/run"
+state "the gate without rt: a status of its own" && prints 69 "" "${without_rt[@]}" "$repo/.ci/run"
+state "the gate without rt: it says what is needed" && said "the Rattle toolchain is needed"
+state "the gate without rt runs the tests" && said tried
+state "the gate without rt, where a test fails" && prints 1 "" "${without_rt[@]}" TESTS_END=1 "$repo/.ci/run"
 state "none yet: the launcher builds" && prints 0 "one<x>" "$repo/path_server" x
 
 state "made" && prints 0 "" "$repo/release/make"

@@ -1,7 +1,7 @@
 #!/usr/bin/env python3
 """Compares `path_server replay` with a plain model, over random lists of events on small maps.
 
-    tests/replay.py [--lists N] [--seed S] [--side K] [--program FILE]
+    tests/replay.py [--lists N] [--seed S] [--side K]
 
 Each list has at most 40 events, of a few passes, on a map of land and water of at most K by K cells (5 where no other
 side is given). The model shares nothing with the program: a map is the letter of each passable cell, each version is
@@ -373,9 +373,8 @@ def main():
     parser.add_argument("--lists", type=int, default=3000)
     parser.add_argument("--seed", type=int, default=1)
     parser.add_argument("--side", type=int, default=5)
-    parser.add_argument("--program", default=program_here())
     options = parser.parse_args()
-    rng, differing, seen = random.Random(options.seed), 0, {}
+    program, rng, differing, seen = program_here(), random.Random(options.seed), 0, {}
     with tempfile.TemporaryDirectory() as folder:
         map_file, events_file = os.path.join(folder, "m.map"), os.path.join(folder, "m.events")
         for turn in range(options.lists):
@@ -385,7 +384,7 @@ def main():
                 file.write(map_text(width, height, cells))
             with open(events_file, "w", newline="") as file:
                 file.write(text)
-            words = [options.program, "replay", map_file, events_file, "--order", order, "--workers", str(workers)]
+            words = [program, "replay", map_file, events_file, "--order", order, "--workers", str(workers)]
             ran = subprocess.run(words, stdout=subprocess.PIPE, stderr=subprocess.DEVNULL)
             found = (ran.returncode, ran.stdout.decode())
             wanted = expected(width, height, cells, order, text)
@@ -399,7 +398,7 @@ def main():
                     for want, got in zip(wanted[1].splitlines(), found[1].splitlines()):
                         print(("  " if want == got else "! ") + want + ("" if want == got else " | " + got))
                     print("status %d, wanted %d" % (found[0], wanted[0]))
-        if not is_full_list_right(options.program, folder):
+        if not is_full_list_right(program, folder):
             differing += 1
             print("the list of %d edits and one more differs" % MAX_EDITS)
     for kind in sorted(seen):

@@ -1,17 +1,16 @@
+#!/usr/bin/env python3
 """The program as a server and as its client, over real connections on this machine: two doors that answer side by
 side, each request and each printed answer of `ask`, peers that lie or hang up, a port that is taken, and a server that
 is started again at once. Prints only where something is not as it should be.
-
-serve.py PROGRAM MAP, where MAP is `.@.`; serve.sh runs it.
 """
 import random, socket, subprocess, sys, threading, time
 
-from judging import Judge
+from judging import ROW_MAP, Judge, program_here
 from path_server import AskStatus, Bye, PathServerError, Query, Server, Stop, TcpLink, Totals, free_port
 from path_server.frames import encoded
 
-program, row = sys.argv[1:]
-judge = Judge("serve.sh")
+program, row = program_here(), ROW_MAP
+judge = Judge()
 PATIENCE = 10  # seconds that a reply may take
 
 def serve(map_file, port, doors, *options):

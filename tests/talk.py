@@ -1,17 +1,16 @@
+#!/usr/bin/env python3
 """Sessions of the program over real pipes: each reply is read before the next frame is written, the input ends
 inside a frame or with a length that no frame has, and random bytes come in. Prints only where something is not as it
 should be.
-
-talk.py PROGRAM MAP, where MAP is `.@.`; talk.sh runs it.
 """
 import os, random, subprocess, sys, time
 
-from judging import Judge
+from judging import ROW_MAP, Judge, program_here
 from path_server import ChildLink, PathServerError
 from path_server.frames import decoded, framed, split_replies
 
-program, row = sys.argv[1:]
-judge = Judge("talk.sh")
+program, row = program_here(), ROW_MAP
+judge = Judge()
 
 def start(*words):
     return ChildLink([program, "talk", *words])

@@ -1,12 +1,11 @@
+#!/usr/bin/env python3
 """The tools beside the program: `tools/draw` and `tools/scenarios` over made maps and lists of scenarios. Prints only
 where something is not as it should be.
-
-tools.py PROGRAM; tools.sh runs it.
 """
 import contextlib, csv, io, math, os, random, runpy, subprocess, sys, tempfile
 from xml.etree import ElementTree
 
-from judging import TOP, Judge
+from judging import TOP, Judge, program_here
 
 sys.path.insert(0, os.path.join(TOP, "tools"))
 from path_tools.grids import Grid, read_grid
@@ -15,8 +14,8 @@ from path_tools.problems import Problem
 from path_tools.scenario_runs import fault_of, fault_of_answer
 from path_server import Move, Path, Unreachable
 
-program = sys.argv[1]
-judge = Judge("tools.sh")
+program = program_here()
+judge = Judge()
 SETS = 20
 
 

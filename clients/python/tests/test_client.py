@@ -102,7 +102,7 @@ def stand_in(*answers: bytes, hello: bytes = WELCOME, hang_up: bool = True) -> I
                     link.recv(64)
                     link.sendall(answer if number else hello + answer)
                 if not hang_up:
-                    over.wait(30)
+                    over.wait(300)
 
         thread = threading.Thread(target=peer, daemon=True)
         thread.start()
@@ -606,4 +606,4 @@ class Frames(unittest.TestCase):
 
 
 if __name__ == "__main__":
-    unittest.main()
+    unittest.main(warnings="error")

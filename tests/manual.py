@@ -1,11 +1,10 @@
-"""What bash makes of a line in which the tabulator is pressed, with the completion of path_server read. Prints only
-where something is not as it should be.
-
-complete.py FILE; manual.sh runs it.
+#!/usr/bin/env python3
+"""Each shell that is here reads its completion, and bash completes by it what is typed at a terminal. The man pages and
+the completions are what tools/manual makes of the program that was built; the release may be older than they are.
 """
-import os, subprocess, sys, tempfile
+import os, shutil, subprocess, sys, tempfile
 
-from judging import Judge
+from judging import TOP, Judge, program_here
 from terminal import Terminal
 
 FILES = "my map.map", "4000.map", "other.scen"
@@ -52,12 +51,20 @@ def typed(completion, folder):
     return terminal.text().splitlines()
 
 
-judge = Judge("manual.sh")
+judge = Judge()
+completions = os.path.join(TOP, "docs/completions")
+for shell, name in (("bash", "path_server.bash"), ("zsh", "_path_server"), ("fish", "path_server.fish")):
+    if shutil.which(shell):
+        judge(f"{shell} reads {name}", subprocess.call([shell, "-n", os.path.join(completions, name)]), 0)
 with tempfile.TemporaryDirectory() as folder:
     for name in FILES:
         open(os.path.join(folder, name), "w").close()
-    lines = [line[5:] for line in typed(os.path.abspath(sys.argv[1]), folder) if line.startswith("told ")]
+    put = typed(os.path.join(completions, "path_server.bash"), folder)
+lines = [line[5:] for line in put if line.startswith("told ")]
 judge("how many lines", len(lines), len(TYPED))
 for (keys, wanted), line in zip(TYPED, lines):
     judge("bash, %r" % keys, line, wanted)
+program = program_here()
+if program != os.path.join(TOP, "release/path_server"):
+    judge("tools/manual", subprocess.call([os.path.join(TOP, "tools/manual"), "--check", program]), 0)
 sys.exit(judge.failed)

@@ -1,0 +1,51 @@
+#!/usr/bin/env python3
+"""What other programs find wrong in the scripts of this repository: nothing.
+
+    tests/linters.py shellcheck    over the shell scripts
+    tests/linters.py mypy          over clients/python, tools/ and demo, as mypy --strict
+"""
+import os, shutil, subprocess, sys, tempfile
+
+from judging import SKIPPED, TOP
+
+# A script that is sourced has no line '#!', and shares names with the one that sources it.
+SOURCED = ["--shell=bash", "--exclude=SC2034,SC2154"]
+
+
+def files():
+    """The files of the repository, with the first line of each."""
+    for folder, folders, names in os.walk("."):
+        folders[:] = sorted(set(folders) - {".git", "out", "build", "__pycache__"})
+        for name in sorted(names):
+            path = os.path.normpath(os.path.join(folder, name))
+            with open(path, "rb") as file:
+                yield path, file.readline(200)
+
+
+def shellcheck():
+    scripts = [path for path, line in files() if line.startswith(b"#!") and b"bash" in line]
+    sourced = [path for path, line in files() if path.endswith((".sh", ".bash")) and path not in scripts]
+    own = [path for path in sourced if not path.startswith("docs/completions/")]
+    return max(subprocess.call(["shellcheck", "--external-sources", *scripts]),
+               subprocess.call(["shellcheck", "--external-sources", *SOURCED, *own]))
+
+
+def mypy():
+    tools = [path for path, line in files() if line.startswith(b"#!") and b"python3" in line
+             and (path == "demo" or path.startswith("tools/"))]
+    os.environ["MYPYPATH"] = "clients/python:tools"
+    with tempfile.TemporaryDirectory() as cache:
+        return subprocess.call(["mypy", "--strict", "--scripts-are-modules", "--cache-dir", cache, "--no-error-summary",
+                                *tools, "tools/path_tools", "clients/python/path_server", "clients/python/tests"])
+
+
+def main(name):
+    os.chdir(TOP)
+    if not shutil.which(name):
+        print(f"there is no {name}")
+        return SKIPPED
+    return {"shellcheck": shellcheck, "mypy": mypy}[name]()
+
+
+if __name__ == "__main__":
+    sys.exit(main(sys.argv[1]))
