@@ -2,7 +2,7 @@
 """What other programs find wrong in the scripts of this repository: nothing.
 
     tests/linters.py shellcheck    over the shell scripts
-    tests/linters.py mypy          over clients/python, tools/ and demo, as mypy --strict
+    tests/linters.py mypy          over clients/, tools/ and demo, as mypy --strict
 """
 import os, shutil, subprocess, sys, tempfile
 
@@ -33,10 +33,11 @@ def shellcheck():
 def mypy():
     tools = [path for path, line in files() if line.startswith(b"#!") and b"python3" in line
              and (path == "demo" or path.startswith("tools/"))]
-    os.environ["MYPYPATH"] = "clients/python:tools"
+    os.environ["MYPYPATH"] = "clients/python:clients/pathdb:tools"
     with tempfile.TemporaryDirectory() as cache:
         return subprocess.call(["mypy", "--strict", "--scripts-are-modules", "--cache-dir", cache, "--no-error-summary",
-                                *tools, "tools/path_tools", "clients/python/path_server", "clients/python/tests"])
+                                *tools, "tools/path_tools", "clients/python/make_wheel.py", "clients/python/path_server", "clients/python/tests",
+                                "clients/pathdb/pathdb", "clients/pathdb/tests"])
 
 
 def main(name):

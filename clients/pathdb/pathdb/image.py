@@ -3,6 +3,7 @@
 from __future__ import annotations
 
 import ctypes
+import importlib
 import mmap
 import os
 import sys
@@ -10,16 +11,13 @@ import threading
 from array import array
 from ctypes import byref, c_uint8, c_uint32
 from enum import IntEnum
-from typing import TYPE_CHECKING, Any, Callable, Iterable, List, NamedTuple, Optional, Sequence, Tuple, Union
+from typing import Any, Callable, Iterable, List, NamedTuple, Optional, Sequence, Tuple, Union
 
 from . import _library as lib
 
-if TYPE_CHECKING:
-    import numpy
-
-    Numbers = Union[numpy.ndarray[Any, Any], "array[int]", "array[float]"]
-
 Cell = Tuple[int, int]
+Numbers = Any
+"""An array of numpy, or an `array.array` where numpy is not installed."""
 
 ROOT = 2**0.5
 NO_MOVE = 255
@@ -367,7 +365,7 @@ def _why(status: int, told: lib.BakedOfC) -> str:
 def _shaped(kind: str, data: bytes, shape: Tuple[int, int]) -> Numbers:
     """The numbers in these bytes, as an array of numpy of that shape, or as an `array` where numpy is not installed."""
     try:
-        import numpy
+        numpy = importlib.import_module("numpy")
     except ImportError:
         return array(kind, data)
     return numpy.frombuffer(data, dtype={"B": "uint8", "d": "float64"}[kind]).reshape(shape)
