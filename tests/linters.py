@@ -34,10 +34,11 @@ def mypy():
     tools = [path for path, line in files() if line.startswith(b"#!") and b"python3" in line
              and (path == "demo" or path.startswith("tools/"))]
     os.environ["MYPYPATH"] = "clients/python:clients/pathdb:tools"
+    clients = [f"clients/{name}" for name in ("python/make_wheel.py", "python/path_server", "python/tests",
+                                              "pathdb/pathdb", "pathdb/tests")]
     with tempfile.TemporaryDirectory() as cache:
         return subprocess.call(["mypy", "--strict", "--scripts-are-modules", "--cache-dir", cache, "--no-error-summary",
-                                *tools, "tools/path_tools", "clients/python/make_wheel.py", "clients/python/path_server", "clients/python/tests",
-                                "clients/pathdb/pathdb", "clients/pathdb/tests"])
+                                *tools, "tools/path_tools", *clients])
 
 
 def main(name):
