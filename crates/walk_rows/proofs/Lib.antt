@@ -5,6 +5,8 @@ pub mod Reaching
 pub mod Listing
 pub mod Existing
 pub mod Keeping
+pub mod Home
+pub mod Descending
+pub mod Finding
 pub mod Walking
-pub mod Options
 pub mod Lent

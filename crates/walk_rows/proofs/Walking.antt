@@ -1,87 +1,74 @@
 -- A walk under way: what was spelled so far, and what the rows spell from where it stands.
 use Rattle.std.proofs.Common.{◌≡◌, ◌≢◌, ℕ, ◌+◌, ◌<◌, ◌≤◌, false, List, [], ◌∷◌, ◌++◌, length, Contains, refl, sym, ap, subst, ◌∙◌, arith}
-use Rattle.std.proofs.lemmas.List.{append_assoc, append-nil, length_push, length-append}
-use Rattle.std.specs.List.Sorted.{IsPermutation}
+use Rattle.std.proofs.lemmas.List.{append_assoc, append-nil, length-append}
 use Rattle.std.proofs.lemmas.Bool.{false≢true}
 use Rattle.std.proofs.lemmas.List.Elements.{All-contains}
-use Rattle.std.proofs.lemmas.List.Sorted.{Contains-permutation, IsPermutation-sym}
-use Rattle.run_pack.specs.declared.Run.{Run}
+use Rattle.std.proofs.lemmas.List.Sorted.{Contains-permutation}
 use Rattle.moves.specs.declared.Cell.{Cell}
 use Rattle.moves.specs.declared.Move.{Move}
-use Rattle.moves.specs.Maps.{Map, IsPassable}
-use Rattle.moves.specs.Moves.{IsTarget, IsLegal}
+use Rattle.moves.specs.declared.TheConstants.{MAX_PASSABLE}
+use Rattle.moves.specs.Maps.{Map, IsInside, IsPassable, IsSearchable}
+use Rattle.moves.specs.Moves.{IsTarget}
 use Rattle.moves.specs.Paths.{Reaches}
-use Rattle.moves.specs.Components.{IsComponent, IsComponentList}
-use Rattle.cell_order.specs.declared.OrderKind.{OrderKind}
-use Rattle.cell_order.specs.Orders.{ordered}
-use Rattle.components.specs.Groups.{IsLabelOf}
-use Rattle.row_store.specs.Rows.{AreRows}
+use Rattle.moves.proofs.LawsOfPaths.{leads_from}
+use Rattle.moves.proofs.MoveLaws.{same_target}
 use Rattle.row_store.specs.Comps.{Comp}
-use Rattle.build_pool.specs.Places.{AreComponent, AreSources, CanBeBuilt}
-use Rattle.build_pool.proofs.Connecting.{sources_in_order}
+use Rattle.build_pool.specs.Places.{AreComponent, AreSources}
 use Rattle.versions.specs.Spelled.{Spells}
 use Rattle.versions.specs.Databases.{IsDatabase, comp_at, component_at}
 use Rattle.versions.specs.Answers.{IsSpelled, IsWalk}
-use Rattle.versions.proofs.Determined.{same_components}
-use Rattle.versions.proofs.Walking.{kept_is_first, walk}
-use Rattle.versions.proofs.BestWalks.{best_walk, spelled_once}
-use Rattle.moves.proofs.LawsOfPaths.{best_parts}
-use Rattle.moves.proofs.MoveLaws.{same_target}
+use Rattle.versions.proofs.Walking.{walk}
+use Rattle.versions.proofs.BestWalks.{best_walk, component_of, kept_cells, spelled_once}
+use Rattle.versions.proofs.Homes.{few_moves}
+use Rattle.walk_rows.specs.declared.along.Route.{Route}
 use Rattle.walk_rows.specs.declared.bench.Workbench.{Workbench}
-use Rattle.walk_rows.specs.Walks.{CanBeWalked, IsHomeOf, IsKeptOver, IsReady, SpellsOver}
-use Rattle.walk_rows.proofs.Existing.{rows_exist}
+use Rattle.walk_rows.specs.Existing.{IsWhole}
+use Rattle.walk_rows.specs.Walks.{IsHome, IsKeptOver, IsReady, IsUnderWay, SpellsIn}
+use Rattle.walk_rows.proofs.Descending.{LeadsOn}
+use Rattle.walk_rows.proofs.Existing.{databases_exist}
+use Rattle.walk_rows.proofs.Home.{among, goal_among, one_home}
 
--- the moves so far lead to a cell, and with those that are spelled from there they are spelled from the start
-pub record IsUnderWay (cells : List Cell) (start goal at : Cell) (moves : List Move) (count : ℕ) : Type 0 where
-  pub here : Contains cells at
-  pub long : length moves ≡ count
-  pub goes_on : (rows : List (List Run)) → AreRows cells rows → (rest : List Move) → Spells cells rows at rest goal → Spells cells rows start (moves ++ rest) goal
+pub under_way_begun : (map : Map) (route : Route) (moves : List Move) → moves ≡ [] → Reaches map route.start route.goal → IsUnderWay map route route.start moves
+under_way_begun map route moves none reach =
+    rw none (record { leaves = reach; ahead = reach; goes_on = λ cells home rows are rest spelled. spelled })
 
-pub under_way_none : (cells : List Cell) (start goal : Cell) (moves : List Move) → moves ≡ [] → Contains cells start → IsUnderWay cells start goal start moves 0
-under_way_none cells start goal moves none here =
-    rw none (record { here = here; long = refl; goes_on = λ rows are rest spelled. spelled })
-
-module _ (cells : List Cell) (p : AreSources cells) (start goal at : Cell) (moves : List Move) (count : ℕ) (way : IsUnderWay cells start goal at moves count) where
-  -- a move that is kept begins a best path, and so it is legal
-  pub target_of : at ≢ goal → (move : Move) → IsKeptOver cells at goal move → (next : Cell) × IsTarget at move next × Contains cells next
-  target_of apart move kept =
-      let rows = rows_exist cells p in
-      let best = kept_is_first cells rows.0 rows.1 at goal move apart (kept rows.0 rows.1) in
-      let parts = best_parts rows.1.map at goal (move ∷ []) best.0 best.1 in
-      let step = parts.1.leads in
-      let legal : IsLegal rows.1.map at move step.0 = step.1 in
-      (step.0, legal.target, (rows.1.just.just_these step.0).0 legal.enters.passable)
-
-  pub under_way_more : at ≢ goal → (move : Move) → IsKeptOver cells at goal move → (next : Cell) → IsTarget at move next → Contains cells next
-      → IsUnderWay cells start goal next (moves ++ move ∷ []) (count + 1)
-  under_way_more apart move kept next target inside = record {
-    here = inside;
-    long = (let more = length_push moves move in let long = way.long in omega arith);
-    goes_on = λ rows are rest spelled.
-        subst (λ ms. Spells cells rows start ms goal) (sym (append_assoc moves (move ∷ []) rest))
-        (way.goes_on rows are (move ∷ rest) (apart, kept rows are, next, target, spelled));
+module _ (map : Map) (route : Route) (at : Cell) (moves : List Move) (way : IsUnderWay map route at moves) where
+  under_way_more : at ≢ route.goal → (move : Move) → ((cells : List Cell) → IsHome map route cells → IsKeptOver cells at route.goal move)
+      → (next : Cell) → IsTarget at move next → Reaches map next route.goal → IsUnderWay map route next (moves ++ move ∷ [])
+  under_way_more apart move kept next target ahead = record {
+    leaves = way.leaves;
+    ahead = ahead;
+    goes_on = λ cells home rows are rest spelled.
+        subst (λ ms. Spells cells rows route.start ms route.goal) (sym (append_assoc moves (move ∷ []) rest))
+        (way.goes_on cells home rows are (move ∷ rest) (apart, kept cells home rows are, next, target, spelled));
   }
 
-  pub under_way_next : at ≢ goal → (move : Move) → IsKeptOver cells at goal move → (next : Cell) → IsTarget at move next
-      → IsUnderWay cells start goal next (moves ++ move ∷ []) (count + 1)
-  under_way_next apart move kept next target =
-      let known = target_of apart move kept in
-      under_way_more apart move kept next target (subst (Contains cells) (same_target at move known.0 next known.1 target) known.2)
+  pub under_way_next : at ≢ route.goal → (move : Move) → ((cells : List Cell) → IsHome map route cells → IsKeptOver cells at route.goal move)
+      → LeadsOn map route.goal at move → (next : Cell) → IsTarget at move next → IsUnderWay map route next (moves ++ move ∷ [])
+  under_way_next apart move kept on next target =
+      under_way_more apart move kept next target (subst (λ c. Reaches map c route.goal) (same_target at move on.next next on.legal.target target) on.ahead)
+
+  -- where a path goes on from is inside
+  pub inside_way : IsInside map at
+  inside_way = (leads_from map at route.goal way.ahead.0 way.ahead.1).inside
 
   -- the goal is reached
-  pub under_way_done : at ≡ goal → SpellsOver cells start moves goal
-  under_way_done same = λ rows are. subst (λ ms. Spells cells rows start ms goal) (append-nil moves) (way.goes_on rows are [] same)
+  pub under_way_done : at ≡ route.goal → SpellsIn map route moves
+  under_way_done same = λ cells home rows are.
+      subst (λ ms. Spells cells rows route.start ms route.goal) (append-nil moves) (way.goes_on cells home rows are [] same)
 
   -- no walk has as many moves as there are cells
-  pub too_long : Contains cells start → Contains cells goal → AreSources cells → length cells ≤ count → SpellsOver cells start moves goal
-  too_long leaves arrives sources many = λ rows are.
-      let rest = walk cells rows are at goal way.here arrives in
-      let whole = walk cells rows are start goal leaves arrives in
-      let same = spelled_once cells rows are sources.numbered.once start goal (moves ++ rest.moves) whole.moves (way.goes_on rows are rest.moves rest.spelled) whole.spelled in
-      let size = ap length same in
+  pub too_long : (all : List Cell) → IsHome map route all → AreSources all → length all ≤ length moves → SpellsIn map route moves
+  too_long all its sources many = λ cells home rows are.
+      let same = one_home map route all its cells home in
+      let rest = walk cells rows are at route.goal (among map route cells home at way.ahead) (goal_among map route cells home) in
+      let whole = walk cells rows are route.start route.goal (among map route cells home route.start way.leaves) (goal_among map route cells home) in
+      let once = (subst AreSources same sources).numbered.once in
+      let spelled = spelled_once cells rows are once route.start route.goal (moves ++ rest.moves) whole.moves (way.goes_on cells home rows are rest.moves rest.spelled) whole.spelled in
+      let size = ap length spelled in
       let both = length-append moves rest.moves in
       let short = whole.short in
-      let long = way.long in
+      let all_long = ap length same in
       absurd (omega arith)
 
 -- a cell among those of a component is passable
@@ -100,58 +87,31 @@ ready_kept cells old new p tiles rows wanted = record {
   rows = λ has. rw tiles (p.rows (sym rows ∙ has));
 }
 
--- so the spelled moves are fewer than the cells
-pub spelled_short : (cells : List Cell) (p : AreSources cells) (start goal : Cell) (moves : List Move) → Contains cells start → Contains cells goal → SpellsOver cells start moves goal
-    → length moves < length cells
-spelled_short cells p start goal moves leaves arrives spells =
-    let rows = rows_exist cells p in
-    let whole = walk cells rows.0 rows.1 start goal leaves arrives in
-    let same = spelled_once cells rows.0 rows.1 p.numbered.once start goal moves whole.moves (spells rows.0 rows.1) whole.spelled in
-    subst (λ ms. length ms < length cells) (sym same) whole.short
-
 -- ---- the walk of the map's database
 
-module _ (map : Map) (labels : List (List Cell)) (listed : IsComponentList map labels) where
-  -- cells that a path joins have one label
-  pub joined_label : (start goal : Cell) (label : ℕ) → IsLabelOf labels start label → Reaches map start goal → IsLabelOf labels goal label
-  joined_label start goal label begins reach =
-      let component = listed.each label [] begins.below in
-      record { below = begins.below; has = (component.whole start goal begins.has).1 reach }
+module _ (map : Map) (route : Route) (moves : List Move) (spells : SpellsIn map route moves) (reach : Reaches map route.start route.goal) where
+  pub walk_is : (comps : List Comp) → IsDatabase map route.order comps → IsWalk map comps route.start route.goal moves
+  walk_is comps database =
+      let best = best_walk map route.order comps database route.start route.goal reach in
+      let its = best.1.spelled in
+      let comp : Comp = comp_at comps its.label in
+      let as_kept = database.each its.label its.within in
+      let home : IsHome map route comp.cells = record {
+        component = component_at database.components its.label;
+        is = component_of map route.order comps database its.label its.within;
+        arrives = kept_cells map route.order comps database its.label its.within route.goal its.arrives;
+        kept = as_kept.cells;
+      } in
+      let ours : IsSpelled comps route.start route.goal moves = record {
+        label = its.label;
+        within = its.within;
+        leaves = its.leaves;
+        arrives = its.arrives;
+        spelled = spells comp.cells home comp.rows as_kept.whole.rows;
+      } in
+      subst (IsWalk map comps route.start route.goal) (sym (best.1.only moves ours)) best.1
 
-  module _ (order : OrderKind) (start goal : Cell) (component : List Cell) (home : IsHomeOf labels start goal component) where
-    home_is : IsComponent map component
-    home_is = subst (IsComponent map) home.is (listed.each home.label [] home.within)
-
-    -- its cells in an order have what a walk needs
-    module _ (cells : List Cell) (same : IsPermutation cells component) where
-      pub can_be_walked : CanBeBuilt component → CanBeWalked map cells
-      can_be_walked can = record {
-        sources = sources_in_order component cells (record { same = same; can = can });
-        component = record { component = component; is = home_is; order = same };
-      }
-
-      pub leaves_in_order : Contains cells start
-      leaves_in_order = Contains-permutation component cells start (IsPermutation-sym cells component same) home.leaves
-
-      pub arrives_in_order : Contains cells goal
-      arrives_in_order = Contains-permutation component cells goal (IsPermutation-sym cells component same) home.arrives
-
-    module _ (cells : List Cell) (kept : cells ≡ ordered order component) (leaves : Contains cells start) (arrives : Contains cells goal)
-        (moves : List Move) (spells : SpellsOver cells start moves goal) where
-      pub walk_is : (comps : List Comp) → IsDatabase map order comps → IsWalk map comps start goal moves
-      walk_is comps database =
-          let same = same_components map labels database.components listed database.listed in
-          let within : home.label < length comps = (let size = ap length same in let whole = database.whole in let less = home.within in omega arith) in
-          let comp : Comp = comp_at comps home.label in
-          let as_kept = database.each home.label within in
-          let component_is : component_at database.components home.label ≡ component = ap (λ ls. component_at ls home.label) (sym same) ∙ home.is in
-          let cells_are : cells ≡ comp.cells = kept ∙ ap (ordered order) (sym component_is) ∙ sym as_kept.cells in
-          let spelled : IsSpelled comps start goal moves = record {
-            label = home.label;
-            within = within;
-            leaves = subst (λ cs. Contains cs start) cells_are leaves;
-            arrives = subst (λ cs. Contains cs goal) cells_are arrives;
-            spelled = subst (λ cs. SpellsOver cs start moves goal) cells_are spells comp.rows as_kept.whole.rows;
-          } in
-          let best = best_walk map order comps database start goal ((home_is.whole start goal home.leaves).0 home.arrives) in
-          subst (IsWalk map comps start goal) (sym (best.1.only moves spelled)) best.1
+  pub walk_is_short : IsWhole map → IsSearchable map → length moves < MAX_PASSABLE
+  walk_is_short whole searchable =
+      let database = databases_exist map route.order whole searchable in
+      few_moves map route.order database.0 database.1 route.start route.goal moves (walk_is database.0 database.1)

@@ -1,21 +1,26 @@
 -- The walk between two cells of a map, from the rows of the cells on it.
-use Rattle.std.specs.Prelude.{◌≡◌, ℕ, ◌<◌, true, List, length, codes, slice_index, Option, MatchOption, Vec, Contains}
+use Rattle.std.specs.Prelude.{◌≡◌, ℕ, ◌+◌, ◌<◌, ◌++◌, true, List, length, codes, slice_index, Option, MatchOption, Vec, Contains}
 use Rattle.std.specs.Global.{Global}
 use Rattle.moves.specs.declared.Cell.{Cell}
 use Rattle.moves.specs.declared.Move.{Move}
 use Rattle.moves.specs.Maps.{Map}
+use Rattle.moves.specs.Moves.{IsLegal}
 use Rattle.moves.specs.Paths.{Reaches}
+use Rattle.moves.specs.Components.{IsComponent}
 use Rattle.cell_order.specs.declared.OrderKind.{OrderKind}
+use Rattle.cell_order.specs.Orders.{ordered}
+use Rattle.grid_search.specs.Keys.{key_at, move_key}
 use Rattle.run_pack.specs.declared.Run.{Run}
 use Rattle.row_store.specs.Rows.{AreRows}
 use Rattle.row_store.specs.Comps.{Comp, IsPlaceOf}
 use Rattle.versions.specs.Spelled.{IsKept, Spells}
-use Rattle.versions.specs.Databases.{IsDatabase, component_at}
+use Rattle.versions.specs.Databases.{IsDatabase}
 use Rattle.versions.specs.Queries.{IsRefusal, refusal_text}
 use Rattle.versions.specs.Answers.{IsWalk}
 use Rattle.build_pool.specs.Places.{AreComponent, AreSources}
 use Rattle.build_pool.specs.Pieces.{ArePackedOver, AreWordsOver}
 use Rattle.lane_rows.specs.Tiles.{Tile}
+use Rattle.walk_rows.specs.declared.along.Route.{Route}
 use Rattle.walk_rows.specs.declared.bench.Workbench.{Workbench}
 use Rattle.walk_rows.specs.declared.WalkError.{WalkError}
 use Rattle.walk_rows.specs.declared.WalkError.TheVariants.{Refused, NoMemory}
@@ -36,17 +41,12 @@ abbrev pub IsWalkCause : Map → Cell → Cell → WalkError → Type 0
 IsWalkCause map start goal (Refused why) = IsRefusal map start goal why
 IsWalkCause map start goal NoMemory = Unit {0}
 
--- no path leads from the one cell to the other
-abbrev pub LieApart : Map → Cell → Cell → Type 0
-LieApart map start goal = Reaches map start goal → ⊥
-
--- the cells of the component that has both cells
-pub record IsHomeOf (components : List (List Cell)) (start goal : Cell) (cells : List Cell) : Type 0 where
-  pub label : ℕ
-  pub within : label < length components
-  pub is : component_at components label ≡ cells
-  pub leaves : Contains cells start
-  pub arrives : Contains cells goal
+-- the cells of the component that has the goal, as the map's database in that order has them
+pub record IsHome (map : Map) (route : Route) (cells : List Cell) : Type 0 where
+  pub component : List Cell
+  pub is : IsComponent map component
+  pub arrives : Contains component route.goal
+  pub kept : cells ≡ ordered route.order component
 
 -- cells in some order that are a component of the map, and whose rows can be built
 pub record CanBeWalked (map : Map) (cells : List Cell) : Type 0 where
@@ -60,6 +60,28 @@ SpellsOver cells start moves goal = (rows : List (List Run)) → AreRows cells r
 -- the move is kept for the goal in the row of a cell
 abbrev pub IsKeptOver : List Cell → Cell → Cell → Move → Type 0
 IsKeptOver cells from goal move = (rows : List (List Run)) → AreRows cells rows → IsKept cells rows from goal move
+
+-- these moves are spelled by the rows of the component that has the goal
+abbrev pub SpellsIn : Map → Route → List Move → Type 0
+SpellsIn map route moves = (cells : List Cell) → IsHome map route cells → SpellsOver cells route.start moves route.goal
+
+-- The moves so far lead to a cell from which a path goes on to the goal, and with those that are spelled from there they
+-- are spelled from the start.
+pub record IsUnderWay (map : Map) (route : Route) (at : Cell) (moves : List Move) : Type 0 where
+  pub leaves : Reaches map route.start route.goal
+  pub ahead : Reaches map at route.goal
+  pub goes_on : (cells : List Cell) → IsHome map route cells → (rows : List (List Run)) → AreRows cells rows
+      → (rest : List Move) → Spells cells rows at rest route.goal → Spells cells rows route.start (moves ++ rest) route.goal
+
+-- a move comes down a legal step where the cell at its end has a key that is less by just this step
+pub record ComesDown (map : Map) (keys : List ℕ) (from : Cell) (move : Move) : Type 0 where
+  pub next : Cell
+  pub legal : IsLegal map from move next
+  pub down : key_at map.width keys next + move_key move ≡ key_at map.width keys from
+
+-- the move alone may come down from the cell
+abbrev pub IsAlone : Map → List ℕ → Cell → Move → Type 0
+IsAlone map keys from move = (other : Move) → ComesDown map keys from other → other ≡ move
 
 -- the words of the row from that cell
 pub record AreWordsFrom (cells : List Cell) (from : Cell) (words : List ℕ) : Type 0 where

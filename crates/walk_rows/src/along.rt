@@ -1,55 +1,131 @@
-//! A walk, move by move, from the rows of the cells on it.
+//! A walk, move by move. Where the costs to the goal leave one move by which a best path may go on, the row of the cell
+//! can keep no other. Only for the cells where they leave several are rows built.
 
-ghost use Rattle.std.specs.Prelude.{◌≡◌, ◌<◌, ◌↔◌, Contains, IfOk, IsTrue, OnOk, length};
+ghost use Rattle.std.specs.Prelude.{◌≡◌, ◌<◌, ◌≤◌, ◌↔◌, [], ◌∷◌, ◌++◌, IfOk, IsTrue, OnOk, length};
+ghost use Rattle.moves.specs.declared.Cell.{Cell};
 ghost use Rattle.moves.specs.Maps.{IsSearchable};
-ghost use Rattle.moves.specs.FirstSetLists.{cell_of};
-ghost use Rattle.row_store.specs.Comps.{IsPlaceOf};
-ghost use Rattle.build_pool.specs.Places.{AreSources, AreWithNear};
-ghost use Rattle.walk_rows.specs.Walks.{AreWordsFrom, CanBeWalked, IsKeptOver, IsReady, SpellsOver};
+ghost use Rattle.moves.specs.Moves.{HasLegal, IsTarget};
+ghost use Rattle.moves.specs.Paths.{Reaches};
+ghost use Rattle.grid_search.specs.Searches.{HasSearched};
+ghost use Rattle.walk_rows.specs.Walks.{CanBeWalked, IsHome, IsUnderWay, SpellsIn};
 
 use crate::bench::Workbench;
-use build_pool::PlainSearch;
+use crate::component::component_of;
+use crate::forced::forced_move;
+use crate::kept::{next_move, place_of};
+use cell_order::OrderKind;
+use grid_search::Search;
 use lane_rows::Near;
-use moves::{Cell, Grid, Move};
-use run_pack::{append_words, find_word_move};
+use moves::{Cell, Grid, MAX_PASSABLE, Move};
 use std::alloc::{AllocError, Global};
 
-/// The moves that the rows of the cells spell from one of them to another.
+/// The walk that is asked for.
+#[derive(Clone, Copy)]
+pub(crate) struct Route {
+    /// The order of the database that spells it.
+    pub(crate) order: OrderKind,
+    pub(crate) start: Cell,
+    pub(crate) goal: Cell,
+}
+
+/// A walk under way: its moves so far, and where they lead.
+#[derive(Drop)]
+pub(crate) struct Trail {
+    moves: Vec<Move>,
+    at: Cell,
+}
+
+impl Trail {
+    /// Goes on by a move.
+    fn take(&mut self, grid: &Grid, by: Move) -> Result<(), AllocError>
+        requires { HasLegal grid.now self.old.at by }
+        ensures moves { OnOk result (self.new.moves.items ≡ self.old.moves.items ++ by ∷ []) }
+        ensures at { OnOk result (IsTarget self.old.at by self.new.at) }
+    {
+        // That the map lies inside the limits is known from its width.
+        let _ = grid.width();
+        self.moves.push(by)?;
+        self.at = self.at.target(by);
+        Ok(())
+    }
+}
+
+/// The moves of a walk, by the costs that were found from its goal.
 ///
 /// # Errors
 ///
 /// `AllocError` where memory runs out.
-pub(crate) fn walk_among(
+pub(crate) fn walk_down(
+    alloc: Global,
+    grid: &Grid,
+    search: &Search,
+    route: Route,
+) -> Result<Vec<Move>, AllocError>
+    requires searchable { IsSearchable grid.now }
+    requires searched { HasSearched grid.now route.goal search.now }
+    requires ahead { Reaches grid.now route.start route.goal }
+    ensures { IfOk result (λ moves. SpellsIn grid.now route moves.items) }
+{
+    let mut trail = Trail {
+        moves: Vec::new(alloc),
+        at: route.start,
+    };
+    go_on(grid, search, route, &mut trail)?;
+    if is_reached(trail.at, route.goal) {
+        return Ok(trail.moves);
+    }
+    let cells = component_of(alloc, grid, route)?;
+    walk_among(alloc, grid, &cells, search, route, trail)
+}
+
+/// Goes on while one move alone is left.
+fn go_on(grid: &Grid, search: &Search, route: Route, trail: &mut Trail) -> Result<(), AllocError>
+    requires searched { HasSearched grid.now route.goal search.now }
+    requires way { IsUnderWay grid.now route trail.old.at trail.old.moves.items }
+    ensures way { OnOk result (IsUnderWay grid.now route trail.new.at trail.new.moves.items) }
+    ensures long { OnOk result (length trail.old.moves.items ≤ length trail.new.moves.items) }
+{
+    for _ in 0..MAX_PASSABLE {
+        if is_reached(trail.at, route.goal) {
+            return Ok(());
+        }
+        match forced_move(grid, search, trail.at) {
+            None => return Ok(()),
+            Some(by) => trail.take(grid, by)?,
+        }
+    }
+    Ok(())
+}
+
+/// Ends a walk among the cells of its component, in their order.
+fn walk_among(
     alloc: Global,
     grid: &Grid,
     cells: &[Cell],
-    start: Cell,
-    goal: Cell,
+    search: &Search,
+    route: Route,
+    mut trail: Trail,
 ) -> Result<Vec<Move>, AllocError>
     requires searchable { IsSearchable grid.now }
+    requires searched { HasSearched grid.now route.goal search.now }
+    requires home { IsHome grid.now route cells.now }
     requires cells { CanBeWalked grid.now cells.now }
-    requires start { Contains cells.now start }
-    requires goal { Contains cells.now goal }
-    ensures { IfOk result (λ moves. SpellsOver cells.now start moves.items goal) }
+    requires way { IsUnderWay grid.now route trail.at trail.moves.items }
+    ensures { IfOk result (λ moves. SpellsIn grid.now route moves.items) }
 {
-    let mut moves = Vec::new(alloc);
-    if start == goal {
-        return Ok(moves);
-    }
-    let to = place_of(cells, goal);
+    let to = place_of(cells, route.goal);
     let near = Near::of(alloc, cells)?;
-    let mut bench = Workbench::new(alloc, grid, cells, goal)?;
-    let mut at = start;
+    let mut bench = Workbench::new(alloc, grid, search, cells)?;
     for _ in 0..cells.len() {
-        if is_reached(at, goal) {
-            return Ok(moves);
+        if is_reached(trail.at, route.goal) {
+            return Ok(trail.moves);
         }
-        let by = next_move(alloc, grid, cells, &near, &mut bench, at, to)?;
-        moves.push(by)?;
-        bench.learn(grid, at, by);
-        at = at.target(by);
+        let by = next_move(alloc, grid, cells, &near, &mut bench, trail.at, to)?;
+        bench.learn(trail.at, by);
+        trail.take(grid, by)?;
+        go_on(grid, search, route, &mut trail)?;
     }
-    Ok(moves)
+    Ok(trail.moves)
 }
 
 /// Whether the cell is the goal.
@@ -57,78 +133,4 @@ fn is_reached(at: Cell, goal: Cell) -> bool
     ensures { IsTrue result ↔ at ≡ goal }
 {
     at == goal
-}
-
-/// The move that is kept for the goal in the row of a cell: the row is at hand, or it is built with those of cells that
-/// may come after it.
-fn next_move(
-    alloc: Global,
-    grid: &Grid,
-    cells: &[Cell],
-    near: &Near,
-    bench: &mut Workbench,
-    at: Cell,
-    to: usize,
-) -> Result<Move, AllocError>
-    requires searchable { IsSearchable grid.now }
-    requires cells { CanBeWalked grid.now cells.now }
-    requires table { AreWithNear cells.now near.now }
-    requires ready { IsReady cells.now bench.old }
-    requires at { Contains cells.now at }
-    requires to { to < length cells.now }
-    ensures ready { OnOk result (IsReady cells.now bench.new) }
-    ensures kept { IfOk result (IsKeptOver cells.now at (cell_of cells.now to)) }
-{
-    if let Some(lane) = bench.lane_of(cells, at) {
-        return Ok(move_in(cells, at, bench.words(lane), to));
-    }
-    let place = place_of(cells, at);
-    bench.solve(grid, cells, near, place)?;
-    match bench.lane_of(cells, at) {
-        Some(lane) => Ok(move_in(cells, at, bench.words(lane), to)),
-        None => plain_move(alloc, grid, cells, place, to),
-    }
-}
-
-/// The place of one of the cells.
-fn place_of(cells: &[Cell], cell: Cell) -> usize
-    requires { Contains cells.now cell }
-    ensures { IsPlaceOf cells.now cell result }
-{
-    cells.iter().position(|other| *other == cell).unwrap()
-}
-
-/// The move that the words of the row of a cell keep for a place.
-fn move_in(cells: &[Cell], at: Cell, words: &[u32], to: usize) -> Move
-    requires sources { AreSources cells.now }
-    requires words { AreWordsFrom cells.now at words.now }
-    requires to { to < length cells.now }
-    ensures { IsKeptOver cells.now at (cell_of cells.now to) result }
-{
-    // The cells are here for the contract alone, and so is the one where the walk stands.
-    let _ = cells;
-    let _ = at;
-    let number = find_word_move(words, to as u32);
-    Move::of(number).unwrap_or_default()
-}
-
-/// The move that is kept for a place in the row of a cell, by a plain search from there.
-fn plain_move(
-    alloc: Global,
-    grid: &Grid,
-    cells: &[Cell],
-    place: usize,
-    to: usize,
-) -> Result<Move, AllocError>
-    requires searchable { IsSearchable grid.now }
-    requires cells { CanBeWalked grid.now cells.now }
-    requires place { place < length cells.now }
-    requires to { to < length cells.now }
-    ensures { IfOk result (IsKeptOver cells.now (cell_of cells.now place) (cell_of cells.now to)) }
-{
-    let mut plain = PlainSearch::over(alloc, grid, cells.len())?;
-    plain.find(grid, cells, place)?;
-    let mut words = Vec::new(alloc);
-    append_words(&mut words, plain.sets())?;
-    Ok(move_in(cells, cells[place], &words, to))
 }

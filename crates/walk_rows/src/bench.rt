@@ -1,12 +1,12 @@
 //! The rows that a walk has at hand: those of a tile, which are built together.
 
 ghost use Rattle.std.specs.Prelude.{◌≡◌, ◌<◌, ◌≤◌, IfOk, IfSome, OnOk, false, length};
-ghost use Rattle.moves.specs.Maps.{IsPassable, IsSearchable};
 ghost use Rattle.build_pool.specs.Places.{AreWithNear};
 ghost use Rattle.lane_rows.specs.Packed.{words_in};
 ghost use Rattle.walk_rows.specs.Walks.{AreWordsFrom, IsReady};
 
 use crate::hints::Hints;
+use grid_search::Search;
 use lane_rows::{LANES, Near, Tiles};
 use moves::{Cell, Grid, MAX_PASSABLE, Move};
 use std::alloc::{AllocError, Global};
@@ -16,26 +16,24 @@ const SWEEPS: u32 = 64;
 
 /// The last tile, and what the next is chosen with.
 #[derive(Drop)]
-pub(crate) struct Workbench {
+pub(crate) struct Workbench<'a> {
     tiles: Tiles,
     /// Whether the rows of the tile are there.
     has_rows: bool,
     /// The places whose rows are wanted.
     wanted: Vec<bool>,
-    hints: Hints,
+    hints: Hints<'a>,
 }
 
-impl Workbench {
-    /// Takes all memory for walks to that goal. No rows are there.
+impl<'a> Workbench<'a> {
+    /// Takes all memory for walks to the goal of the search. No rows are there.
     pub(crate) fn new(
         alloc: Global,
-        grid: &Grid,
+        grid: &'a Grid,
+        search: &'a Search,
         cells: &[Cell],
-        goal: Cell,
-    ) -> Result<Workbench, AllocError>
-        requires searchable { IsSearchable grid.now }
+    ) -> Result<Workbench<'a>, AllocError>
         requires few { length cells.now ≤ MAX_PASSABLE }
-        requires goal { IsPassable grid.now goal }
         ensures count { IfOk result (λ bench. bench.tiles.count ≡ length cells.now) }
         ensures marks { IfOk result (λ bench. length bench.wanted.items ≡ length cells.now) }
         ensures none { IfOk result (λ bench. bench.has_rows ≡ false) }
@@ -44,14 +42,13 @@ impl Workbench {
             tiles: Tiles::new(alloc, cells.len())?,
             has_rows: false,
             wanted: vec![in alloc; false; cells.len()]?,
-            hints: Hints::new(alloc, grid, cells, goal)?,
+            hints: Hints::new(alloc, grid, search, cells)?,
         })
     }
 
     /// Builds the rows of the cell at a place and of those that may come after it.
     pub(crate) fn solve(
         &mut self,
-        grid: &Grid,
         cells: &[Cell],
         near: &Near,
         place: usize,
@@ -63,7 +60,7 @@ impl Workbench {
     {
         self.has_rows = false;
         self.hints
-            .mark_from(grid, cells[place], place, self.wanted.as_mut_slice());
+            .mark_from(cells[place], place, self.wanted.as_mut_slice());
         self.tiles
             .choose(near, place as u16, self.wanted.as_mut_slice());
         if self.tiles.run(near, SWEEPS) {
@@ -74,12 +71,12 @@ impl Workbench {
     }
 
     /// The walk went on from a cell by a move.
-    pub(crate) fn learn(&mut self, grid: &Grid, from: Cell, by: Move)
+    pub(crate) fn learn(&mut self, from: Cell, by: Move)
         ensures tiles { self.new.tiles ≡ self.old.tiles }
         ensures rows { self.new.has_rows ≡ self.old.has_rows }
         ensures wanted { self.new.wanted ≡ self.old.wanted }
     {
-        self.hints.learn(grid, from, by);
+        self.hints.learn(from, by);
     }
 
     /// The lane that has the row of a cell.

@@ -2,39 +2,49 @@
 //! them: a walk reads no move but in the row of the cell where it stands.
 
 ghost use Rattle.std.specs.Prelude.{◌≡◌, ◌<◌, ◌≤◌, false, length, slice_index_or, true};
-ghost use Rattle.moves.specs.Maps.{IsPassable, IsSearchable};
 
+use crate::forced::{comes_down, key_at};
 use grid_search::Search;
 use lane_rows::LANES;
 use moves::{Cell, Grid, MAX_PASSABLE, Move, place};
-use root_cost::{NO_KEY, step_key};
 use std::alloc::{AllocError, Global};
+
+/// How many moves ahead at most are guessed.
+const AHEAD: usize = 256;
 
 /// The costs to a goal, and the place of each cell.
 #[derive(Drop)]
-pub(crate) struct Hints {
-    search: Search,
+pub(crate) struct Hints<'a> {
+    grid: &'a Grid,
+    search: &'a Search,
     /// For each cell of the map, row by row, its place among the cells of the walk.
     places: Vec<u16>,
     /// All moves. Of several by which a best path may go on the first one is guessed.
     ranking: [Move; 8],
 }
 
-impl Hints {
-    /// The hints for walks to that goal.
+/// How a walk may go on from a cell.
+#[derive(Clone, Copy)]
+enum Onward {
+    /// It has arrived.
+    Nowhere,
+    /// By this move alone.
+    Forced(Cell),
+    /// By several moves, of which this one is guessed.
+    Guessed(Move, Cell),
+}
+
+impl<'a> Hints<'a> {
+    /// The hints for walks to the goal of the search.
     pub(crate) fn new(
         alloc: Global,
-        grid: &Grid,
+        grid: &'a Grid,
+        search: &'a Search,
         cells: &[Cell],
-        goal: Cell,
-    ) -> Result<Hints, AllocError>
-        requires searchable { IsSearchable grid.now }
-        requires few { length cells.now ≤ MAX_PASSABLE }
-        requires goal { IsPassable grid.now goal }
+    ) -> Result<Hints<'a>, AllocError>
+        requires { length cells.now ≤ MAX_PASSABLE }
     {
         let room = (grid.width() * grid.height()) as usize;
-        let mut search = Search::new(alloc, room)?;
-        search.from_source(grid, goal);
         let mut places = vec![in alloc; u16::MAX; room]?;
         for (number, cell) in cells.iter().enumerate() {
             let at = place(grid.width(), *cell);
@@ -43,41 +53,50 @@ impl Hints {
             }
         }
         Ok(Hints {
+            grid,
             search,
             places,
             ranking: Move::ALL,
         })
     }
 
-    /// Marks the place of a cell and those of the cells to which a best path may lead from there, as many as a tile has
-    /// sources, and no others.
-    pub(crate) fn mark_from(&self, grid: &Grid, from: Cell, place: usize, wanted: &mut [bool])
+    /// Marks the place of a cell and those of cells to which a best path may lead from there and where it may go on by
+    /// several moves, as many as a tile has sources, and no others.
+    pub(crate) fn mark_from(&self, from: Cell, place: usize, wanted: &mut [bool])
         requires { place < length wanted.old }
         ensures size { length wanted.new ≡ length wanted.old }
         ensures place { slice_index_or wanted.new place false ≡ true }
     {
         wanted.fill(false);
-        self.mark_ahead(grid, from, wanted);
+        self.mark_ahead(from, wanted);
         wanted[place] = true;
     }
 
-    /// Marks the places of the cells to which a best path may lead from a cell on.
-    fn mark_ahead(&self, grid: &Grid, from: Cell, wanted: &mut [bool])
+    /// Marks the places of cells to which a best path may lead from a cell on.
+    fn mark_ahead(&self, from: Cell, wanted: &mut [bool])
         ensures { length wanted.new ≡ length wanted.old }
     {
         let mut at = from;
-        for _ in 0..LANES {
-            mark(&self.places, place(grid.width(), at), wanted);
-            match self.onward(grid, at) {
-                Some((_, next)) => at = next,
-                None => return,
+        let mut left = LANES;
+        for _ in 0..AHEAD {
+            match self.onward(at) {
+                Onward::Nowhere => return,
+                Onward::Forced(next) => at = next,
+                Onward::Guessed(_, next) => {
+                    if left == 0 {
+                        return;
+                    }
+                    left -= 1;
+                    mark(&self.places, place(self.grid.width(), at), wanted);
+                    at = next;
+                }
             }
         }
     }
 
     /// The walk went on by a move: from now on it comes before the one that was guessed.
-    pub(crate) fn learn(&mut self, grid: &Grid, from: Cell, by: Move) {
-        if let Some((guessed, _)) = self.onward(grid, from) {
+    pub(crate) fn learn(&mut self, from: Cell, by: Move) {
+        if let Onward::Guessed(guessed, _) = self.onward(from) {
             let (sooner, later) = (self.rank(guessed), self.rank(by));
             if sooner < self.ranking.len() && later < self.ranking.len() {
                 self.ranking.swap(sooner, later);
@@ -85,23 +104,28 @@ impl Hints {
         }
     }
 
-    /// The first move of the ranking by which a best path may go on, and where it leads.
-    fn onward(&self, grid: &Grid, from: Cell) -> Option<(Move, Cell)> {
-        if !grid.inside(from) {
-            return None;
+    /// How a best path may go on: of several moves by the first of the ranking.
+    fn onward(&self, from: Cell) -> Onward {
+        if !self.grid.inside(from) {
+            return Onward::Nowhere;
         }
-        let key = self.key_at(grid, from);
-        let mut first = None;
+        let key = self.key_at(from);
+        let mut onward = Onward::Nowhere;
         let mut least = usize::MAX;
-        for (by, next) in grid.neighbours(from) {
-            let rest = self.key_at(grid, next);
-            let is_best = rest.wrapping_add(step_key(by.is_diagonal())) == key;
-            if rest != NO_KEY && is_best && self.rank(by) < least {
-                least = self.rank(by);
-                first = Some((by, next));
+        let mut count: u32 = 0;
+        for (by, next) in self.grid.neighbours(from) {
+            if comes_down(key, by, self.key_at(next)) {
+                count = count.wrapping_add(1);
+                if self.rank(by) < least {
+                    least = self.rank(by);
+                    onward = Onward::Guessed(by, next);
+                }
             }
         }
-        first
+        match onward {
+            Onward::Guessed(_, next) if count == 1 => Onward::Forced(next),
+            other => other,
+        }
     }
 
     /// Where a move stands in the ranking.
@@ -113,10 +137,8 @@ impl Hints {
     }
 
     /// The key of the cost from a cell to the goal.
-    fn key_at(&self, grid: &Grid, cell: Cell) -> u32 {
-        let keys = self.search.keys();
-        let at = place(grid.width(), cell);
-        if at < keys.len() { keys[at] } else { NO_KEY }
+    fn key_at(&self, cell: Cell) -> u32 {
+        key_at(self.grid.width(), self.search.keys(), cell)
     }
 }
 

@@ -1,25 +1,27 @@
-//! The walk between two cells of a map, from the rows of the cells on it alone.
+//! The walk between two cells of a map, from the rows of some of the cells on it alone.
 //!
-//! The database of a map spells one walk between two cells that a path joins. To read it no other
-//! rows are needed than those of the cells that it leads over, and these are built here as they are
-//! met, sixteen at a time. (Botea 2011; Strasser, Harabor and Botea 2014)
+//! The database of a map spells one walk between two cells that a path joins. The move that a row
+//! keeps for the goal begins a best path, so where the costs to the goal leave one such move, it is
+//! that one. The rows of the other cells on the walk are built as they are met, up to sixteen at a
+//! time. (Botea 2011; Strasser, Harabor and Botea 2014)
 #![tactic(auto)]
 
-ghost use Rattle.std.specs.Prelude.{◌<◌, IfErr, IfNone, IfOk, IfSome, OnOk, length};
-ghost use Rattle.moves.specs.Maps.{IsPassable, IsSearchable};
-ghost use Rattle.moves.specs.Components.{IsComponentList};
+ghost use Rattle.std.specs.Prelude.{◌<◌, IfErr, IfOk, IfSome, OnOk, length};
+ghost use Rattle.moves.specs.Maps.{IsSearchable};
 ghost use Rattle.versions.specs.Queries.{AreEnds};
-ghost use Rattle.build_pool.specs.Places.{CanBeBuilt};
-ghost use Rattle.walk_rows.specs.Walks.{IsHomeOf, IsWalkCause, IsWalkOf, LieApart};
+ghost use Rattle.walk_rows.specs.Walks.{IsWalkCause, IsWalkOf};
 
 mod along;
 mod bench;
+mod component;
+mod forced;
 mod hints;
+mod kept;
 pub mod laws;
 
-use along::walk_among;
-use cell_order::{OrderKind, order_of};
-use components::{Labels, label};
+use along::{Route, walk_down};
+use cell_order::OrderKind;
+use grid_search::Search;
 use moves::{Cell, Grid, MAX_PASSABLE, Move};
 use std::alloc::{AllocError, Global};
 use std::error::Error;
@@ -94,33 +96,14 @@ pub fn walk_between(
     ensures refused { IfErr result (IsWalkCause grid.now start goal) }
 {
     judge(grid, start, goal)?;
-    let labels = label(alloc, grid)?;
-    match home_of(grid, &labels, start, goal) {
+    let mut search = Search::new(alloc, (grid.width() * grid.height()) as usize)?;
+    search.from_source(grid, goal);
+    match search.cost(start) {
         None => Ok(None),
-        Some(cells) => {
-            let cells = order_of(alloc, order, cells)?;
-            let moves = walk_among(alloc, grid, &cells, start, goal)?;
+        Some(_) => {
+            let route = Route { order, start, goal };
+            let moves = walk_down(alloc, grid, &search, route)?;
             Ok(Some(moves))
         }
-    }
-}
-
-/// The component that has both cells; `None` exactly where no path leads from the one to the other.
-fn home_of<'a>(grid: &Grid, labels: &'a Labels, start: Cell, goal: Cell) -> Option<&'a [Cell]>
-    requires searchable { IsSearchable grid.now }
-    requires labels { IsComponentList grid.now labels.now }
-    requires start { IsPassable grid.now start }
-    requires goal { IsPassable grid.now goal }
-    ensures some { IfSome result (λ cells. IsHomeOf labels.now start goal cells.now) }
-    ensures can { IfSome result (λ cells. CanBeBuilt cells.now) }
-    ensures none { IfNone result (LieApart grid.now start goal) }
-{
-    // That the map lies inside the limits is known from its width.
-    let _ = grid.width();
-    let label = labels.of(start).unwrap();
-    if labels.of(goal).unwrap() == label {
-        Some(labels.cells(label))
-    } else {
-        None
     }
 }

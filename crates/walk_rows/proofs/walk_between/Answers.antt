@@ -1,49 +1,26 @@
-use Rattle.std.proofs.Common.{arith}
-use Rattle.build_pool.proofs.Connecting.{on_map_all}
-use Rattle.walk_rows.proofs.Walking.{arrives_in_order, can_be_walked, leaves_in_order, spelled_short, walk_is}
+use Rattle.std.proofs.Common.{sym, ◌∙◌}
+use Rattle.walk_rows.specs.declared.along.Route.{Route}
+use Rattle.walk_rows.proofs.Descending.{reached, unreached}
+use Rattle.walk_rows.proofs.Walking.{walk_is, walk_is_short}
 use Rattle.walk_rows.proofs.walk_between.Goals as goal
 
-pub order_of-requires-clause-few : goal.order_of-requires-clause-few
-order_of-requires-clause-few c = c.in-Some.ensures.can.few
+pub walk_down-requires-clause-ahead : goal.walk_down-requires-clause-ahead
+walk_down-requires-clause-ahead c =
+    reached _ c.args.start c.args.goal _ c.from_source.ensures.searched c.in_ok-judge.ensures.ends.leaves.inside _ (sym c.cost.ensures ∙ c.in-Some.is)
 
-pub order_of-requires-clause-limits : goal.order_of-requires-clause-limits
-order_of-requires-clause-limits c = on_map_all _ c.in-Some.ensures.can.on_map
-
-pub order_of-requires-clause-connected : goal.order_of-requires-clause-connected
-order_of-requires-clause-connected c = c.in-Some.ensures.can.connected
-
-pub walk_among-requires-clause-cells : goal.walk_among-requires-clause-cells
-walk_among-requires-clause-cells c =
-    rw c.deref.ensures.value
-    (can_be_walked _ _ c.in_ok-labels.ensures c.args.order c.args.start c.args.goal _ c.in-Some.ensures.some _ c.in_ok-cells-in-Some.ensures.same c.in-Some.ensures.can)
-
-pub walk_among-requires-clause-start : goal.walk_among-requires-clause-start
-walk_among-requires-clause-start c =
-    rw c.deref.ensures.value (leaves_in_order _ _ c.in_ok-labels.ensures c.args.order c.args.start c.args.goal _ c.in-Some.ensures.some _ c.in_ok-cells-in-Some.ensures.same)
-
-pub walk_among-requires-clause-goal : goal.walk_among-requires-clause-goal
-walk_among-requires-clause-goal c =
-    rw c.deref.ensures.value (arrives_in_order _ _ c.in_ok-labels.ensures c.args.order c.args.start c.args.goal _ c.in-Some.ensures.some _ c.in_ok-cells-in-Some.ensures.same)
+pub returns-in-None-clause-walk : goal.returns-in-None-clause-walk
+returns-in-None-clause-walk c = λ comps database.
+    unreached _ c.args.start c.args.goal _ c.from_source.ensures.searched c.in_ok-judge.ensures.ends.leaves.inside (sym c.cost.ensures ∙ c.in-None.is)
 
 pub returns-clause-walk : goal.returns-clause-walk
 returns-clause-walk c =
-    let some = c.in-Some.ensures.some in
-    let same = c.in_ok-cells-in-Some.ensures.same in
-    let spelled = rw c.deref.ensures.value at c.in_ok-moves-in-Some.ensures in
-    walk_is _ _ c.in_ok-labels.ensures c.args.order c.args.start c.args.goal _ some _ c.in_ok-cells-in-Some.ensures.order
-    (leaves_in_order _ _ c.in_ok-labels.ensures c.args.order c.args.start c.args.goal _ some _ same)
-    (arrives_in_order _ _ c.in_ok-labels.ensures c.args.order c.args.start c.args.goal _ some _ same)
-    _ spelled
+    let route : Route = record { order = c.args.order; start = c.args.start; goal = c.args.goal } in
+    walk_is _ route _ c.in_ok-moves-in-Some.ensures
+    (reached _ c.args.start c.args.goal _ c.from_source.ensures.searched c.in_ok-judge.ensures.ends.leaves.inside _ (sym c.cost.ensures ∙ c.in-Some.is))
 
 pub returns-clause-few : goal.returns-clause-few
 returns-clause-few c =
-    let some = c.in-Some.ensures.some in
-    let same = c.in_ok-cells-in-Some.ensures.same in
-    let spelled = rw c.deref.ensures.value at c.in_ok-moves-in-Some.ensures in
-    let can = can_be_walked _ _ c.in_ok-labels.ensures c.args.order c.args.start c.args.goal _ some _ same c.in-Some.ensures.can in
-    let short = spelled_short _ can.sources c.args.start c.args.goal _
-    (leaves_in_order _ _ c.in_ok-labels.ensures c.args.order c.args.start c.args.goal _ some _ same)
-    (arrives_in_order _ _ c.in_ok-labels.ensures c.args.order c.args.start c.args.goal _ some _ same)
-    spelled in
-    let few = can.sources.few in
-    omega arith
+    let route : Route = record { order = c.args.order; start = c.args.start; goal = c.args.goal } in
+    walk_is_short _ route _ c.in_ok-moves-in-Some.ensures
+    (reached _ c.args.start c.args.goal _ c.from_source.ensures.searched c.in_ok-judge.ensures.ends.leaves.inside _ (sym c.cost.ensures ∙ c.in-Some.is))
+    (record { limits = c.width.ensures.limits; cells = c.width.ensures.whole }) c.requires.searchable

@@ -1,7 +1,7 @@
 use Rattle.std.proofs.Common.{refl}
 use Rattle.build_pool.proofs.Connecting.{packable}
 use Rattle.walk_rows.proofs.Keeping.{packed_words}
-use Rattle.walk_rows.proofs.along.plain_move.Goals as goal
+use Rattle.walk_rows.proofs.kept.plain_move.Goals as goal
 
 pub append_words-requires : goal.append_words-requires
 append_words-requires c =

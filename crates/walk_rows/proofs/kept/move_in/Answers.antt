@@ -1,7 +1,7 @@
 use Rattle.std.proofs.Common.{refl}
 use Rattle.row_store.proofs.CompLaws.{found_by_number}
 use Rattle.walk_rows.proofs.Keeping.{kept_from_words}
-use Rattle.walk_rows.proofs.along.move_in.Goals as goal
+use Rattle.walk_rows.proofs.kept.move_in.Goals as goal
 
 pub returns : goal.returns
 returns c =
