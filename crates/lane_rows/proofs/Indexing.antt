@@ -9,6 +9,12 @@ use Rattle.moves.proofs.MoveLaws.{same_cell}
 use Rattle.moves.specs.FirstSetLists.{cell_of}
 use Rattle.lane_rows.specs.Tables.{IsInBox, IsIndexed, index_of}
 
+-- the cells before a place lie between these ends
+pub record HasBounds (cells : List Cell) (place left right top bottom : ℕ) : Type 0 where
+  pub sides : (right < 4096) × (bottom < 4096)
+  pub columns : (k : ℕ) (d : Cell) → k < place → (left ≤ (get_or cells k d).x) × ((get_or cells k d).x ≤ right)
+  pub rows : (k : ℕ) (d : Cell) → k < place → (top ≤ (get_or cells k d).y) × ((get_or cells k d).y ≤ bottom)
+
 -- one index is one cell
 pub same_index : (left top width : ℕ) (a b : Cell) → IsInBox left top width a → IsInBox left top width b → index_of left top width a ≡ index_of left top width b → a ≡ b
 same_index left top width a b p q e =

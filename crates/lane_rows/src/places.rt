@@ -76,12 +76,21 @@ fn bounds_of(cells: &[Cell]) -> Bounds
     ensures rows { All (λ cell. (result.top ≤ cell.y) × (cell.y ≤ result.bottom)) cells.now }
     ensures sides { (result.right < 4096) × (result.bottom < 4096) }
 {
-    Bounds {
-        left: cells.iter().map(|cell| cell.x).min().unwrap_or(0),
-        right: cells.iter().map(|cell| cell.x).max().unwrap_or(0),
-        top: cells.iter().map(|cell| cell.y).min().unwrap_or(0),
-        bottom: cells.iter().map(|cell| cell.y).max().unwrap_or(0),
+    let mut bounds = Bounds {
+        left: u16::MAX,
+        right: 0,
+        top: u16::MAX,
+        bottom: 0,
+    };
+    for cell in cells {
+        bounds = Bounds {
+            left: bounds.left.min(cell.x),
+            right: bounds.right.max(cell.x),
+            top: bounds.top.min(cell.y),
+            bottom: bounds.bottom.max(cell.y),
+        };
     }
+    bounds
 }
 
 /// How many columns or rows lie between two ends, both among them.
