@@ -1,5 +1,4 @@
-"""Maps of the kinds that the benchmarks build databases of, by the same rules as `bench map KIND SIDE`
-(crates/bench/src/kinds.rt), so that they can be drawn where `bench` is not built."""
+"""Maps of the kinds that the benchmarks build databases of."""
 
 WORD = 1 << 64
 ROOM, PITCH = 16, 17
@@ -77,3 +76,14 @@ def drawn(kind, side):
     for _ in range(4 if kind == "caves" else 0):
         rows = smoothed(rows, side)
     return ["".join(".@"[not cell] for cell in row) for row in largest_alone(rows, side)]
+
+
+def map_text(rows):
+    """Returns the text of a map's file."""
+    return "type octile\nheight %d\nwidth %d\nmap\n%s\n" % (len(rows), len(rows[0]), "\n".join(rows))
+
+
+def passable(rows):
+    """Returns the passable cells, from the upper left corner to the lower right one."""
+    cells = ((x, y) for y, row in enumerate(rows) for x, cell in enumerate(row) if cell == ".")
+    return sorted(cells, key=lambda at: (sum(at), at))
