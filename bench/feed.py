@@ -6,16 +6,16 @@
 A leader of this script's own sends a map of 3 by 1 cells and so many messages of 1,024 edits of one change; `follow`
 takes them and ends. `replay` submits the same edits from a file. Instructions are callgrind's, each less those of the
 same command without an edit, and the memory is the most that was resident in a run without callgrind. Prints both, and
-what the follower takes of the other. The program is the one that was built here (./build)."""
+what the follower takes of the other. The program is the one that was built here, or the released one."""
 import argparse
 import os
-import re
 import socket
 import subprocess
 import tempfile
 import threading
 
-TOP = os.path.dirname(os.path.dirname(os.path.abspath(__file__)))
+from programs import counted, program
+
 EACH = 1024  # edits in a message
 START = bytes.fromhex("0000000c 31 00000003 00000001 01 01 01")
 MAP = "type octile\nheight 1\nwidth 3\nmap\n...\n"
@@ -47,20 +47,13 @@ def lead(listener, messages):
             link.sendall(message(number))
 
 
-def run(words):
-    """Runs a command: what it puts, and the most memory that it had, in MB."""
-    with subprocess.Popen(words, stdin=subprocess.DEVNULL, stdout=subprocess.PIPE, stderr=subprocess.PIPE) as process:
-        out, told = process.stdout.read(), process.stderr.read().decode()
+def memory_of(words):
+    """The most memory that a command had, in MB."""
+    with subprocess.Popen(words, stdin=subprocess.DEVNULL, stdout=subprocess.DEVNULL) as process:
         _, status, used = os.wait4(process.pid, 0)
         process.returncode = os.waitstatus_to_exitcode(status)
-    assert process.returncode == 0, (words, process.returncode, out[-200:], told[-200:])
-    return out, told, used.ru_maxrss / 1024
-
-
-def counted(words):
-    """How many instructions a command takes, and what it puts."""
-    out, told, _ = run(["valgrind", "--tool=callgrind", "--callgrind-out-file=/dev/null", *words])
-    return int(re.search(r"Collected : (\d+)", told).group(1)), out
+    assert process.returncode == 0, (words, process.returncode)
+    return used.ru_maxrss / 1024
 
 
 def with_leader(messages, work, program):
@@ -76,7 +69,7 @@ def with_leader(messages, work, program):
 def main():
     parser = argparse.ArgumentParser(description=__doc__.split("\n", maxsplit=1)[0])
     parser.add_argument("--messages", type=int, default=1024)
-    parser.add_argument("--program", default=os.path.join(TOP, "crates/path_server/out/path_server"))
+    parser.add_argument("--program", default=program())
     options = parser.parse_args()
     count = options.messages * EACH
     with tempfile.TemporaryDirectory() as folder:
@@ -93,8 +86,8 @@ def main():
         all_messages, out = with_leader(options.messages, counted, options.program)
         no_messages, _ = with_leader(0, counted, options.program)
         assert out == b"following %d\n" % count, out
-        follower = with_leader(options.messages, run, options.program)[2]
-        replayed = run([*replay, events])[2]
+        follower = with_leader(options.messages, memory_of, options.program)
+        replayed = memory_of([*replay, events])
     lines, messages = all_lines - no_lines, all_messages - no_messages
     print("%d edits: replay %.0f instructions an edit, %.0f MB" % (count, lines / count, replayed))
     print("%d messages: follow %.0f instructions an edit, %.0f MB" % (options.messages, messages / count, follower))

@@ -6,7 +6,7 @@ that has it, and SILENT others keep a session open and ask for one path in four 
     bench/memory.py [--minutes N] [--silent N] [--program FILE]
 
 Prints the resident memory in MB after each minute, and then how many edits there were. The program is the one that was
-built here (./build)."""
+built here, or the released one."""
 import argparse
 import os
 import random
@@ -16,7 +16,8 @@ import time
 
 top = os.path.dirname(os.path.dirname(os.path.abspath(__file__)))
 sys.path.insert(0, os.path.join(top, "clients/python"))
-from maps import drawn
+from maps import drawn, map_text
+from programs import program
 from path_server import Client, Server, Terrain, free_port
 
 SIDE = 116
@@ -64,14 +65,13 @@ def main():
     parser = argparse.ArgumentParser(description=__doc__.split("\n", maxsplit=1)[0])
     parser.add_argument("--minutes", type=int, default=10)
     parser.add_argument("--silent", type=int, default=0)
-    parser.add_argument("--program", default=os.path.join(top, "crates/path_server/out/path_server"))
+    parser.add_argument("--program", default=program())
     options = parser.parse_args()
     rows = [list(row) for row in drawn("blocked25", SIDE)]
     with tempfile.TemporaryDirectory() as folder:
         name = os.path.join(folder, "m.map")
         with open(name, "w") as file:
-            file.write("type octile\nheight %d\nwidth %d\nmap\n" % (SIDE, SIDE))
-            file.writelines("".join(row) + "\n" for row in rows)
+            file.write(map_text(["".join(row) for row in rows]))
         server = Server(name, port=free_port(), doors=options.silent + 2, program=options.program)
         try:
             measure(options, server, rows)

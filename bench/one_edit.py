@@ -10,7 +10,7 @@ passable cells in a row or in a column, which an edit changes together. Callgrin
 build; the first version is built by one worker too, and has no former one. Prints the median, the worst tenth and the
 worst of the quotients. Where an edit cuts a component in two, the quotient is that of the
 first version all the same, though the parts by themselves have fewer rows. With --maps it takes the .map files of a
-folder. The program is the one that was built here (./build)."""
+folder. The program is the one that was built here, or the released one."""
 import argparse
 import os
 import random
@@ -20,9 +20,9 @@ import sys
 import tempfile
 
 import maps
+import programs
 
-TOP = os.path.dirname(os.path.dirname(os.path.abspath(__file__)))
-sys.path.insert(0, os.path.join(TOP, "clients", "python"))
+sys.path.insert(0, os.path.join(programs.TOP, "clients", "python"))
 
 from path_server import Build, Bye, Change, Edit, Hello, Published, Terrain  # noqa: E402
 from path_server.frames import decoded, encoded, split_replies  # noqa: E402
@@ -30,10 +30,6 @@ from path_server.frames import decoded, encoded, split_replies  # noqa: E402
 WALL = 5  # cells of a wall
 KINDS = [("open", 64), ("rooms", 67), ("rooms", 101), ("caves", 90), ("caves", 120), ("blocked25", 80)]
 BEGINS, ENDS = "version_build::planning::plan*", "version_build::building::build*"
-
-
-def map_text(rows):
-    return "type octile\nheight %d\nwidth %d\nmap\n%s\n" % (len(rows), len(rows[0]), "\n".join(rows))
 
 
 def is_open(rows, column, row):
@@ -111,7 +107,7 @@ def main():
     parser.add_argument("--edits", type=int, default=50)
     parser.add_argument("--seed", type=int, default=1)
     parser.add_argument("--maps")
-    parser.add_argument("--program", default=os.path.join(TOP, "crates/path_server/out/path_server"))
+    parser.add_argument("--program", default=programs.program())
     options = parser.parse_args()
     rng = random.Random(options.seed)
     if options.maps:
@@ -124,7 +120,7 @@ def main():
         name = os.path.join(folder, "a.map")
         for what, rows in drawn:
             with open(name, "w", encoding="ascii") as file:
-                file.write(map_text(rows))
+                file.write(maps.map_text(rows))
             for kind, places in chosen(rows, options.edits, rng).items():
                 if not places:
                     print("%-14s %-12s none" % (what, kind), flush=True)

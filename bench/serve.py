@@ -9,7 +9,7 @@ moves. The twin has a thread a connection, and makes as many reads and writes.
 The servers run side by side and are asked in turn, TURNS times (21). Prints a table in Markdown, of medians: ours, the
 twin that does the same look-ups (rows of runs, each path walked twice), one that reads a table with a byte for each pair
 of cells and walks once, and the ratios of ours to both. Of queries a second a high ratio is good, of processor time a low
-one. The program has to be built (./build)."""
+one. The program is the one that was built here, or the released one."""
 import os
 import subprocess
 import sys
@@ -17,8 +17,8 @@ import sys
 top = os.path.dirname(os.path.dirname(os.path.abspath(__file__)))
 sys.path.insert(0, os.path.join(top, "clients/python"))
 from path_server import Client, free_port
+from programs import program
 
-program = os.path.join(top, "crates/path_server/out/path_server")
 twin = os.path.join(top, "bench/build/serve")
 map_name = os.path.join(top, "bench/build/serve.map")
 turns = sys.argv[1] if len(sys.argv) > 1 else "21"
@@ -75,7 +75,7 @@ def main():
     with open(map_name, "w") as file:
         subprocess.run([twin, "map", "108"], check=True, stdout=file)
     answer = [twin, "answer", map_name, "PORT"]
-    servers = [start(program, "serve", map_name, "PORT", "8"), start(*answer, "rows"), start(*answer, "table")]
+    servers = [start(program(), "serve", map_name, "PORT", "8"), start(*answer, "rows"), start(*answer, "table")]
     sides = [word for port, process in servers for word in (port, str(process.pid))]
     print("| work | Rattle | C++, C++ by a table | ratios |\n|---|---|---|---|")
     for clients, ahead, what in (("1", "1", "one client"), ("4", "1", "four clients"), ("4", "16", "four clients, 16 at once")):
@@ -84,7 +84,7 @@ def main():
         row("%s, processor time a query" % what, times, lambda time: "%.2f µs" % (time / 1000))
     (span,), (beside,), (without,) = driven("build", turns, map_name, servers[0][0])
     print("| a query beside a build of %.2f s | %.1f µs | without: %.1f µs | %.2f |" % (span, 1e6 / beside, 1e6 / without, without / beside))
-    row("64 idle connections", [idle([program, "serve", map_name, "PORT", "64"]), idle([*answer, "rows"])], lambda size: "%.1f MB" % size)
+    row("64 idle connections", [idle([program(), "serve", map_name, "PORT", "64"]), idle([*answer, "rows"])], lambda size: "%.1f MB" % size)
 
 
 try:

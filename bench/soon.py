@@ -15,16 +15,12 @@ import tempfile
 import time
 
 import maps
-from one_edit import chosen, map_text
+import programs
+from one_edit import at, chosen
 
-TOP = os.path.dirname(os.path.dirname(os.path.abspath(__file__)))
-sys.path.insert(0, os.path.join(TOP, "clients", "python"))
+sys.path.insert(0, os.path.join(programs.TOP, "clients", "python"))
 
 from path_server import Server, Terrain  # noqa: E402
-
-
-def at(values, share):
-    return sorted(values)[min(len(values) - 1, int(share * len(values)))]
 
 
 def most_memory(process):
@@ -51,7 +47,7 @@ def main():
     with tempfile.TemporaryDirectory() as folder:
         name = os.path.join(folder, "a.map")
         with open(name, "w", encoding="ascii") as file:
-            file.write(map_text(rows))
+            file.write(maps.map_text(rows))
         for workers in options.workers:
             programs = {"old": options.old, "new": options.new}
             servers = {key: Server(name, "--workers", workers, doors=2, program=program, timeout=300)

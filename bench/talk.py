@@ -7,13 +7,14 @@ thousand passable cells, and the sums over their replies have to be the same.
 
 The programs run side by side and are asked in turn, TURNS times (200). Prints the medians of ours, of the twin that does
 the same look-ups (rows of runs, each path walked twice), and of one that reads a table with a byte for each pair of cells
-and walks once. The program has to be built (./build)."""
+and walks once. The program is the one that was built here, or the released one."""
 import os
 import subprocess
 import sys
 
+from programs import program
+
 top = os.path.dirname(os.path.dirname(os.path.abspath(__file__)))
-program = os.path.join(top, "crates/path_server/out/path_server")
 twin = os.path.join(top, "bench/build/talk")
 map_name = os.path.join(top, "bench/build/talk.map")
 os.makedirs(os.path.dirname(twin), exist_ok=True)
@@ -22,5 +23,5 @@ with open(map_name, "w") as file:
     subprocess.run([twin, "map", "108"], check=True, stdout=file)
 answer = [twin, "answer", map_name]
 turns = sys.argv[1] if len(sys.argv) > 1 else "200"
-words = [program, "talk", map_name, "--", *answer, "rows", "--", *answer, "table"]
+words = [program(), "talk", map_name, "--", *answer, "rows", "--", *answer, "table"]
 sys.exit(subprocess.run([twin, "drive", map_name, turns, *words]).returncode)

@@ -8,8 +8,8 @@ times at once: these share nothing but the machine, so what they lose to a singl
 
 The three run in turn, ROUNDS times (3); of each figure the least counts. KIND and SIDE name other maps, as
 `drawn` of bench/maps.py does. Prints a table in Markdown; a peak below this script's own, some 15 MB, can't be seen. The
-program is the one that was built here if there is one, else the release; nothing has to be built. Where `bench` is, its
-maps are seen to be the same. Nothing else may be done on the machine, which has to have four processors.
+program is the one that was built here, or the released one. Nothing else may be done on the machine, which has to have
+four processors.
 
 With `even` it is for a machine whose processors others share. A round is one worker, four, four programs, and one worker
 again, and it counts where the processors were even: where the two with one worker and the mean of the four programs lie
@@ -22,11 +22,10 @@ import sys
 import time
 
 import maps
+import programs
 
 top = os.path.dirname(os.path.dirname(os.path.abspath(__file__)))
-built = os.path.join(top, "crates/path_server/out/path_server")
-program = built if os.access(built, os.X_OK) else os.path.join(top, "release/path_server")
-bench = os.path.join(top, "crates/bench/out/bench")
+program = programs.program()
 MAPS = ["open", "173", "blocked25", "200", "rooms", "181", "caves", "213"]
 
 
@@ -51,12 +50,8 @@ def map_of(kind, side):
     os.makedirs(os.path.join(top, "bench/build"), exist_ok=True)
     name = os.path.join(top, "bench/build/workers.%s.map" % kind)
     rows = maps.drawn(kind, int(side))
-    if os.access(bench, os.X_OK):
-        drawn = subprocess.run([bench, "map", kind, side], stdout=subprocess.PIPE, text=True, check=True).stdout.split()
-        if drawn != rows:
-            sys.exit("workers.py: bench/maps.py and `bench map %s %s` differ" % (kind, side))
     with open(name, "w") as file:
-        print("type octile", "height %d" % len(rows), "width %d" % len(rows[0]), "map", *rows, sep="\n", file=file)
+        file.write(maps.map_text(rows))
     return name
 
 
