@@ -1,31 +1,32 @@
 //! Bytes as text: in pairs of digits, or as characters with escapes.
 
+use crate::refusal::Refusal;
 use std::alloc::{AllocError, Global};
 use std::fmt::Write;
 
-/// The bytes that pairs of hexadecimal digits stand for, or `None` where something else stands there. Blanks between
-/// the digits count for nothing: `00 01 8A`.
-pub fn bytes_of(alloc: Global, pairs: &str) -> Result<Option<Vec<u8>>, AllocError> {
+/// The bytes that pairs of hexadecimal digits stand for. Blanks between the digits are skipped: `00 01 8A`.
+pub fn bytes_of(alloc: Global, pairs: &str) -> Result<Vec<u8>, Refusal> {
     let mut bytes = Vec::new(alloc);
     let mut upper: Option<u8> = None;
     for byte in pairs.bytes().filter(|byte| *byte != b' ') {
-        let Some(digit) = digit_of(byte) else {
-            return Ok(None);
-        };
+        let digit = digit_of(byte)?;
         match upper.take() {
-            Some(high) => bytes.push(high << 4 | digit)?,
+            Some(high) => bytes.push(high << 4 | digit).map_err(AllocError::from)?,
             None => upper = Some(digit),
         }
     }
-    Ok(upper.is_none().then_some(bytes))
+    match upper {
+        None => Ok(bytes),
+        Some(_) => Err(Refusal::OutOfForm),
+    }
 }
 
 /// The value of a hexadecimal digit.
-fn digit_of(byte: u8) -> Option<u8> {
+fn digit_of(byte: u8) -> Result<u8, Refusal> {
     match byte {
-        b'0'..=b'9' => Some(byte - b'0'),
-        b'A'..=b'F' => Some(byte - b'A' + 10),
-        _ => None,
+        b'0'..=b'9' => Ok(byte - b'0'),
+        b'A'..=b'F' => Ok(byte - b'A' + 10),
+        _ => Err(Refusal::OutOfForm),
     }
 }
 

@@ -1,73 +1,42 @@
 //! The maps that a line names.
 
-ghost use Rattle.std.specs.Prelude.{IfOk, IfSome, IsTrue};
+ghost use Rattle.std.specs.Prelude.{IfOk, IsTrue};
 ghost use Rattle.moves.specs.Maps.{IsSearchable, IsWithinLimits};
 
+use crate::fields::numbers_in;
 use crate::random::Random;
+use crate::refusal::Refusal;
 use map_read::{MAX_MAP_BYTES, MapError, read_map};
 use moves::{Grid, MAX_CELLS, MAX_PASSABLE, MAX_SIDE, Terrain};
-use std::alloc::{AllocError, Global};
+use std::alloc::Global;
 
-/// The map that a text names, or `None` where it names none that may be searched. A map is
+/// The map that a text names, which may be searched:
 ///
 /// - drawn row by row with `/` between the rows, as `..@/...`;
-/// - `made W H PERCENT SEED`: about so many of a hundred cells are land, which ones the seed decides;
-/// - `mixed W H LAND WATER SEED`: about so many of a hundred cells are land, and so many water;
-/// - `first W H COUNT`: the first so many cells are land, row by row.
-pub fn grid_of(alloc: Global, text: &str) -> Result<Option<Grid>, AllocError>
-    ensures { IfOk result (λ found. IfSome found IsSearchable) }
+/// - `made W H PERCENT SEED`: PERCENT in a hundred cells are land, roughly; the seed decides which;
+/// - `mixed W H LAND WATER SEED`: LAND in a hundred cells are land and WATER are water, roughly;
+/// - `first W H COUNT`: the first COUNT cells are land, row by row.
+pub fn grid_of(alloc: Global, text: &str) -> Result<Grid, Refusal>
+    ensures { IfOk result IsSearchable }
 {
-    match text.split_once(' ') {
-        None => drawn(alloc, text),
-        Some((kind, numbers)) => by_rule(alloc, kind, numbers),
+    let Some((kind, numbers)) = text.split_once(' ') else {
+        return drawn(alloc, text);
+    };
+    match (kind, numbers_in(alloc, numbers)?.as_slice()) {
+        ("made", [width, height, percent, seed]) => {
+            mixed(alloc, [*width, *height], [*percent, 0], *seed)
+        }
+        ("mixed", [width, height, land, water, seed]) => {
+            mixed(alloc, [*width, *height], [*land, *water], *seed)
+        }
+        ("first", [width, height, count]) => first(alloc, [*width, *height], *count),
+        _ => Err(Refusal::OutOfForm),
     }
-}
-
-/// The map that a rule gives for some numbers.
-fn by_rule(alloc: Global, kind: &str, numbers: &str) -> Result<Option<Grid>, AllocError>
-    ensures { IfOk result (λ found. IfSome found IsSearchable) }
-{
-    match kind {
-        "made" => match four_numbers(numbers) {
-            Some(numbers) => made(alloc, numbers),
-            None => Ok(None),
-        },
-        "mixed" => match five_numbers(numbers) {
-            Some(numbers) => mixed(alloc, numbers),
-            None => Ok(None),
-        },
-        "first" => match three_numbers(numbers) {
-            Some(numbers) => first(alloc, numbers),
-            None => Ok(None),
-        },
-        _ => Ok(None),
-    }
-}
-
-/// The five numbers of a text, with a space between any two.
-fn five_numbers(text: &str) -> Option<[u32; 5]> {
-    let (front, last) = text.rsplit_once(' ')?;
-    let [a, b, c, d] = four_numbers(front)?;
-    Some([a, b, c, d, last.parse().ok()?])
-}
-
-/// The four numbers of a text, with a space between any two.
-fn four_numbers(text: &str) -> Option<[u32; 4]> {
-    let (front, last) = text.rsplit_once(' ')?;
-    let [a, b, c] = three_numbers(front)?;
-    Some([a, b, c, last.parse().ok()?])
-}
-
-/// The three numbers of a text, with a space between any two.
-fn three_numbers(text: &str) -> Option<[u32; 3]> {
-    let (a, rest) = text.split_once(' ')?;
-    let (b, c) = rest.split_once(' ')?;
-    Some([a.parse().ok()?, b.parse().ok()?, c.parse().ok()?])
 }
 
 /// The map with those rows, read from its text.
-fn drawn(alloc: Global, rows: &str) -> Result<Option<Grid>, AllocError>
-    ensures { IfOk result (λ found. IfSome found IsSearchable) }
+fn drawn(alloc: Global, rows: &str) -> Result<Grid, Refusal>
+    ensures { IfOk result IsSearchable }
 {
     let height = rows.split('/').count();
     let width = rows.find('/').unwrap_or(rows.len());
@@ -76,46 +45,23 @@ fn drawn(alloc: Global, rows: &str) -> Result<Option<Grid>, AllocError>
         text.push_str(row)?;
         text.push('\n')?;
     }
-    read(alloc, text.as_bytes())
-}
-
-/// The map with that text.
-fn read(alloc: Global, text: &[u8]) -> Result<Option<Grid>, AllocError>
-    ensures { IfOk result (λ found. IfSome found IsSearchable) }
-{
     if text.len() > MAX_MAP_BYTES as usize {
-        return Ok(None);
+        return Err(Refusal::OutOfForm);
     }
-    match read_map(alloc, text) {
-        Ok(grid) => Ok(Some(grid)),
-        Err(MapError::Fault(_)) => Ok(None),
-        Err(MapError::NoMemory) => Err(AllocError),
+    match read_map(alloc, text.as_bytes()) {
+        Ok(grid) => Ok(grid),
+        Err(MapError::Fault(_)) => Err(Refusal::OutOfForm),
+        Err(MapError::NoMemory) => Err(Refusal::NoMemory),
     }
 }
 
-/// The map of a width and a height with about so many in a hundred of the cells land, by a seed.
-fn made(alloc: Global, numbers: [u32; 4]) -> Result<Option<Grid>, AllocError>
-    ensures { IfOk result (λ found. IfSome found IsSearchable) }
+/// The map with those sides whose cells are land or water with those chances in a hundred.
+fn mixed(alloc: Global, sides: [u32; 2], chances: [u32; 2], seed: u32) -> Result<Grid, Refusal>
+    ensures { IfOk result IsSearchable }
 {
-    let [width, height, percent, seed] = numbers;
+    let ([width, height], [land, water]) = (sides, chances);
     if !are_sides(width, height) {
-        return Ok(None);
-    }
-    let mut cells = vec![in alloc; false; (width * height) as usize]?;
-    let mut random = Random::of(seed);
-    for cell in cells.iter_mut() {
-        *cell = random.below(100) < percent;
-    }
-    searchable(Grid::of_cells(alloc, width, height, cells)?)
-}
-
-/// The map of a width and a height with about so many in a hundred of the cells land and so many water, by a seed.
-fn mixed(alloc: Global, numbers: [u32; 5]) -> Result<Option<Grid>, AllocError>
-    ensures { IfOk result (λ found. IfSome found IsSearchable) }
-{
-    let [width, height, land, water, seed] = numbers;
-    if !are_sides(width, height) {
-        return Ok(None);
+        return Err(Refusal::OutOfForm);
     }
     let mut cells = vec![in alloc; Terrain::Blocked; (width * height) as usize]?;
     let mut random = Random::of(seed);
@@ -125,13 +71,13 @@ fn mixed(alloc: Global, numbers: [u32; 5]) -> Result<Option<Grid>, AllocError>
     searchable(Grid::of_terrain(alloc, width, height, cells)?)
 }
 
-/// The map of a width and a height whose first so many cells are land.
-fn first(alloc: Global, numbers: [u32; 3]) -> Result<Option<Grid>, AllocError>
-    ensures { IfOk result (λ found. IfSome found IsSearchable) }
+/// The map with those sides whose first cells are land.
+fn first(alloc: Global, sides: [u32; 2], count: u32) -> Result<Grid, Refusal>
+    ensures { IfOk result IsSearchable }
 {
-    let [width, height, count] = numbers;
+    let [width, height] = sides;
     if !are_sides(width, height) {
-        return Ok(None);
+        return Err(Refusal::OutOfForm);
     }
     let mut cells = vec![in alloc; false; (width * height) as usize]?;
     for cell in cells.iter_mut().take(count as usize) {
@@ -149,12 +95,12 @@ fn are_sides(width: u32, height: u32) -> bool
         && width * height <= MAX_CELLS
 }
 
-/// The map, or `None` where it has more passable cells than a search has room for.
-fn searchable(grid: Grid) -> Result<Option<Grid>, AllocError>
-    ensures { IfOk result (λ found. IfSome found IsSearchable) }
+/// The map, where it has no more passable cells than a search has room for.
+fn searchable(grid: Grid) -> Result<Grid, Refusal>
+    ensures { IfOk result IsSearchable }
 {
     if grid.passable_count() > MAX_PASSABLE {
-        return Ok(None);
+        return Err(Refusal::OutOfForm);
     }
-    Ok(Some(grid))
+    Ok(grid)
 }

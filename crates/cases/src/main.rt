@@ -2,6 +2,7 @@
 //! line of the same number among those that are wanted. Blank lines and lines that begin with `#` are given back.
 #![tactic(auto)]
 
+use case_kit::Refusal;
 use std::alloc::{AllocError, Global};
 use std::io;
 use std::sync::Wait;
@@ -25,9 +26,11 @@ fn answer<R: Threads + Wait + Sync>(
         return String::from_str(alloc, line);
     }
     let (kind, input) = line.split_once(" | ").unwrap_or((line, ""));
-    match said(rt, alloc, kind, input)? {
-        Some(said) => Ok(said),
-        None => String::from_str(alloc, "no such kind"),
+    match said(rt, alloc, kind, input) {
+        Ok(Some(said)) => Ok(said),
+        Ok(None) => String::from_str(alloc, "no such kind"),
+        Err(Refusal::OutOfForm) => String::from_str(alloc, "not a case"),
+        Err(Refusal::NoMemory) => Err(AllocError),
     }
 }
 
@@ -37,26 +40,21 @@ fn said<R: Threads + Wait + Sync>(
     alloc: Global,
     kind: &str,
     input: &str,
-) -> Result<Option<String>, AllocError> {
-    let said = text_cases::answer(alloc, kind, input)?;
-    if said.is_some() {
-        return Ok(said);
+) -> Result<Option<String>, Refusal> {
+    if let Some(said) = text_cases::answer(alloc, kind, input)? {
+        return Ok(Some(said));
     }
-    let said = row_cases::answer(rt, alloc, kind, input)?;
-    if said.is_some() {
-        return Ok(said);
+    if let Some(said) = row_cases::answer(rt, alloc, kind, input)? {
+        return Ok(Some(said));
     }
-    let said = board_cases::answer(rt, alloc, kind, input)?;
-    if said.is_some() {
-        return Ok(said);
+    if let Some(said) = board_cases::answer(rt, alloc, kind, input)? {
+        return Ok(Some(said));
     }
-    let said = file_cases::answer(rt, alloc, kind, input)?;
-    if said.is_some() {
-        return Ok(said);
+    if let Some(said) = file_cases::answer(rt, alloc, kind, input)? {
+        return Ok(Some(said));
     }
-    let said = outside_cases::answer(rt, alloc, kind, input)?;
-    if said.is_some() {
-        return Ok(said);
+    if let Some(said) = outside_cases::answer(rt, alloc, kind, input)? {
+        return Ok(Some(said));
     }
     run_cases::answer(rt, alloc, kind, input)
 }
