@@ -1,9 +1,8 @@
-//! Frames one by one.
+//! Frames of requests and of replies.
 
 ghost use Rattle.query_proto.specs.Frames.{CanBeSent};
 
-use crate::fields::not_a_case;
-use case_kit::{bytes_of, hex_of};
+use case_kit::{Fields, Refusal, hex_of};
 use edit_log::CellChange;
 use query_proto::{
     HEAD_ROOM, MAX_REPLY, MAX_REQUEST, Proto, REQUEST_ROOM, Reply, Request, decode_reply,
@@ -12,54 +11,41 @@ use query_proto::{
 use std::alloc::{AllocError, Global};
 use std::fmt::Write;
 
-/// What stands in a room before a frame is written to it.
-const UNWRITTEN: u8 = 7;
-
-/// `PROTOCOL | BYTES`: the request that the frame spells at `start`, `one` or `two`, or at `one` where none is named, and
-/// how that is sent; or what is told of a frame that spells none.
-pub fn request(alloc: Global, input: &str) -> Result<String, AllocError> {
-    let (name, pairs) = input.split_once(" | ").unwrap_or(("one", input));
-    match proto_of(name) {
-        Some(proto) => request_at(alloc, proto, pairs),
-        None => not_a_case(alloc),
+/// `PROTOCOL | BYTES`: the request that the frame spells at `start`, `one` or `two`, and how that is sent; or what is
+/// told of a frame that spells none.
+pub fn request(alloc: Global, mut fields: Fields<'_>) -> Result<String, Refusal> {
+    let proto = proto_of(fields.text()?)?;
+    let frame = fields.bytes(alloc)?;
+    if frame.len() > MAX_REQUEST {
+        return Err(Refusal::OutOfForm);
+    }
+    match decode_request(frame.as_slice(), proto) {
+        Ok(request) => Ok(request_said(alloc, &request)?),
+        Err(malformed) => Ok(format!(in alloc; "{malformed:?}")?),
     }
 }
 
 /// The protocol with that name.
-fn proto_of(name: &str) -> Option<Proto> {
+fn proto_of(name: &str) -> Result<Proto, Refusal> {
     match name {
-        "start" => Some(Proto::Start),
-        "one" => Some(Proto::One),
-        "two" => Some(Proto::Two),
-        _ => None,
-    }
-}
-
-/// What a frame spells at a protocol.
-fn request_at(alloc: Global, proto: Proto, pairs: &str) -> Result<String, AllocError> {
-    let Some(frame) = bytes_of(alloc, pairs)? else {
-        return not_a_case(alloc);
-    };
-    if frame.len() > MAX_REQUEST {
-        return not_a_case(alloc);
-    }
-    match decode_request(frame.as_slice(), proto) {
-        Ok(request) => request_said(alloc, &request),
-        Err(malformed) => format!(in alloc; "{malformed:?}"),
+        "start" => Ok(Proto::Start),
+        "one" => Ok(Proto::One),
+        "two" => Ok(Proto::Two),
+        _ => Err(Refusal::OutOfForm),
     }
 }
 
 /// A request, and how it is sent.
 fn request_said(alloc: Global, request: &Request) -> Result<String, AllocError> {
-    let mut room = [UNWRITTEN; REQUEST_ROOM];
+    let mut room = [0; REQUEST_ROOM];
     let size = encode_request(request, &mut room);
-    let sent = sent_said(alloc, room.as_slice(), size)?;
+    let sent = front_said(alloc, room.as_slice(), size)?;
     match request {
         Request::Change(edit) => {
             let changes = changes_said(alloc, edit.changes())?;
-            format!(in alloc; "Change{changes} {sent}")
+            format!(in alloc; "Change{changes} sent as {sent}")
         }
-        other => format!(in alloc; "{other:?} {sent}"),
+        other => format!(in alloc; "{other:?} sent as {sent}"),
     }
 }
 
@@ -76,16 +62,14 @@ fn changes_said(alloc: Global, changes: &[CellChange]) -> Result<String, AllocEr
 
 /// `BYTES`: the reply that the frame spells, and how that is sent without the moves of a path; or what is told of a
 /// frame that spells none.
-pub fn reply(alloc: Global, input: &str) -> Result<String, AllocError> {
-    let Some(frame) = bytes_of(alloc, input)? else {
-        return not_a_case(alloc);
-    };
+pub fn reply(alloc: Global, mut fields: Fields<'_>) -> Result<String, Refusal> {
+    let frame = fields.bytes(alloc)?;
     if frame.len() > MAX_REPLY {
-        return not_a_case(alloc);
+        return Err(Refusal::OutOfForm);
     }
     match decode_reply(frame.as_slice()) {
-        Ok(reply) => reply_said(alloc, &reply),
-        Err(malformed) => format!(in alloc; "{malformed:?}"),
+        Ok(reply) => Ok(reply_said(alloc, &reply)?),
+        Err(malformed) => Ok(format!(in alloc; "{malformed:?}")?),
     }
 }
 
@@ -93,16 +77,13 @@ pub fn reply(alloc: Global, input: &str) -> Result<String, AllocError> {
 fn reply_said(alloc: Global, reply: &Reply) -> Result<String, AllocError>
     requires { CanBeSent reply.now }
 {
-    let mut room = [UNWRITTEN; HEAD_ROOM];
+    let mut room = [0; HEAD_ROOM];
     let size = reply_head(reply, &mut room);
-    let sent = sent_said(alloc, room.as_slice(), size)?;
-    format!(in alloc; "{reply:?} {sent}")
+    let sent = front_said(alloc, room.as_slice(), size)?;
+    format!(in alloc; "{reply:?} sent as {sent}")
 }
 
-/// The bytes that were written to the front of a room, and whether the room behind them is as it was.
-fn sent_said(alloc: Global, room: &[u8], size: usize) -> Result<String, AllocError> {
-    let (written, rest) = room.split_at_checked(size).unwrap_or((room, &[]));
-    let kept = rest.iter().all(|byte| *byte == UNWRITTEN);
-    let bytes = hex_of(alloc, written)?;
-    format!(in alloc; "sent as {bytes}, the room behind kept {kept}")
+/// The bytes at the front of a room.
+fn front_said(alloc: Global, room: &[u8], size: usize) -> Result<String, AllocError> {
+    hex_of(alloc, room.get(..size).unwrap_or(room))
 }
