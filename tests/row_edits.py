@@ -1,20 +1,18 @@
 #!/usr/bin/env python3
-"""What crates/row_edit_cases has to print, counted by a plain model of the packing and of the rules of row_edit.
+"""What the cases `row edits` have to say, counted by a plain model of the packing and of the rules of row_edit.
 
-    tests/row_edits.py | diff - crates/row_edit_cases/stdout
+    tests/row_edits.py | diff - <(tests/cases 'row edits |' | sed 's/^[0-9]*: //')
 
 A row is a list of (start, move), a set a byte, and what is known a dict from places to sets.
 """
 
-SETS = 7
-SHORT = 4
-MADE = 20000
+LISTS = 20000
 LONG = 40
 ALL = 255
 
 
 class Random:
-    """Numbers that follow one another, as those of row_edit_cases. (Knuth's MMIX constants)"""
+    """Numbers that follow one another, as those of crates/case_kit. (Knuth's MMIX constants)"""
 
     def __init__(self, seed):
         self.state = seed
@@ -23,18 +21,11 @@ class Random:
         self.state = (self.state * 6364136223846793005 + 1442695040888963407) % 2**64
         return (self.state >> 33) % bound
 
-    def set_with(self, shared):
-        others = self.below(256) & self.below(256)
-        own = self.below(8) if self.below(8) == 0 else shared
-        return others | 1 << own
+    def set(self):
+        return self.below(7) + 1
 
-    def list(self, most):
-        sets, shared = [], 0
-        for _ in range(self.below(most) + 1):
-            if self.below(6) == 0:
-                shared = self.below(8)
-            sets.append(self.set_with(shared))
-        return sets
+    def list(self):
+        return [self.set() for _ in range(self.below(LONG) + 1)]
 
 
 def least(moves):
@@ -109,11 +100,11 @@ def some_edits(random, sets):
     """One to four edits, and the list after them."""
     edits, sets = [], list(sets)
     for _ in range(random.below(4) + 1):
-        place = random.below(max(len(sets), 1))
+        place = random.below(len(sets))
         if len(sets) > 1 and random.below(2) == 0:
             edits.append((True, place, sets.pop(place)))
         else:
-            own = random.set_with(random.below(8))
+            own = random.set()
             edits.append((False, place, own))
             sets.insert(place, own)
     return edits, sets
@@ -134,69 +125,17 @@ def edit_each(row, places, edits, known):
     return row
 
 
-class Tally:
-    def __init__(self):
-        self.tried = self.decided = self.differ = 0
-
-    def add(self, row, wanted):
-        self.tried += 1
-        self.decided += row is not None
-        self.differ += row is not None and row != wanted
-
-    def __str__(self):
-        return f"{self.tried} tried, {self.decided} decided, {self.differ} differ"
-
-
-def try_edits(tally, sets, edits, changed, sees):
-    known = {at: moves for at, moves in enumerate(sets) if sees(at, edits[0][1])}
-    tally.add(edit_each(pack(sets), len(sets), edits, known), pack(changed))
-
-
-def short_lists(sees):
-    out, put = Tally(), Tally()
-    for places in range(1, SHORT + 1):
-        for number in range(SETS**places):
-            sets = [number // SETS**k % SETS + 1 for k in range(places)]
-            for place in range(places):
-                try_edits(out, sets, [(True, place, sets[place])], sets[:place] + sets[place + 1:], sees)
-            for place in range(places + 1):
-                for own in range(1, SETS + 1):
-                    changed = sets[:place] + [own] + sets[place:]
-                    try_edits(put, sets, [(False, place, own)], changed, sees)
-    return out, put
-
-
-def made_lists(sees):
-    out, put, random = Tally(), Tally(), Random(1)
-    for _ in range(MADE):
-        sets = random.list(LONG)
-        place = random.below(len(sets))
-        rest = sets[:place] + sets[place + 1:]
-        try_edits(out, sets, [(True, place, sets[place])], rest, sees)
-        try_edits(put, rest, [(False, place, sets[place])], sets, sees)
-    return out, put
-
-
-def edited_lists(sees):
-    each, random = Tally(), Random(2)
-    for _ in range(MADE):
-        sets = random.list(LONG)
-        edits, changed = some_edits(random, sets)
-        try_edits(each, sets, edits, changed, sees)
-    return each
-
-
 def main():
-    for name, sees in [
-        ("nothing", lambda at, changed: False),
-        ("the neighbours", lambda at, changed: abs(at - changed) <= 1),
-        ("all", lambda at, changed: True),
-    ]:
-        each = edited_lists(sees)
-        for lists, (out, put) in [("short", short_lists(sees)), ("made", made_lists(sees))]:
-            print(f"{lists} lists, {name} known, out: {out}")
-            print(f"{lists} lists, {name} known, in: {put}")
-        print(f"made lists, {name} known, up to four edits: {each}")
+    for reach in 0, 2, 100:
+        random, decided, differ = Random(2), 0, 0
+        for _ in range(LISTS):
+            sets = random.list()
+            edits, changed = some_edits(random, sets)
+            known = {at: moves for at, moves in enumerate(sets) if abs(at - edits[0][1]) < reach}
+            row = edit_each(pack(sets), len(sets), edits, known)
+            decided += row is not None
+            differ += row is not None and row != pack(changed)
+        print(f"row edits | {LISTS} | {reach}\n    {LISTS} tried, {decided} decided, {differ} differ")
 
 
 if __name__ == "__main__":

@@ -1,80 +1,55 @@
-//! Cases of searches, first moves, components, orders of cells, packed rows, and rows built by tiles and by workers.
+//! Cases of searches, first moves, components, packed rows and their edits, and rows built by tiles and by workers,
+//! from nothing and from the rows before an edit.
 //!
-//! Each kind has a function whose name ends in `_line`: it gives the line of output for a line of input, or `None`
-//! where the input is not in form.
+//! Each kind has a function that gives the line of output for the fields of a line of input.
 #![tactic(auto)]
 
 mod builds;
 mod edits;
-mod families;
-mod fields;
-mod gates;
 mod labelling;
-mod orders;
 mod packing;
-mod plain_maps;
-mod plain_rows;
-mod plain_scan;
 mod pools;
+mod row_edits;
 mod searches;
-mod sets;
 mod shapes;
 mod staying;
 mod tiling;
 
-use std::alloc::{AllocError, Global};
-use std::sync::Wait;
+use crate::labelling::LabelsAfterEdits;
+use crate::staying::RowsAfterEdits;
+use crate::tiling::TilesAndSearches;
+use case_kit::{Comparison, Family, Fields, Refusal, compared};
+use std::alloc::Global;
 use std::thread::Threads;
 
 /// The line of output for a line of input of one of the kinds here; `None` for any other kind.
-pub fn answer<R: Threads + Wait + Sync>(
+pub fn answer<R: Threads + Sync>(
     rt: &R,
     alloc: Global,
     kind: &str,
     input: &str,
-) -> Result<Option<String>, AllocError> {
+) -> Result<Option<String>, Refusal> {
+    let fields = Fields::of(input);
     let said = match kind {
-        "map" => families::map_line(rt, alloc, input)?,
-        "maps" => families::maps_line(rt, alloc, input)?,
-        "rows" => builds::rows_line(rt, alloc, input)?,
-        "remade" => builds::remade_line(rt, alloc, input)?,
-        "row" => builds::row_line(rt, alloc, input)?,
-        "look up" => builds::look_up_line(rt, alloc, input)?,
-        "places" => builds::places_line(rt, alloc, input)?,
-        "known rows" => staying::known_rows_line(rt, alloc, input)?,
-        "workers" => builds::workers_line(rt, alloc, input)?,
-        "side by side" => gates::side_by_side_line(rt, alloc, input)?,
-        _ => return alone(alloc, kind, input),
-    };
-    or_not_a_case(alloc, said)
-}
-
-/// The answers of the kinds that need no threads.
-fn alone(alloc: Global, kind: &str, input: &str) -> Result<Option<String>, AllocError> {
-    let said = match kind {
-        "cost" => searches::cost_line(alloc, input)?,
-        "first moves" => sets::first_moves_line(alloc, input)?,
-        "components" => labelling::components_line(alloc, input)?,
-        "edit" => edits::edit_line(alloc, input)?,
-        "order" => orders::order_line(alloc, input)?,
-        "pack" => packing::pack_line(alloc, input)?,
-        "packs" => packing::packs_line(alloc, input)?,
-        "find" => packing::find_line(alloc, input)?,
-        "word" => packing::word_line(alloc, input)?,
-        "least word" => packing::least_word_line(alloc, input)?,
-        "pool" => pools::pool_line(alloc, input)?,
-        "tile" => tiling::tile_line(alloc, input)?,
-        "choose" => tiling::choose_line(alloc, input)?,
-        "sweeps" => families::sweeps_line(alloc, input)?,
+        "cost" => searches::cost(alloc, fields)?,
+        "components" => labelling::components(alloc, fields)?,
+        "pack" => packing::pack_and_find(alloc, fields)?,
+        "pool" => pools::pool(alloc, fields)?,
+        "row edits" => row_edits::row_edits(alloc, fields)?,
+        "tile" => tiling::tile(alloc, fields)?,
+        "rows" => builds::rows(rt, alloc, fields)?,
+        "look up" => builds::look_up(rt, alloc, fields)?,
+        "known rows" => staying::known_rows(rt, alloc, fields)?,
+        "components after edits and anew" => family(alloc, input, &LabelsAfterEdits)?,
+        "tiles and searches" => family(alloc, input, &TilesAndSearches)?,
+        "rows after edits and anew" => family(alloc, input, &RowsAfterEdits { rt })?,
         _ => return Ok(None),
     };
-    or_not_a_case(alloc, said)
+    Ok(Some(said))
 }
 
-/// A line, or what is said of an input that is not in form.
-fn or_not_a_case(alloc: Global, said: Option<String>) -> Result<Option<String>, AllocError> {
-    match said {
-        Some(line) => Ok(Some(line)),
-        None => Ok(Some(String::from_str(alloc, "not a case")?)),
-    }
+/// Runs a comparison over the family of maps that a line names.
+fn family<C: Comparison>(alloc: Global, input: &str, comparison: &C) -> Result<String, Refusal> {
+    let family = Family::of(alloc, input)?;
+    compared(alloc, &family, comparison)
 }

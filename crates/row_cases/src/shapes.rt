@@ -1,16 +1,14 @@
-//! Lists of cells that may be ordered: the first component of a map, and cells in the farthest corner.
+//! Cells whose rows can be built: the first component of a map, and its cells in an order with their neighbours.
 
-ghost use Rattle.std.specs.Prelude.{◌<◌, ◌≤◌, All, AllPairs, IfOk, IfSome, length};
-ghost use Rattle.build_pool.specs.Places.{CanBeBuilt};
+ghost use Rattle.std.specs.Prelude.{IfOk, IfSome, IsPermutation};
+ghost use Rattle.build_pool.specs.Places.{AreWithNear, CanBeBuilt};
 ghost use Rattle.moves.specs.Components.{IsComponent};
-ghost use Rattle.moves.specs.Maps.{ComesBefore};
-ghost use Rattle.moves.specs.Rectangles.{IsOnMap};
-ghost use Rattle.moves.specs.StraightPaths.{IsConnected};
-ghost use Rattle.row_cases.specs.Ordering.{CanBeOrdered};
 
-use case_kit::grid_of;
+use case_kit::Refusal;
+use cell_order::{OrderKind, order_of};
 use components::label;
-use moves::{Cell, Grid, MAX_PASSABLE, MAX_SIDE};
+use lane_rows::Near;
+use moves::{Cell, Grid, MAX_PASSABLE};
 use std::alloc::{AllocError, Global};
 
 /// The cells of a map's first component, or `None` where no cell is passable.
@@ -32,74 +30,24 @@ pub fn first_component(alloc: Global, grid: &Grid) -> Result<Option<Vec<Cell>>, 
     Ok(Some(cells))
 }
 
-/// The cells that a text names: `far cell`, `far crossings` or `far row`, and else the first component of the map.
-pub fn shape_of(alloc: Global, text: &str) -> Result<Option<Vec<Cell>>, AllocError>
-    ensures { IfOk result (λ found. IfSome found (λ cells. CanBeOrdered cells.items)) }
+/// The cells of a map's first component, or a refusal where no cell is passable.
+pub fn component_of(alloc: Global, grid: &Grid) -> Result<Vec<Cell>, Refusal>
+    ensures { IfOk result (λ cells. CanBeBuilt cells.items) }
 {
-    match text {
-        "far cell" => Ok(Some(far_cell(alloc)?)),
-        "far crossings" => Ok(Some(far_crossings(alloc)?)),
-        "far row" => Ok(Some(far_row(alloc)?)),
-        _ => on_map(alloc, text),
-    }
+    first_component(alloc, grid)?.ok_or(Refusal::OutOfForm)
 }
 
-/// The cells of the first component of a map.
-fn on_map(alloc: Global, map: &str) -> Result<Option<Vec<Cell>>, AllocError>
-    ensures { IfOk result (λ found. IfSome found (λ cells. CanBeOrdered cells.items)) }
+/// The cells in an order, and the neighbours of each.
+pub fn in_order(
+    alloc: Global,
+    kind: OrderKind,
+    cells: &[Cell],
+) -> Result<(Vec<Cell>, Near), AllocError>
+    requires { CanBeBuilt cells.now }
+    ensures same { IfOk result (λ found. IsPermutation found.0.items cells.now) }
+    ensures table { IfOk result (λ found. AreWithNear found.0.items found.1) }
 {
-    match grid_of(alloc, map)? {
-        Some(grid) => first_component(alloc, &grid),
-        None => Ok(None),
-    }
-}
-
-/// One cell in the last row that there may be.
-fn far_cell(alloc: Global) -> Result<Vec<Cell>, AllocError>
-    ensures { IfOk result (λ cells. CanBeOrdered cells.items) }
-{
-    let cells = [Cell { x: 7, y: 4095 }];
-    copied(alloc, &cells)
-}
-
-/// Two cells with four neighbours each, in the last rows and columns that there may be.
-fn far_crossings(alloc: Global) -> Result<Vec<Cell>, AllocError>
-    ensures { IfOk result (λ cells. CanBeOrdered cells.items) }
-{
-    let cells = [
-        Cell { x: 4092, y: 4093 },
-        Cell { x: 4094, y: 4093 },
-        Cell { x: 4091, y: 4094 },
-        Cell { x: 4092, y: 4094 },
-        Cell { x: 4093, y: 4094 },
-        Cell { x: 4094, y: 4094 },
-        Cell { x: 4095, y: 4094 },
-        Cell { x: 4092, y: 4095 },
-        Cell { x: 4094, y: 4095 },
-    ];
-    copied(alloc, &cells)
-}
-
-/// A copy of cells that may be ordered.
-fn copied(alloc: Global, cells: &[Cell]) -> Result<Vec<Cell>, AllocError>
-    requires some { 0 < length cells.now }
-    requires few { length cells.now ≤ MAX_PASSABLE }
-    requires rows { AllPairs ComesBefore cells.now }
-    requires limits { All IsOnMap cells.now }
-    requires connected { IsConnected cells.now }
-    ensures { IfOk result (λ copy. CanBeOrdered copy.items) }
-{
-    let copy = Vec::from_slice(alloc, cells)?;
-    Ok(copy)
-}
-
-/// A row as long as a side may be, the last that there may be.
-fn far_row(alloc: Global) -> Result<Vec<Cell>, AllocError>
-    ensures { IfOk result (λ cells. CanBeOrdered cells.items) }
-{
-    let mut cells = Vec::new(alloc);
-    for x in 0..MAX_SIDE as u16 {
-        cells.push(Cell { x, y: 4095 })?;
-    }
-    copied(alloc, &cells)
+    let order = order_of(alloc, kind, cells)?;
+    let near = Near::of(alloc, &order)?;
+    Ok((order, near))
 }

@@ -1,4 +1,4 @@
-use Rattle.row_cases.proofs.builds.look_up_line.Given as goal
+use Rattle.row_cases.proofs.builds.look_up.Given as goal
 
 abbrev pub ghosts-looked_up : goal.ghosts-looked_up
 ghosts-looked_up g a = record { name = a.blank.name; parts = a.blank.parts }
