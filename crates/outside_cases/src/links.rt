@@ -1,144 +1,125 @@
-//! Links in memory.
+//! Links in memory, and links over a reader and a writer.
 
-ghost use Rattle.std.specs.Prelude.{IfOk, IfSome};
+ghost use Rattle.std.specs.Prelude.{◌≤◌, IfOk, length};
 ghost use Rattle.wire.specs.DoorInMemory.{IsNewLink};
 ghost use Rattle.wire.specs.LinkInMemory.{CutsGiveSome};
 
-use crate::calls::calls_said;
-use crate::fields::{bytes_in, cuts_in, five, numbers_in, two};
-use crate::said::push_quoted;
-use std::alloc::{AllocError, Global};
-use std::fmt::Write;
-use wire::{MemLink, SteadyLink};
+use crate::devices::{Errors, Narrow, Slow};
+use crate::said::{push_part, quoted};
+use case_kit::{Fields, Refusal};
+use std::alloc::Global;
+use wire::{Link, MemLink, SteadyLink, StreamLink, send_all};
 
-/// The recvs of a link that fail, and the sends.
-#[derive(Drop)]
-pub(crate) struct Fails {
-    recvs: Vec<u64>,
-    sends: Vec<u64>,
-}
+/// The most room for a recv.
+const ROOM: usize = 9;
 
-impl Fails {
-    /// No call fails.
-    pub(crate) fn none(alloc: Global) -> Fails {
-        Fails {
-            recvs: Vec::new(alloc),
-            sends: Vec::new(alloc),
-        }
-    }
-
-    /// The recv of this number fails, or else the send.
-    pub(crate) fn one(alloc: Global, recv: bool, number: u64) -> Result<Fails, AllocError> {
-        let one = vec![in alloc; number]?;
-        let none = Vec::new(alloc);
-        let (recvs, sends) = if recv { (one, none) } else { (none, one) };
-        Ok(Fails { recvs, sends })
-    }
-
-    /// The calls with these numbers fail.
-    pub(crate) fn of(alloc: Global, recvs: &str, sends: &str) -> Result<Option<Fails>, AllocError> {
-        match (numbers_in(alloc, recvs)?, numbers_in(alloc, sends)?) {
-            (Some(recvs), Some(sends)) => Ok(Some(Fails { recvs, sends })),
-            _ => Ok(None),
-        }
-    }
-}
-
-/// The link that the five fields of a text name: the bytes that come in, their cuts, the recvs that fail, the room for
-/// what is sent, and the sends that fail.
-pub(crate) fn link_in(alloc: Global, parts: &str) -> Result<Option<MemLink>, AllocError>
-    ensures { IfOk result (λ found. IfSome found IsNewLink) }
-{
-    let Some((input, cuts, recvs, room, sends)) = five(parts) else {
-        return Ok(None);
-    };
-    let Some(fails) = Fails::of(alloc, recvs, sends)? else {
-        return Ok(None);
-    };
-    let Some(input) = bytes_in(alloc, input)? else {
-        return Ok(None);
-    };
-    match (cuts_in(alloc, cuts)?, room.parse()) {
-        (Some(cuts), Ok(room)) => Ok(Some(link_of(alloc, input, cuts, room, fails)?)),
-        _ => Ok(None),
-    }
-}
-
-/// A link of these parts.
-pub(crate) fn link_of(
-    alloc: Global,
-    input: Vec<u8>,
-    cuts: Vec<usize>,
-    room: usize,
-    fails: Fails,
-) -> Result<MemLink, AllocError>
-    requires { CutsGiveSome cuts.items }
+/// The link of the next five fields.
+pub(crate) fn link_in(alloc: Global, fields: &mut Fields<'_>) -> Result<MemLink, Refusal>
     ensures { IfOk result IsNewLink }
 {
-    MemLink::new(alloc, input, cuts, room, fails.recvs, fails.sends)
+    let input = fields.bytes(alloc)?;
+    let cuts = some_cuts(sizes_in(alloc, fields)?)?;
+    let recv_fails = calls_in(alloc, fields)?;
+    let room = fields.number()? as usize;
+    let send_fails = calls_in(alloc, fields)?;
+    let link = MemLink::new(alloc, input, cuts, room, recv_fails, send_fails)?;
+    Ok(link)
 }
 
-/// A link on which these bytes come in at once, with room for 256 bytes.
-pub(crate) fn roomy_link(alloc: Global, bytes: &[u8], fails: Fails) -> Result<MemLink, AllocError>
-    ensures { IfOk result IsNewLink }
+/// These sizes, if each recv gets some bytes by them.
+fn some_cuts(cuts: Vec<usize>) -> Result<Vec<usize>, Refusal>
+    ensures { IfOk result (λ cuts. CutsGiveSome cuts.items) }
 {
-    let input = bytes.to_vec(alloc)?;
-    link_of(alloc, input, Vec::new(alloc), 256, fails)
-}
-
-/// `memory link | BYTES | CUTS | RECVS THAT FAIL | ROOM | SENDS THAT FAIL | CALLS`: what the calls answer, the bytes
-/// that are left then and those that were sent, and how many recvs and sends failed.
-pub(crate) fn memory_link(alloc: Global, input: &str) -> Result<Option<String>, AllocError> {
-    let Some((parts, calls)) = input.rsplit_once(" | ") else {
-        return Ok(None);
-    };
-    match link_in(alloc, parts)? {
-        Some(link) => link_said(alloc, link, calls),
-        None => Ok(None),
+    match cuts.iter().all(|most| *most > 0) {
+        true => Ok(cuts),
+        false => Err(Refusal::OutOfForm),
     }
 }
 
-/// What calls answer, and the link after them.
-fn link_said(alloc: Global, mut link: MemLink, calls: &str) -> Result<Option<String>, AllocError> {
-    match calls_said(alloc, &mut link, calls)? {
-        Some(said) => Ok(Some(with_state(alloc, said, &link)?)),
-        None => Ok(None),
-    }
+/// Sizes in bytes.
+pub(crate) fn sizes_in(alloc: Global, fields: &mut Fields<'_>) -> Result<Vec<usize>, Refusal> {
+    let numbers = fields.numbers(alloc)?;
+    let sizes = numbers.iter().map(|number| *number as usize);
+    Ok(sizes.collect(alloc)?)
 }
 
-/// A line with what is left of a link, what was sent, and the counts of faults.
-fn with_state(alloc: Global, mut said: String, link: &MemLink) -> Result<String, AllocError> {
-    said.push_str("; left ")?;
-    push_quoted(alloc, &mut said, link.left())?;
-    said.push_str(", sent ")?;
-    push_quoted(alloc, &mut said, link.sent())?;
-    let reads = link.read_fault_count();
-    let writes = link.write_fault_count();
-    write!(said, ", faults {reads} {writes}")?;
+/// The numbers of calls that fail.
+pub(crate) fn calls_in(alloc: Global, fields: &mut Fields<'_>) -> Result<Vec<u64>, Refusal> {
+    let numbers = fields.numbers(alloc)?;
+    let calls = numbers.iter().map(|number| u64::from(*number));
+    Ok(calls.collect(alloc)?)
+}
+
+/// `memory link | LINK | CALL, ..`: what the calls answer, the bytes that are left then and those that were sent, and
+/// how many recvs and sends failed.
+pub(crate) fn memory_link(alloc: Global, fields: &mut Fields<'_>) -> Result<String, Refusal> {
+    let mut link = link_in(alloc, fields)?;
+    let said = calls_said(alloc, &mut link, fields.text()?)?;
+    let left = quoted(alloc, link.left())?;
+    let sent = quoted(alloc, link.sent())?;
+    let (reads, writes) = (link.read_fault_count(), link.write_fault_count());
+    Ok(format!(in alloc; "{said}; left {left}, sent {sent}, faults {reads} {writes}")?)
+}
+
+/// What calls answer, one after the other: `recv SIZE` gives the bytes that came into so much room, and `send TEXT`
+/// whether the whole text was sent.
+fn calls_said<L: Link>(alloc: Global, link: &mut L, calls: &str) -> Result<String, Refusal> {
+    let mut said = String::new(alloc);
+    for call in calls.split(", ") {
+        match call.split_once(' ') {
+            Some(("recv", size)) => push_received(alloc, &mut said, link, size)?,
+            Some(("send", text)) => {
+                let is_sent = send_all(link, text.as_bytes()).is_ok();
+                push_part(&mut said, if is_sent { "sent" } else { "failed" })?;
+            }
+            _ => return Err(Refusal::OutOfForm),
+        }
+    }
     Ok(said)
 }
 
-/// `steady link | BYTES | CALLS`: what the calls answer on a link that never fails, and the bytes that are left then.
-pub(crate) fn steady_link(alloc: Global, input: &str) -> Result<Option<String>, AllocError> {
-    let Some((bytes, calls)) = two(input) else {
-        return Ok(None);
-    };
-    match bytes_in(alloc, bytes)? {
-        Some(bytes) => steady_said(alloc, SteadyLink::new(bytes), calls),
-        None => Ok(None),
+/// Adds what came into so much room, at least 1 byte and at most 9.
+fn push_received<L: Link>(
+    alloc: Global,
+    said: &mut String,
+    link: &mut L,
+    size: &str,
+) -> Result<(), Refusal> {
+    let size: usize = size.parse().map_err(|_| Refusal::OutOfForm)?;
+    let mut bytes = [b'.'; ROOM];
+    let room = &mut bytes[..size.clamp(1, ROOM)];
+    match link.recv(room) {
+        Ok(count) => push_part(said, quoted(alloc, &room[..count])?.as_str())?,
+        Err(_) => push_part(said, "failed")?,
     }
+    Ok(())
 }
 
-/// What calls answer on a link that never fails, and what is left of it.
-fn steady_said(
-    alloc: Global,
-    mut link: SteadyLink,
-    calls: &str,
-) -> Result<Option<String>, AllocError> {
-    let Some(mut said) = calls_said(alloc, &mut link, calls)? else {
-        return Ok(None);
+/// `steady link | BYTES | CALL, ..`: what the calls answer on a link that never fails, and the bytes that are left then.
+pub(crate) fn steady_link(alloc: Global, fields: &mut Fields<'_>) -> Result<String, Refusal> {
+    let mut link = SteadyLink::new(fields.bytes(alloc)?);
+    let said = calls_said(alloc, &mut link, fields.text()?)?;
+    let left = quoted(alloc, link.left())?;
+    Ok(format!(in alloc; "{said}; left {left}")?)
+}
+
+/// `stream link | BYTES | READ ERRORS | ROOM | WRITE ERRORS | CALL, ..`: what the calls answer over a reader of these
+/// bytes, two at a time, and a writer with this room, and the bytes that the writer took.
+pub(crate) fn stream_link(alloc: Global, fields: &mut Fields<'_>) -> Result<String, Refusal> {
+    let bytes = fields.bytes(alloc)?;
+    let reader = Slow {
+        left: &bytes,
+        errors: Errors::of(fields.text()?),
     };
-    said.push_str("; left ")?;
-    push_quoted(alloc, &mut said, link.left())?;
-    Ok(Some(said))
+    let mut taken = Vec::new(alloc);
+    let writer = Narrow {
+        taken: &mut taken,
+        room: fields.number()? as usize,
+        errors: Errors::of(fields.text()?),
+    };
+    let mut link = StreamLink::over(reader, writer);
+    let said = calls_said(alloc, &mut link, fields.text()?)?;
+    drop(link);
+    let sent = quoted(alloc, &taken)?;
+    Ok(format!(in alloc; "{said}; {sent}")?)
 }

@@ -1,37 +1,34 @@
-//! What a line says, word by word.
+//! What a line says, part by part.
 
 use case_kit::{escaped, hex_of};
 use std::alloc::{AllocError, Global};
-use std::fmt::Write;
+use wire::MemLink;
 
-/// Begins the next part of a line, behind a comma where it is not the first.
-pub(crate) fn begin_part(said: &mut String) -> Result<(), AllocError> {
-    if said.is_empty() {
-        return Ok(());
-    }
-    said.push_str(", ")
-}
-
-/// Adds a part, a text.
+/// Adds a part, behind a comma where it is not the first.
 pub(crate) fn push_part(said: &mut String, part: &str) -> Result<(), AllocError> {
-    begin_part(said)?;
+    if !said.is_empty() {
+        said.push_str(", ")?;
+    }
     said.push_str(part)
 }
 
-/// Adds bytes as a text between quotation marks.
-pub(crate) fn push_quoted(
-    alloc: Global,
-    said: &mut String,
-    bytes: &[u8],
-) -> Result<(), AllocError> {
+/// Bytes as a text between quotation marks.
+pub(crate) fn quoted(alloc: Global, bytes: &[u8]) -> Result<String, AllocError> {
     let text = escaped(alloc, bytes)?;
-    write!(said, "'{text}'")
+    format!(in alloc; "'{text}'")
 }
 
-/// Bytes in hexadecimal digits, `-` where there are none.
+/// Bytes in pairs of hexadecimal digits, `-` where there are none.
 pub(crate) fn hex_or_none(alloc: Global, bytes: &[u8]) -> Result<String, AllocError> {
-    if bytes.is_empty() {
-        return String::from_str(alloc, "-");
+    match bytes.is_empty() {
+        true => String::from_str(alloc, "-"),
+        false => hex_of(alloc, bytes),
     }
-    hex_of(alloc, bytes)
+}
+
+/// How a talk over a link ended, the bytes that are left there and those that were sent.
+pub(crate) fn talk_said(alloc: Global, ended: &str, link: &MemLink) -> Result<String, AllocError> {
+    let left = hex_or_none(alloc, link.left())?;
+    let sent = hex_or_none(alloc, link.sent())?;
+    format!(in alloc; "{ended}; left {left}; sent {sent}")
 }

@@ -1,58 +1,36 @@
 //! Sinks in memory.
 
-use crate::fields::{four, numbers_in, sizes_in, text_in};
-use crate::said::{push_part, push_quoted};
+use crate::links::{calls_in, sizes_in};
+use crate::said::{push_part, quoted};
+use case_kit::{Fields, Refusal};
 use std::alloc::{AllocError, Global};
-use std::fmt::Write;
 use wire::{MemSink, Sink, SteadySink, put_all};
 
 /// `memory sink | ROOM | CUTS | FAILS | TEXT, ..`: whether each text is put whole, the bytes that were put, and how
 /// many puts failed.
-pub(crate) fn memory_sink(alloc: Global, input: &str) -> Result<Option<String>, AllocError> {
-    let Some((room, cuts, fails, texts)) = four(input) else {
-        return Ok(None);
-    };
-    let (Some(cuts), Some(fails)) = (sizes_in(alloc, cuts)?, numbers_in(alloc, fails)?) else {
-        return Ok(None);
-    };
-    match room.parse() {
-        Ok(room) => sink_said(alloc, MemSink::cut(alloc, room, cuts, fails)?, texts),
-        Err(_) => Ok(None),
-    }
-}
-
-/// What a sink does with some texts.
-fn sink_said(alloc: Global, mut sink: MemSink, texts: &str) -> Result<Option<String>, AllocError> {
-    let mut said = puts_said(alloc, &mut sink, texts)?;
-    said.push_str("; ")?;
-    push_quoted(alloc, &mut said, sink.bytes())?;
+pub(crate) fn memory_sink(alloc: Global, fields: &mut Fields<'_>) -> Result<String, Refusal> {
+    let room = fields.number()? as usize;
+    let cuts = sizes_in(alloc, fields)?;
+    let fails = calls_in(alloc, fields)?;
+    let mut sink = MemSink::cut(alloc, room, cuts, fails)?;
+    let said = puts_said(alloc, &mut sink, fields.text()?)?;
+    let bytes = quoted(alloc, sink.bytes())?;
     let faults = sink.fault_count();
-    write!(said, ", faults {faults}")?;
-    Ok(Some(said))
+    Ok(format!(in alloc; "{said}; {bytes}, faults {faults}")?)
 }
 
-/// Whether each text is put whole; the text `-` is the empty one.
-pub(crate) fn puts_said<K: Sink>(
-    alloc: Global,
-    sink: &mut K,
-    texts: &str,
-) -> Result<String, AllocError> {
+/// Whether each text is put whole.
+fn puts_said<K: Sink>(alloc: Global, sink: &mut K, texts: &str) -> Result<String, AllocError> {
     let mut said = String::new(alloc);
     for text in texts.split(", ") {
-        push_part(&mut said, put_said(sink, text_in(text)))?;
+        let is_put = put_all(sink, text.as_bytes()).is_ok();
+        push_part(&mut said, if is_put { "put" } else { "failed" })?;
     }
     Ok(said)
 }
 
-/// Whether a text is put whole.
-fn put_said<K: Sink>(sink: &mut K, text: &str) -> &'static str {
-    match put_all(sink, text.as_bytes()) {
-        Ok(()) => "put",
-        Err(_) => "failed",
-    }
-}
-
 /// `steady sink | TEXT, ..`: whether each text is put whole into a sink that never fails.
-pub(crate) fn steady_sink(alloc: Global, input: &str) -> Result<Option<String>, AllocError> {
-    Ok(Some(puts_said(alloc, &mut SteadySink::new(), input)?))
+pub(crate) fn steady_sink(alloc: Global, fields: &mut Fields<'_>) -> Result<String, Refusal> {
+    let texts = fields.text()?;
+    Ok(puts_said(alloc, &mut SteadySink::new(), texts)?)
 }

@@ -1,7 +1,7 @@
 use Rattle.std.proofs.Common.{◌∙◌, ◌++◌, ap}
 use Rattle.std.specs.Option.{option_to_list}
-use Rattle.feed_cases.proofs.Sharing.{pass_shared}
-use Rattle.feed_cases.proofs.leading.share.Goals as goal
+use Rattle.outside_cases.proofs.Sharing.{pass_shared}
+use Rattle.outside_cases.proofs.feeds.share.Goals as goal
 
 pub returns-in-Ok : goal.returns-in-Ok
 returns-in-Ok c = record {
