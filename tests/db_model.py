@@ -1,5 +1,5 @@
 """A plain model of database files (docs/FORMATS.md), which shares nothing with the program: the file of a map, and the first
-fault of a file. `db.py` and `spoilt.py` judge by it.
+fault of a file. `db.py` judges by it.
 """
 import struct
 

@@ -50,9 +50,6 @@ fn said<R: Threads + Wait + Sync>(
     if let Some(said) = board_cases::answer(rt, alloc, kind, input)? {
         return Ok(Some(said));
     }
-    if let Some(said) = file_cases::answer(rt, alloc, kind, input)? {
-        return Ok(Some(said));
-    }
     if let Some(said) = outside_cases::answer(rt, alloc, kind, input)? {
         return Ok(Some(said));
     }

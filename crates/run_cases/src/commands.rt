@@ -1,19 +1,29 @@
 //! What the words of a command line ask for, and what a person is told of how they ended.
 
-ghost use Rattle.path_commands.specs.Requests.{HasLimits, HasSides, asked, source_of};
+use case_kit::{Refusal, escaped, unescaped};
+use path_commands::{RequestError, Seen, Status, advice, read_request};
+use std::alloc::{AllocError, Global};
 
-use crate::refusal::Refusal;
-use crate::words::words_of;
-use case_kit::escaped;
-use path_commands::{
-    MapSource, Request, RequestError, Seen, Status, Verb, advice, first_verb, made_grid,
-    read_request,
-};
-use std::alloc::Global;
+/// The words of a line, with blanks between them.
+pub fn words_of(alloc: Global, line: &str) -> Result<Vec<String>, Refusal> {
+    let mut words = Vec::new(alloc);
+    for word in line.split_terminator(' ') {
+        words.push(word_of(alloc, word)?).map_err(AllocError::from)?;
+    }
+    Ok(words)
+}
+
+/// The word that stands for itself but for its escapes, and `''` for the empty word.
+fn word_of(alloc: Global, text: &str) -> Result<String, Refusal> {
+    if text == "''" {
+        return Ok(String::new(alloc));
+    }
+    String::from_utf8(unescaped(alloc, text)?).map_err(|_| Refusal::OutOfForm)
+}
 
 /// What words ask for: `command | WORDS`.
-pub fn command_said(alloc: Global, input: &str) -> Result<String, Refusal> {
-    let words = words_of(alloc, input)?;
+pub fn command_said(alloc: Global, line: &str) -> Result<String, Refusal> {
+    let words = words_of(alloc, line)?;
     match read_request(alloc, words.as_slice()) {
         Ok(request) => Ok(format!(in alloc; "{request:?}")?),
         Err(refusal) => match refusal.error {
@@ -23,21 +33,10 @@ pub fn command_said(alloc: Global, input: &str) -> Result<String, Refusal> {
     }
 }
 
-/// Whether words name the commands that hold sessions or ask for one: `verb | WORDS`.
-pub fn verb_said(alloc: Global, input: &str) -> Result<String, Refusal> {
-    let words = words_of(alloc, input)?;
-    let words = words.as_slice();
-    let verb = first_verb(words);
-    let talk = verb == Some(Verb::Talk);
-    let serve = verb == Some(Verb::Serve);
-    let ask = verb == Some(Verb::Ask);
-    Ok(format!(in alloc; "talk {talk} serve {serve} ask {ask}")?)
-}
-
 /// What is told on standard error of a run that ended so: `advice | STATUS | WORDS`.
 pub fn advice_said(alloc: Global, input: &str) -> Result<String, Refusal> {
     let (name, line) = input.split_once(" | ").ok_or(Refusal::OutOfForm)?;
-    let status = status_named(name).ok_or(Refusal::OutOfForm)?;
+    let status = status_named(name)?;
     let words = words_of(alloc, line)?;
     let text = advice(alloc, words.as_slice(), &status, Seen::NOTHING)?;
     if text.is_empty() {
@@ -47,53 +46,15 @@ pub fn advice_said(alloc: Global, input: &str) -> Result<String, Refusal> {
 }
 
 /// The status with that name, of those that have no fields.
-fn status_named(name: &str) -> Option<Status> {
+fn status_named(name: &str) -> Result<Status, Refusal> {
     match name {
-        "Done" => Some(Status::Done),
-        "Usage" => Some(Status::Usage),
-        "ReadFault" => Some(Status::ReadFault),
-        "WriteFault" => Some(Status::WriteFault),
-        "NoMemory" => Some(Status::NoMemory),
-        "BadAnswer" => Some(Status::BadAnswer),
-        "LeaderMemory" => Some(Status::LeaderMemory),
-        _ => None,
-    }
-}
-
-/// The sides of the map that is made for words: `made-sides | WORDS`.
-pub fn sides_said(alloc: Global, input: &str) -> Result<String, Refusal> {
-    let words = words_of(alloc, input)?;
-    match read_request(alloc, words.as_slice()) {
-        Ok(request) => made_sides(alloc, request),
-        Err(refusal) => match refusal.error {
-            RequestError::Usage => Err(Refusal::OutOfForm),
-            RequestError::NoMemory => Err(Refusal::NoMemory),
-        },
-    }
-}
-
-/// The sides of the map that is made, where one is asked for.
-fn made_sides(alloc: Global, request: Request) -> Result<String, Refusal>
-    requires { HasLimits (asked request) }
-{
-    match request {
-        Request::OfMap(asked) => sides_of(alloc, asked.source),
+        "Done" => Ok(Status::Done),
+        "Usage" => Ok(Status::Usage),
+        "ReadFault" => Ok(Status::ReadFault),
+        "WriteFault" => Ok(Status::WriteFault),
+        "NoMemory" => Ok(Status::NoMemory),
+        "BadAnswer" => Ok(Status::BadAnswer),
+        "LeaderMemory" => Ok(Status::LeaderMemory),
         _ => Err(Refusal::OutOfForm),
-    }
-}
-
-/// The sides of the map of a source, where that makes it.
-fn sides_of(alloc: Global, source: MapSource) -> Result<String, Refusal>
-    requires { HasSides (source_of source) }
-{
-    match source {
-        MapSource::Formula { sides, seed } => match made_grid(alloc, sides, seed) {
-            Ok(grid) => {
-                let (width, height) = (grid.width(), grid.height());
-                Ok(format!(in alloc; "{width} {height}")?)
-            }
-            Err(_) => Err(Refusal::OutOfForm),
-        },
-        MapSource::File(_) => Err(Refusal::OutOfForm),
     }
 }

@@ -66,14 +66,22 @@ fn push_end(
     Ok(())
 }
 
-/// Writes how often reads of files have failed, where one has.
-fn push_files(text: &mut String, files: &MemFiles) -> Result<(), AllocError> {
-    let (map, second) = (files.fault_count("M"), files.fault_count("S"));
-    let other = files.fault_count("");
-    if map != 0 || second != 0 || other != 0 {
-        write!(text, " | file faults {map} {second} {other}")?;
+/// Writes how often some calls have failed, where one has.
+fn push_faults(text: &mut String, what: &str, counts: &[u64]) -> Result<(), AllocError> {
+    if counts.iter().all(|count| *count == 0) {
+        return Ok(());
+    }
+    write!(text, " | {what} faults")?;
+    for count in counts {
+        write!(text, " {count}")?;
     }
     Ok(())
+}
+
+/// Writes how often reads of files have failed.
+fn push_files(text: &mut String, files: &MemFiles) -> Result<(), AllocError> {
+    let (map, second) = (files.fault_count("M"), files.fault_count("S"));
+    push_faults(text, "file", &[map, second, files.fault_count("")])
 }
 
 /// Writes what was sent on the input, what is left of it and how often it has failed.
@@ -87,10 +95,7 @@ fn push_input(text: &mut String, alloc: Global, input: &MemLink) -> Result<(), A
         write!(text, " | left {left}")?;
     }
     let (recvs, sends) = (input.read_fault_count(), input.write_fault_count());
-    if recvs != 0 || sends != 0 {
-        write!(text, " | input faults {recvs} {sends}")?;
-    }
-    Ok(())
+    push_faults(text, "input", &[recvs, sends])
 }
 
 /// Writes what was sent on a link, where anything was.
@@ -115,7 +120,8 @@ fn push_house(text: &mut String, alloc: Global, house: &MemHouse) -> Result<(), 
         push_port(text, "link", *port)?;
         push_sent(text, alloc, link)?;
     }
-    push_house_faults(text, house)
+    let (recvs, sends) = (house.read_fault_count(), house.write_fault_count());
+    push_faults(text, "house", &[house.door_fault_count(), recvs, sends])
 }
 
 /// Writes a door that was handed back.
@@ -134,14 +140,4 @@ fn push_port(text: &mut String, what: &str, port: Option<u16>) -> Result<(), All
         Some(port) => write!(text, " | {what} {port}"),
         None => write!(text, " | {what} at no port"),
     }
-}
-
-/// Writes how often a house has failed, where it has.
-fn push_house_faults(text: &mut String, house: &MemHouse) -> Result<(), AllocError> {
-    let doors = house.door_fault_count();
-    let (recvs, sends) = (house.read_fault_count(), house.write_fault_count());
-    if doors != 0 || recvs != 0 || sends != 0 {
-        write!(text, " | house faults {doors} {recvs} {sends}")?;
-    }
-    Ok(())
 }

@@ -1,13 +1,13 @@
 //! The house of a run: its doors and its link, each at one of two ports.
 
-ghost use Rattle.std.specs.Prelude.{◌≡◌, [], IfOk, IfSome, None};
+ghost use Rattle.std.specs.Prelude.{◌≡◌, [], IfOk, None};
 ghost use Rattle.wire.specs.DoorInMemory.{AreNewLinks, IsNewLink};
 ghost use Rattle.wire.specs.HouseInMemory.{AreNewDoors, IsNewDoor, IsNewLinkAt};
 ghost use Rattle.wire.specs.LinkInMemory.{CutsGiveSome};
 ghost use Rattle.wire.specs.Houses.{no_lendings};
 
-use crate::refusal::Refusal;
-use crate::settings::{bytes, number, numbers, value};
+use crate::settings::Settings;
+use case_kit::{Fields, Refusal};
 use std::alloc::{AllocError, Global};
 use wire::{MemDoor, MemHouse, MemLink};
 
@@ -24,48 +24,50 @@ const CUTS: usize = 64;
 const ROOM: usize = 400;
 
 /// The house.
-pub fn house_of(alloc: Global, settings: &str) -> Result<MemHouse, Refusal>
+pub fn house_of(alloc: Global, settings: Settings<'_>) -> Result<MemHouse, Refusal>
     ensures asked { IfOk result (λ house. house.asked ≡ []) }
     ensures called { IfOk result (λ house. house.called ≡ None) }
     ensures lent { IfOk result (λ house. house.lent ≡ no_lendings) }
 {
-    let doors = doors_of(alloc, settings)?;
+    let doors = with_named(alloc, Vec::new(alloc), settings, "door", PORT)?;
+    let doors = with_named(alloc, doors, settings, "next-door", PORT)?;
+    let doors = with_named(alloc, doors, settings, "feed", FEED)?;
     let link = called_link(alloc, settings)?;
-    let fails = numbers(alloc, settings, "house-fails")?;
+    let fails = settings.numbers(alloc, "house-fails")?;
     Ok(MemHouse::new(alloc, doors, link, fails)?)
 }
 
 /// The link of the house with its port, if it has one.
-fn called_link(alloc: Global, settings: &str) -> Result<Option<(u16, MemLink)>, Refusal>
+fn called_link(alloc: Global, settings: Settings<'_>) -> Result<Option<(u16, MemLink)>, Refusal>
     ensures { IfOk result IsNewLinkAt }
 {
-    if let Some(pairs) = value(settings, "link") {
-        return Ok(Some((PORT, link_of(alloc, settings, pairs)?)));
+    if let Some(bytes) = settings.value("link") {
+        return Ok(Some((PORT, link_of(alloc, settings, bytes)?)));
     }
-    match value(settings, "leader") {
-        Some(pairs) => Ok(Some((FEED, link_of(alloc, settings, pairs)?))),
+    match settings.value("leader") {
+        Some(bytes) => Ok(Some((FEED, link_of(alloc, settings, bytes)?))),
         None => Ok(None),
     }
 }
 
 /// The link on which these bytes come in, and of which the recvs and sends fail that are to.
-pub fn link_of(alloc: Global, settings: &str, pairs: &str) -> Result<MemLink, Refusal>
+pub fn link_of(alloc: Global, settings: Settings<'_>, bytes: &str) -> Result<MemLink, Refusal>
     ensures { IfOk result IsNewLink }
 {
-    let input = bytes(alloc, pairs)?;
-    let recv_fails = numbers(alloc, settings, "recv-fails")?;
-    let send_fails = numbers(alloc, settings, "send-fails")?;
+    let input = Fields::of(bytes).bytes(alloc)?;
+    let recv_fails = settings.numbers(alloc, "recv-fails")?;
+    let send_fails = settings.numbers(alloc, "send-fails")?;
     let cuts = cuts_of(alloc, settings)?;
     Ok(MemLink::new(alloc, input, cuts, ROOM, recv_fails, send_fails)?)
 }
 
 /// How much of an input comes in at once: all of it, where that is not told.
-fn cuts_of(alloc: Global, settings: &str) -> Result<Vec<usize>, Refusal>
+fn cuts_of(alloc: Global, settings: Settings<'_>) -> Result<Vec<usize>, Refusal>
     ensures { IfOk result (λ cuts. CutsGiveSome cuts.items) }
 {
-    match value(settings, "piece") {
+    match settings.value("piece") {
         Some(text) => {
-            let piece = number(text)? as usize;
+            let piece = text.parse::<usize>().map_err(|_| Refusal::OutOfForm)?;
             Ok(some_cuts(alloc, vec![in alloc; piece; CUTS]?))
         }
         None => Ok(Vec::new(alloc)),
@@ -82,57 +84,40 @@ fn some_cuts(alloc: Global, cuts: Vec<usize>) -> Vec<usize>
     }
 }
 
-/// The doors of the house, each with its port; that for a feed is the last.
-fn doors_of(alloc: Global, settings: &str) -> Result<Vec<(u16, MemDoor)>, Refusal>
+/// The doors, and one more at that port where the settings have one of that name.
+fn with_named(
+    alloc: Global,
+    doors: Vec<(u16, MemDoor)>,
+    settings: Settings<'_>,
+    name: &str,
+    port: u16,
+) -> Result<Vec<(u16, MemDoor)>, Refusal>
+    requires { AreNewDoors doors.items }
     ensures { IfOk result (λ doors. AreNewDoors doors.items) }
 {
-    let doors = session_doors(alloc, settings)?;
-    match value(settings, "feed") {
-        Some(pairs) => Ok(with_door(doors, FEED, door_of(alloc, settings, pairs)?)?),
+    match settings.value(name) {
+        Some(bytes) => Ok(with_door(doors, port, door_of(alloc, settings, bytes)?)?),
         None => Ok(doors),
     }
 }
 
-/// The doors for sessions.
-fn session_doors(alloc: Global, settings: &str) -> Result<Vec<(u16, MemDoor)>, Refusal>
-    ensures { IfOk result (λ doors. AreNewDoors doors.items) }
-{
-    match value(settings, "doors") {
-        None => Ok(Vec::new(alloc)),
-        Some(inputs) => match inputs.split_once(", ") {
-            None => one_door(alloc, settings, inputs),
-            Some((first, second)) => {
-                let doors = one_door(alloc, settings, first)?;
-                Ok(with_door(doors, PORT, door_of(alloc, settings, second)?)?)
-            }
-        },
-    }
-}
-
-/// One door alone.
-fn one_door(alloc: Global, settings: &str, pairs: &str) -> Result<Vec<(u16, MemDoor)>, Refusal>
-    ensures { IfOk result (λ doors. AreNewDoors doors.items) }
-{
-    Ok(with_door(Vec::new(alloc), PORT, door_of(alloc, settings, pairs)?)?)
-}
-
-/// A door with one connection, on which these bytes come in; behind `closed` there is none.
-fn door_of(alloc: Global, settings: &str, pairs: &str) -> Result<MemDoor, Refusal>
+/// A door with one connection, on which these bytes come in; with `closed` there is none.
+fn door_of(alloc: Global, settings: Settings<'_>, bytes: &str) -> Result<MemDoor, Refusal>
     ensures { IfOk result IsNewDoor }
 {
-    let fails = numbers(alloc, settings, "knock-fails")?;
-    let conns = conns_of(alloc, settings, pairs)?;
+    let fails = settings.numbers(alloc, "knock-fails")?;
+    let conns = conns_of(alloc, settings, bytes)?;
     Ok(MemDoor::new(alloc, conns, Vec::new(alloc), fails)?)
 }
 
 /// The connections of a door.
-fn conns_of(alloc: Global, settings: &str, pairs: &str) -> Result<Vec<MemLink>, Refusal>
+fn conns_of(alloc: Global, settings: Settings<'_>, bytes: &str) -> Result<Vec<MemLink>, Refusal>
     ensures { IfOk result (λ conns. AreNewLinks conns.items) }
 {
-    if pairs == "closed" {
+    if bytes == "closed" {
         return Ok(Vec::new(alloc));
     }
-    Ok(with_link(Vec::new(alloc), link_of(alloc, settings, pairs)?)?)
+    Ok(with_link(Vec::new(alloc), link_of(alloc, settings, bytes)?)?)
 }
 
 /// The links and one more.

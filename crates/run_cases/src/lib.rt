@@ -1,19 +1,15 @@
-//! Cases of whole runs: what the words of a command line do over files, links and a house in memory, what they ask for,
-//! and what a person is told.
+//! The cases of whole runs: what the words of a command line do over files, links and a house in memory, what they ask
+//! for, and what a person is told.
 #![tactic(auto)]
 
 mod commands;
 mod ended;
-mod files;
-mod gate;
 mod house;
-mod refusal;
 mod runs;
 mod settings;
-mod words;
 
-use refusal::Refusal;
-use std::alloc::{AllocError, Global};
+use case_kit::Refusal;
+use std::alloc::Global;
 use std::sync::Wait;
 use std::thread::Threads;
 
@@ -23,9 +19,7 @@ use std::thread::Threads;
 ///   is to tell of the files, the input and the house.
 /// - `pieces | WORDS | SETTING | ..`: the exit status of such a run, and how many pieces of a build passed the gate.
 /// - `command | WORDS`: what the words ask for.
-/// - `verb | WORDS`: whether the words name `talk`, `serve` and `ask`.
 /// - `advice | STATUS | WORDS`: what a person is told on standard error of a run that ended so.
-/// - `made-sides | WORDS`: the width and the height of the map that is made for the words of a `made`.
 ///
 /// Words stand between blanks; in a word `\s` is a blank, and `''` is the empty word.
 pub fn answer<R: Threads + Wait + Sync>(
@@ -33,19 +27,12 @@ pub fn answer<R: Threads + Wait + Sync>(
     alloc: Global,
     kind: &str,
     input: &str,
-) -> Result<Option<String>, AllocError> {
-    let said = match kind {
-        "run" => runs::run_said(rt, alloc, input),
-        "pieces" => runs::pieces_said(rt, alloc, input),
-        "command" => commands::command_said(alloc, input),
-        "verb" => commands::verb_said(alloc, input),
-        "advice" => commands::advice_said(alloc, input),
-        "made-sides" => commands::sides_said(alloc, input),
-        _ => return Ok(None),
-    };
-    match said {
-        Ok(text) => Ok(Some(text)),
-        Err(Refusal::OutOfForm) => Ok(Some(String::from_str(alloc, "not a case")?)),
-        Err(Refusal::NoMemory) => Err(AllocError),
+) -> Result<Option<String>, Refusal> {
+    match kind {
+        "run" => runs::run_said(rt, alloc, input).map(Some),
+        "pieces" => runs::pieces_said(rt, alloc, input).map(Some),
+        "command" => commands::command_said(alloc, input).map(Some),
+        "advice" => commands::advice_said(alloc, input).map(Some),
+        _ => Ok(None),
     }
 }

@@ -1,19 +1,18 @@
 //! Whole runs over files, an input, an output and a house in memory.
 
+use crate::commands::words_of;
 use crate::ended::{Around, Ended, told};
-use crate::files::files_of;
-use crate::gate::CountGate;
 use crate::house::{house_of, link_of};
-use crate::refusal::Refusal;
-use crate::settings::{check_names, numbers, value};
-use crate::words::words_of;
-use case_kit::unescaped;
-use path_commands::{Status, put};
+use crate::settings::Settings;
+use build_pool::Gate;
+use case_kit::{Fields, Refusal};
+use path_commands::{Status, Watch, put};
 use path_run::run;
-use std::alloc::Global;
+use std::alloc::{AllocError, Global};
 use std::sync::Wait;
+use std::sync::atomic::{AtomicU64, Ordering};
 use std::thread::Threads;
-use wire::{MemSink, StillBell, TurnEar};
+use wire::{MemFiles, MemSink, StillBell, TurnEar};
 
 /// How many bytes the output takes.
 const ROOM: usize = 400;
@@ -21,13 +20,27 @@ const ROOM: usize = 400;
 /// How many bytes the first puts take at most; later ones are not cut.
 const CUTS: [usize; 4] = [1, 2, 3, 4];
 
+/// A gate that counts the pieces of builds that pass.
+#[derive(Drop)]
+struct CountGate {
+    entered: AtomicU64,
+}
+
+impl Gate for CountGate {
+    fn enter(&self, _piece: u32) {
+        self.entered.fetch_add(1, Ordering::SeqCst);
+    }
+}
+
+impl Watch for CountGate {}
+
 /// How a run ends: `run | WORDS | SETTING | ..`.
 pub fn run_said<R: Threads + Wait + Sync>(
     rt: &R,
     alloc: Global,
     input: &str,
 ) -> Result<String, Refusal> {
-    let ended = ended(rt, alloc, input, &CountGate::new())?;
+    let (ended, _) = ended(rt, alloc, input)?;
     Ok(told(alloc, &ended)?)
 }
 
@@ -37,23 +50,25 @@ pub fn pieces_said<R: Threads + Wait + Sync>(
     alloc: Global,
     input: &str,
 ) -> Result<String, Refusal> {
-    let gate = CountGate::new();
-    let ended = ended(rt, alloc, input, &gate)?;
-    let (code, count) = (ended.status.code(), gate.count());
-    Ok(format!(in alloc; "{code} pieces {count}")?)
+    let (ended, pieces) = ended(rt, alloc, input)?;
+    let code = ended.status.code();
+    Ok(format!(in alloc; "{code} pieces {pieces}")?)
 }
 
-/// The run that a line names, over what its settings say.
+/// The run that a line names, over what its settings say, and how many pieces it builds.
 fn ended<R: Threads + Wait + Sync>(
     rt: &R,
     alloc: Global,
     input: &str,
-    gate: &CountGate,
-) -> Result<Ended, Refusal> {
-    let (words, settings) = input.split_once(" | ").unwrap_or((input, ""));
-    let words = words_of(alloc, words)?;
+) -> Result<(Ended, u64), Refusal> {
+    let mut fields = Fields::of(input);
+    let words = words_of(alloc, fields.text()?)?;
+    let settings = Settings::of(fields.rest())?;
     let mut around = around_of(alloc, settings)?;
     let mut house = house_of(alloc, settings)?;
+    let gate = CountGate {
+        entered: AtomicU64::new(0),
+    };
     let status = run(
         rt,
         alloc,
@@ -64,28 +79,64 @@ fn ended<R: Threads + Wait + Sync>(
         &mut house,
         &StillBell,
         &mut TurnEar::new(0),
-        gate,
+        &gate,
     );
-    Ok(Ended {
+    let ended = Ended {
         status,
         around,
         house,
-    })
+    };
+    Ok((ended, gate.entered.load(Ordering::SeqCst)))
 }
 
 /// The files, the input and the output of a run.
-fn around_of(alloc: Global, settings: &str) -> Result<Around, Refusal> {
-    check_names(settings)?;
+fn around_of(alloc: Global, settings: Settings<'_>) -> Result<Around, Refusal> {
     let files = files_of(alloc, settings)?;
-    let input = link_of(alloc, settings, value(settings, "input").unwrap_or(""))?;
+    let input = link_of(alloc, settings, settings.value("input").unwrap_or("-"))?;
     let out = out_of(alloc, settings)?;
     Ok(Around { files, input, out })
 }
 
+/// The files `M` and `S`.
+fn files_of(alloc: Global, settings: Settings<'_>) -> Result<MemFiles, Refusal> {
+    let map = map_bytes(alloc, settings)?;
+    let second = settings.bytes(alloc, "S")?;
+    let fails = settings.numbers(alloc, "read-fails")?;
+    Ok(named(alloc, map, second, fails)?)
+}
+
+/// The files with these bytes, of which the reads with these numbers fail.
+fn named(
+    alloc: Global,
+    map: Vec<u8>,
+    second: Vec<u8>,
+    fails: Vec<u64>,
+) -> Result<MemFiles, AllocError> {
+    let mut files = Vec::with_capacity(alloc, 2)?;
+    files.push((String::from_str(alloc, "M")?, map))?;
+    files.push((String::from_str(alloc, "S")?, second))?;
+    MemFiles::new(alloc, files, fails)
+}
+
+/// The bytes of `M`.
+fn map_bytes(alloc: Global, settings: Settings<'_>) -> Result<Vec<u8>, Refusal> {
+    let Some(rows) = settings.value("rows") else {
+        return settings.bytes(alloc, "M");
+    };
+    let height = rows.split('/').count();
+    let width = rows.find('/').unwrap_or(rows.len());
+    let mut text = format!(in alloc; "type octile\nheight {height}\nwidth {width}\nmap\n")?;
+    for row in rows.split('/') {
+        text.push_str(row)?;
+        text.push('\n')?;
+    }
+    Ok(text.into_bytes())
+}
+
 /// The output, with what it holds before the run.
-fn out_of(alloc: Global, settings: &str) -> Result<MemSink, Refusal> {
-    let held = unescaped(alloc, value(settings, "held").unwrap_or(""))?;
-    let fails = numbers(alloc, settings, "put-fails")?;
+fn out_of(alloc: Global, settings: Settings<'_>) -> Result<MemSink, Refusal> {
+    let held = settings.bytes(alloc, "held")?;
+    let fails = settings.numbers(alloc, "put-fails")?;
     let mut out = MemSink::cut(alloc, ROOM, CUTS.to_vec(alloc)?, fails)?;
     match put(&mut out, held.as_slice(), Status::Done) {
         Status::Done => Ok(out),
