@@ -120,9 +120,9 @@ impl Door for Hall {
     }
 }
 
-/// `served beside | MAP | STEP; .. | STEP; ..`: a board that is served at three doors with a builder beside them. At two
-/// of them a client comes that takes these steps, and nobody at the third. A step is the bytes of a request, or `REQUEST until BYTES`.
-/// How that went, and what each client heard.
+/// `served beside | MAP | STEP; .. | STEP; ..`: a board that is served at three doors with a builder beside them. At
+/// two of them a client comes that takes these steps, and nobody at the third. A step is the bytes of a request, or
+/// `REQUEST until BYTES`. How that went, and what each client heard.
 pub(crate) fn served_beside<R: Threads + Wait + Sync>(
     rt: &R,
     alloc: Global,
@@ -173,8 +173,13 @@ fn three_doors(alloc: Global, first: Client, second: Client) -> Result<Vec<Hall>
     ensures { IfOk result (λ doors. length doors.items ≡ 3) }
 {
     let mut doors = Vec::new(alloc);
-    for coming in [Some(first), Some(second), None] {
-        doors.push(Hall { coming, back: None })?;
-    }
+    doors.push(hall_of(Some(first)))?;
+    doors.push(hall_of(Some(second)))?;
+    doors.push(hall_of(None))?;
     Ok(doors)
+}
+
+/// The door at which that client comes.
+fn hall_of(coming: Option<Client>) -> Hall {
+    Hall { coming, back: None }
 }

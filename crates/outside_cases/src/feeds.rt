@@ -71,9 +71,9 @@ fn share(alloc: Global, board: Board) -> Result<(SharedBoard, Pass), AllocError>
     }
 }
 
-/// `feed followed | LINK`: how a follower ends that takes the map and one message over the link; what is left there then,
-/// and what was sent; how many edits its board has accepted and how many its version comes after, if there is a board;
-/// why it follows no further; and whether a message was begun.
+/// `feed followed | LINK`: how a follower ends that takes the map and one message over the link; what is left there
+/// then, and what was sent; how many edits its board has accepted and how many its version comes after, if there is a
+/// board; why it follows no further; and whether a message was begun.
 pub(crate) fn followed(alloc: Global, fields: &mut Fields<'_>) -> Result<String, Refusal> {
     let mut link = link_in(alloc, fields)?;
     let mut follower = Follower::new(alloc, OrderKind::Rows);

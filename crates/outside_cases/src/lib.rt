@@ -1,8 +1,8 @@
 //! Cases of the edge of the program, of clients, of sessions and of feeds, each a line.
 //!
-//! A link in memory is five fields (`LINK`): the bytes that come in; at how many of them each recv is cut, one recv after
-//! the other; the numbers of the recvs that fail, from 1 on; the room for what is sent; and the numbers of the sends that
-//! fail.
+//! A link in memory is five fields (`LINK`): the bytes that come in; at how many of them each recv is cut, one recv
+//! after the other; the numbers of the recvs that fail, from 1 on; the room for what is sent; and the numbers of the
+//! sends that fail.
 #![tactic(auto)]
 
 mod beside;

@@ -95,7 +95,8 @@ fn push_received<L: Link>(
     Ok(())
 }
 
-/// `steady link | BYTES | CALL, ..`: what the calls answer on a link that never fails, and the bytes that are left then.
+/// `steady link | BYTES | CALL, ..`: what the calls answer on a link that never fails, and the bytes that are left
+/// then.
 pub(crate) fn steady_link(alloc: Global, fields: &mut Fields<'_>) -> Result<String, Refusal> {
     let mut link = SteadyLink::new(fields.bytes(alloc)?);
     let said = calls_said(alloc, &mut link, fields.text()?)?;

@@ -32,8 +32,8 @@ pub(crate) fn bell<R: Wait>(
     Ok(said)
 }
 
-/// `bells in turn | ROUNDS`: two threads wake each other so many times, each by a bell at whose ear the other waits. How
-/// many rings each has heard.
+/// `bells in turn | ROUNDS`: two threads wake each other so many times, each by a bell at whose ear the other waits.
+/// How many rings each has heard.
 pub(crate) fn in_turn<R: Threads + Wait + Sync>(
     rt: &R,
     alloc: Global,

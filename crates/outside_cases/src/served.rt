@@ -43,8 +43,9 @@ pub(crate) fn serve<D: Door, B: Bell, E: Ear, R: Threads + Wait + Sync>(
     }
 }
 
-/// `served | MAP | LINK`: a board that is served at a door at which first nobody is there, then a connection comes whose
-/// first recv fails, and then the link. How that went, with a builder that hears no ring, and what was sent on both.
+/// `served | MAP | LINK`: a board that is served at a door at which first nobody is there, then a connection comes
+/// whose first recv fails, and then the link. How that went, with a builder that hears no ring, and what was sent on
+/// both.
 pub(crate) fn served<R: Threads + Wait + Sync>(
     rt: &R,
     alloc: Global,
