@@ -1,17 +1,17 @@
-//! What a version tells of itself, and where its paths go on.
+//! What a version tells of itself, where its paths go on, its walks, near radii, and reports on scenarios.
 
 ghost use Rattle.std.specs.Prelude.{◌≡◌, ◌<◌, IfOk, map};
 ghost use Rattle.std.specs.Arc.{arc_value};
-ghost use Rattle.moves.specs.Maps.{IsSearchable};
 
-use crate::fields::{cell_of, not_a_case, order_of, three_fields, two_fields};
-use crate::versions_of::version_of;
-use case_kit::grid_of;
+use crate::case::{Case, all_cells, version_of};
+use case_kit::{Refusal, escaped, unescaped};
 use cell_order::OrderKind;
-use components::Labels;
-use moves::{Cell, Grid};
+use moves::{Cell, MAX_PASSABLE};
+use near_rows::NearVersion;
 use row_store::CompData;
 use run_pack::steps::Steps;
+use scen_read::{MAX_SCEN_BYTES, ScenError, read_scen};
+use scen_run::{report, run_lines};
 use std::alloc::{AllocError, Global};
 use std::fmt::Write;
 use std::marker::Brand;
@@ -19,43 +19,76 @@ use std::sync::Arc;
 use std::sync::ledger::{Blank, Ledger};
 use std::thread::Threads;
 use versions::{Next, QueryRefusal, Version};
+use walker::{Walk, measure};
 
-/// `version | MAP | ORDER | EDITS`: what the version of a map after so many edits tells of itself.
-pub(crate) fn version_said<R: Threads + Sync>(
-    rt: &R,
-    alloc: Global,
-    input: &str,
-) -> Result<String, AllocError> {
-    match version_fields(input) {
-        Some((map, kind, prefix)) => match grid_of(alloc, map)? {
-            Some(grid) => version_shown(rt, alloc, grid, prefix, kind),
-            None => not_a_case(alloc),
-        },
-        None => not_a_case(alloc),
+impl<R: Threads + Sync> Case<'_, R> {
+    /// `version | MAP | ORDER | EDITS`: what the version of a map after so many edits tells of itself, once it is
+    /// assembled anew of its components.
+    pub(crate) fn version_said(&mut self) -> Result<String, Refusal> {
+        let grid = self.fields.grid(self.alloc)?;
+        let kind = self.fields.order()?;
+        let prefix = self.fields.number()?;
+        let version = version_of(self.rt, self.alloc, grid, prefix, kind)?;
+        Ok(version_shown(self.alloc, &assembled(self.alloc, &version)?)?)
+    }
+
+    /// `next | MAP | ORDER | X Y | X Y`: where the path goes on from the first cell to the second.
+    pub(crate) fn next_said(&mut self) -> Result<String, Refusal> {
+        let version = self.version()?;
+        let (start, goal) = (self.fields.cell()?, self.fields.cell()?);
+        Ok(match next_at(&version, start, goal) {
+            Ok(Next::Arrived) => String::from_str(self.alloc, "arrived")?,
+            Ok(Next::Unreachable) => String::from_str(self.alloc, "unreachable")?,
+            Ok(Next::Go(by)) => format!(in self.alloc; "go {by}")?,
+            Err(why) => format!(in self.alloc; "{why}")?,
+        })
+    }
+
+    /// `walk | MAP | ORDER | X Y | X Y`: the moves of the walk between two cells, where it ends, and what it costs.
+    pub(crate) fn walk_said(&mut self) -> Result<String, Refusal> {
+        let version = self.version()?;
+        let (start, goal) = (self.fields.cell()?, self.fields.cell()?);
+        Ok(walk_shown(self.alloc, &version, start, goal)?)
+    }
+
+    /// `radius | MAP | ORDER | X Y`: the near radius of a cell.
+    pub(crate) fn radius_said(&mut self) -> Result<String, Refusal> {
+        let version = self.version()?;
+        let near = near_of(self.alloc, version)?;
+        Ok(match near.radius(self.fields.cell()?) {
+            Some(radius) => format!(in self.alloc; "{radius}")?,
+            None => String::from_str(self.alloc, "none")?,
+        })
+    }
+
+    /// `scenarios | MAP | FILE`: the report on a scenario file, both with escapes.
+    pub(crate) fn scenarios_said(&mut self) -> Result<String, Refusal> {
+        let grid = self.fields.grid(self.alloc)?;
+        let version = version_of(self.rt, self.alloc, grid, 0, OrderKind::Rows)?;
+        let file = unescaped(self.alloc, self.fields.rest())?;
+        let report = self.report(&version, &file)?;
+        Ok(escaped(self.alloc, report.as_bytes())?)
+    }
+
+    /// The report on a scenario file.
+    fn report(&self, version: &Version, file: &[u8]) -> Result<String, Refusal> {
+        if file.len() > MAX_SCEN_BYTES {
+            return Err(Refusal::OutOfForm);
+        }
+        match read_scen(self.alloc, file) {
+            Ok(lines) => {
+                let results = run_lines(self.rt, self.alloc, version, &lines)?;
+                Ok(report(self.alloc, &results)?)
+            }
+            Err(ScenError::Fault(_)) => Err(Refusal::OutOfForm),
+            Err(ScenError::NoMemory) => Err(Refusal::NoMemory),
+        }
     }
 }
 
-/// The map, the order and the number of edits of a line.
-fn version_fields(input: &str) -> Option<(&str, OrderKind, u32)> {
-    let (map, order, prefix) = three_fields(input)?;
-    Some((map, order_of(order)?, prefix.parse().ok()?))
-}
-
-/// What the version of a map tells of itself, once it is assembled anew of its components.
-fn version_shown<R: Threads + Sync>(
-    rt: &R,
-    alloc: Global,
-    grid: Grid,
-    prefix: u32,
-    kind: OrderKind,
-) -> Result<String, AllocError>
-    requires { IsSearchable grid }
-{
-    let version = assembled(alloc, &version_of(rt, alloc, grid, prefix, kind)?)?;
-    let mut text = String::new(alloc);
-    push_totals(&mut text, &version)?;
-    push_labels(&mut text, version.labels(), version.grid())?;
-    Ok(text)
+/// The near version of a version.
+pub(crate) fn near_of(alloc: Global, version: Version) -> Result<NearVersion, AllocError> {
+    NearVersion::make(alloc, Arc::new(alloc, version)?)
 }
 
 /// A version of copies of the map and of the components that the other has.
@@ -76,83 +109,27 @@ fn copies(alloc: Global, comps: &[Arc<CompData>]) -> Result<Vec<Arc<CompData>>, 
     Ok(copies)
 }
 
-/// Adds the number of edits, the order, and how many cells, components and runs there are.
-fn push_totals(text: &mut String, version: &Version) -> Result<(), AllocError> {
-    let (prefix, kind, totals) = (version.prefix(), version.kind(), version.totals());
-    write!(
-        text,
-        "{prefix} edits, order {kind:?}, {} cells, ",
-        totals.cells
-    )?;
-    write!(text, "{} components ", totals.comps)?;
-    write!(text, "({} listed), ", version.comps().len())?;
-    write!(text, "{} runs, labels", totals.runs)
-}
-
-/// Adds the label of each cell, row by row, and `-` for a cell without one.
-fn push_labels(text: &mut String, labels: &Labels, grid: &Grid) -> Result<(), AllocError> {
-    for row in 0..grid.height() {
-        if row > 0 {
-            text.push_str(" /")?;
-        }
-        push_labels_of(text, labels, grid.width(), row)?;
-    }
-    Ok(())
-}
-
-/// Adds those of a row.
-fn push_labels_of(
-    text: &mut String,
-    labels: &Labels,
-    width: u32,
-    row: u32,
-) -> Result<(), AllocError> {
-    for column in 0..width.min(4096) {
-        let cell = Cell {
-            x: column as u16,
-            y: row.min(4096) as u16,
-        };
-        match labels.of(cell) {
+/// The number of edits, the order, how many cells, components and runs there are, and the label of each cell, row by
+/// row, with `-` for a cell without one.
+fn version_shown(alloc: Global, version: &Version) -> Result<String, AllocError> {
+    let mut text = String::new(alloc);
+    push_totals(&mut text, version)?;
+    for cell in &all_cells(alloc, version.grid())? {
+        match version.labels().of(*cell) {
             Some(label) => write!(text, " {label}")?,
             None => text.push_str(" -")?,
         }
     }
-    Ok(())
+    Ok(text)
 }
 
-/// `next | MAP | ORDER | X Y | X Y`: where the path goes on from the first cell to the second.
-pub(crate) fn next_said<R: Threads + Sync>(
-    rt: &R,
-    alloc: Global,
-    input: &str,
-) -> Result<String, AllocError> {
-    match query_fields(input) {
-        Some((map, kind, start, goal)) => match grid_of(alloc, map)? {
-            Some(grid) => {
-                let version = version_of(rt, alloc, grid, 0, kind)?;
-                next_shown(alloc, next_at(&version, start, goal))
-            }
-            None => not_a_case(alloc),
-        },
-        None => not_a_case(alloc),
-    }
-}
-
-/// The map, the order and the two cells of a line.
-pub(crate) fn query_fields(input: &str) -> Option<(&str, OrderKind, Cell, Cell)> {
-    let (map, order, ends) = three_fields(input)?;
-    let (start, goal) = two_fields(ends)?;
-    Some((map, order_of(order)?, cell_of(start)?, cell_of(goal)?))
-}
-
-/// Where a path goes on from one cell to another, in words.
-fn next_shown(alloc: Global, next: Result<Next, QueryRefusal>) -> Result<String, AllocError> {
-    match next {
-        Ok(Next::Arrived) => String::from_str(alloc, "arrived"),
-        Ok(Next::Unreachable) => String::from_str(alloc, "unreachable"),
-        Ok(Next::Go(by)) => format!(in alloc; "go {by}"),
-        Err(why) => format!(in alloc; "{why}"),
-    }
+/// Adds the number of edits, the order, and how many cells, components and runs there are.
+fn push_totals(text: &mut String, version: &Version) -> Result<(), AllocError> {
+    let (prefix, kind, totals) = (version.prefix(), version.kind(), version.totals());
+    let (cells, comps, listed) = (totals.cells, totals.comps, version.comps().len());
+    write!(text, "{prefix} edits, order {kind:?}, {cells} cells, ")?;
+    write!(text, "{comps} components ({listed} listed), ")?;
+    write!(text, "{} runs, labels", totals.runs)
 }
 
 /// Where a path goes on from one cell to another, whatever the look-up takes.
@@ -173,4 +150,42 @@ fn next_of<L: Ledger>(
 {
     let mut steps = Steps::<L>::new(blank);
     version.next(at, goal, &mut steps)
+}
+
+/// The walk between two cells of a version in words.
+fn walk_shown(
+    alloc: Global,
+    version: &Version,
+    start: Cell,
+    goal: Cell,
+) -> Result<String, AllocError> {
+    let mut text = String::new(alloc);
+    match Walk::start(version, start, goal) {
+        Ok(Some(mut walk)) => push_moves(&mut text, &mut walk)?,
+        Ok(None) => text.push_str("no walk")?,
+        Err(why) => write!(text, "{why}")?,
+    }
+    match measure(version, start, goal) {
+        Ok(Some(cost)) => write!(
+            text,
+            ", {} straight {} diagonal",
+            cost.straight, cost.diagonal
+        )?,
+        Ok(None) => text.push_str(", no cost")?,
+        Err(why) => write!(text, ", {why}")?,
+    }
+    Ok(text)
+}
+
+/// Adds the moves of a walk and the cell where it ends.
+fn push_moves(text: &mut String, walk: &mut Walk) -> Result<(), AllocError> {
+    text.push_str("moves")?;
+    for _ in 0..MAX_PASSABLE {
+        match walk.step() {
+            Some(by) => write!(text, " {by}")?,
+            None => break,
+        }
+    }
+    let Cell { x, y } = walk.at();
+    write!(text, " to {x} {y}")
 }
