@@ -76,6 +76,7 @@ fn members_of<'a>(
 }
 
 /// What either of two passes is told, where one of them submits an edit.
+#[tactic(auto, using(crate::proofs::Passes::passes_of))]
 fn met_shown<R: Wait>(rt: &R, alloc: Global, board: Board, edit: Edit) -> Result<String, AllocError>
     requires { board.history ≡ [] }
 {
@@ -107,6 +108,7 @@ fn met_by<R: Wait>(
 }
 
 /// How many edits of so many passes are accepted, and whether those of each are all there, in its order.
+#[tactic(auto, using(crate::proofs::Passes::passes_of))]
 fn passes_shown<R: Threads + Wait + Sync>(
     rt: &R,
     alloc: Global,
