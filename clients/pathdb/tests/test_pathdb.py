@@ -203,7 +203,7 @@ class Package(unittest.TestCase):
 
     def test_wheel(self) -> None:
         """The wheel is the same each time, carries the library, and answers alone."""
-        build = "import make_wheel, sys; print(make_wheel.build_wheel(sys.argv[1]))"
+        build = "import backend, sys; print(backend.build_wheel(sys.argv[1]))"
         with tempfile.TemporaryDirectory() as one, tempfile.TemporaryDirectory() as other:
             wheels = []
             for folder in (one, other):

@@ -1,1 +1,0 @@
-../python/make_wheel.py
