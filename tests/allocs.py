@@ -22,7 +22,7 @@ judge = Judge()
 QUERY, CHANGE = Query((0, 0), (2, 0)), Change((1, 0), Terrain.LAND)
 TALK = [QUERY, CHANGE, QUERY, Build(), QUERY, AskStatus(), Bye()]
 NAMES = {Query: "query", Change: "change", Build: "build", AskStatus: "status", Bye: "bye", Stop: "stop"}
-EAST_TWICE = (Move.E, Move.E)
+EAST_TWICE = bytes([Move.E, Move.E])
 
 class Run:
     """A run of the program in which a request for memory is refused, if it comes so far, and those after it where that
@@ -135,7 +135,7 @@ def follow(number, lasting, room):
     edits = 1 if "change" in felt else 2
     version = 1 if felt else 2
     right = [
-        Path(1, 1, 0, (Move.E,)),
+        Path(1, 1, 0, bytes([Move.E])),
         OutOfMemory() if "change" in felt else Accepted(2),
         OutOfMemory() if "build" in felt else NothingNew(1) if edits == 1 else Published(2, 3, 0),
         Status(2, 2, 3, 1, 4) if version == 2 else Status(1, edits, 2, 1, 2),
