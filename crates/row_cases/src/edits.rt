@@ -19,7 +19,7 @@ pub fn edited(alloc: Global, grid: &Grid, seed: u32) -> Result<(Grid, Vec<Cell>)
     let (left, top) = (random.below(grid.width()), random.below(grid.height()));
     let (side, is_mixed) = (seed % 8 + 4, seed % 5 == 0);
     let shared = random.terrain(30, 20);
-    for _ in 0..=seed % 7 {
+    for _ in 0..seed % 7 + 1 {
         let x = (left + random.below(side)) as u16;
         let y = (top + random.below(side)) as u16;
         let own = random.terrain(30, 20);

@@ -16,7 +16,6 @@ mod staying;
 mod tiling;
 
 use crate::labelling::LabelsAfterEdits;
-use crate::staying::RowsAfterEdits;
 use crate::tiling::TilesAndSearches;
 use case_kit::{Comparison, Family, Fields, Refusal, compared};
 use std::alloc::Global;
@@ -42,7 +41,7 @@ pub fn answer<R: Threads + Sync>(
         "known rows" => staying::known_rows(rt, alloc, fields)?,
         "components after edits and anew" => family(alloc, input, &LabelsAfterEdits)?,
         "tiles and searches" => family(alloc, input, &TilesAndSearches)?,
-        "rows after edits and anew" => family(alloc, input, &RowsAfterEdits { rt })?,
+        "rows after edits and anew" => staying::rows_after_edits(rt, alloc, input)?,
         _ => return Ok(None),
     };
     Ok(Some(said))

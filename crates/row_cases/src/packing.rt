@@ -61,18 +61,10 @@ pub fn unpacked(alloc: Global, words: &[u32]) -> Result<Vec<Run>, AllocError> {
 pub fn write_runs(text: &mut String, runs: &[Run]) -> Result<(), AllocError> {
     for (place, run) in runs.iter().enumerate() {
         let blank = if place > 0 { " " } else { "" };
-        write!(text, "{blank}{}", run.start)?;
-        write_move(text, run.mv)?;
+        let by = Move::of(run.mv).unwrap_or_default();
+        write!(text, "{blank}{}{by}", run.start)?;
     }
     Ok(())
-}
-
-/// Writes the name of a move.
-fn write_move(text: &mut String, number: u8) -> Result<(), AllocError> {
-    match Move::of(number) {
-        Some(by) => write!(text, "{by}"),
-        None => text.push('-'),
-    }
 }
 
 /// Writes the move that is found at a place.
@@ -81,8 +73,8 @@ fn write_found(text: &mut String, row: &[Run], words: &[u32], place: u32) -> Res
     requires words_rise { Rises (map run_of_word words.now) }
 {
     let number = find_move(row, place);
-    text.push(' ')?;
-    write_move(text, number)?;
+    let by = Move::of(number).unwrap_or_default();
+    write!(text, " {by}")?;
     let (by_run, by_word) = find_counted::<Brand>(row, words, place, Blank::new(1));
     if number != by_run || number != by_word || number != find_word_move(words, place) {
         text.push('?')?;

@@ -7,18 +7,15 @@ use case_kit::{Fields, Random, Refusal};
 use row_edit::{EditRoom, PlaceSet, RowEdit, edit_each};
 use std::alloc::{AllocError, Global};
 
-/// The most places of a made list.
-const LONG: u32 = 40;
-
-/// `row edits | LISTS | REACH`: makes LISTS lists of sets and edits each one to four times. Counts how often the sets
-/// less than REACH places from the first edit decide the row, and how often that row differs from the packed one.
+/// `row edits | LISTS | REACH`: makes LISTS lists of at most 40 sets and edits each one to four times. Counts how often
+/// the sets less than REACH places from the first edit decide the row, and how often that row differs from the packed.
 pub fn row_edits(alloc: Global, mut fields: Fields<'_>) -> Result<String, Refusal> {
     let (lists, reach) = (fields.number()?, fields.number()?);
     let (mut decided, mut differ) = (0u32, 0u32);
     let mut random = Random::of(2);
     for _ in 0..lists {
         let mut sets = Vec::new(alloc);
-        for _ in 0..=random.below(LONG) {
+        for _ in 0..=random.below(40) {
             sets.push(some_set(&mut random)).map_err(AllocError::from)?;
         }
         let edits = some_edits(alloc, &mut random, &sets)?;

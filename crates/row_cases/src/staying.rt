@@ -6,7 +6,7 @@ use crate::builds::rows_differ;
 use crate::edits::edited;
 use crate::shapes::{component_of, first_component, in_order};
 use build_pool::{Crew, FreeGate, KnownRows, build_rows, build_rows_knowing};
-use case_kit::{Comparison, Fields, Refusal};
+use case_kit::{Family, Fields, Refusal};
 use cell_order::OrderKind;
 use kept_rows::rows_after;
 use lane_rows::Near;
@@ -32,21 +32,35 @@ impl<'a> KnownRows for Former<'a> {
     }
 }
 
-/// Compares the rows of a map's first component, built from those before an edit, with rows built from nothing.
-#[derive(Drop)]
-pub struct RowsAfterEdits<'a, R> {
-    /// What starts the threads of the workers.
-    pub rt: &'a R,
+/// `rows after edits and anew | FAMILY`: the number of maps, and of rows of their first components that differ when they
+/// are built from those before an edit. It is no `Comparison`, as a trait's method can't share `rt` among threads.
+pub fn rows_after_edits<R: Threads + Sync>(
+    rt: &R,
+    alloc: Global,
+    family: &str,
+) -> Result<String, Refusal> {
+    let maps = Family::of(alloc, family)?;
+    let (_, count) = family.rsplit_once(' ').unwrap_or(("", family));
+    let count: u32 = count.parse().map_err(|_| Refusal::OutOfForm)?;
+    let mut differences: u32 = 0;
+    for seed in 0..count {
+        let more = after_edit(rt, alloc, &maps.map(alloc, seed)?, seed)?;
+        differences = differences.saturating_add(more);
+    }
+    Ok(format!(in alloc; "{count} maps, {differences} differences")?)
 }
 
-impl<'a, R: Threads + Sync> Comparison for RowsAfterEdits<'a, R> {
-    fn differences(&self, alloc: Global, grid: &Grid, seed: u32) -> Result<u32, Refusal> {
-        let (map, _changed) = edited(alloc, grid, seed)?;
-        let (old, new) = (first_component(alloc, grid)?, first_component(alloc, &map)?);
-        match (old, new) {
-            (Some(old), Some(new)) => Ok(both_ways(self.rt, alloc, &old, &new)?),
-            _ => Ok(0),
-        }
+/// The number of rows that differ after an edit of the map, and after it is undone.
+fn after_edit<R: Threads + Sync>(
+    rt: &R,
+    alloc: Global,
+    grid: &Grid,
+    seed: u32,
+) -> Result<u32, AllocError> {
+    let (map, _changed) = edited(alloc, grid, seed)?;
+    match (first_component(alloc, grid)?, first_component(alloc, &map)?) {
+        (Some(old), Some(new)) => both_ways(rt, alloc, &old, &new),
+        _ => Ok(0),
     }
 }
 

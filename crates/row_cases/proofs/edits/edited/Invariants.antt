@@ -1,5 +1,4 @@
 -- The cells changed so far are in the list.
-use Rattle.std.proofs.Common.{◌×◌}
 use Rattle.components.specs.Edits.{HaveSameSides, AreChanged}
 use Rattle.row_cases.proofs.edits.edited.Given as goal
 

@@ -11,3 +11,12 @@ order_of-requires-clause-limits c = on_map_all _ c.requires.on_map
 
 pub of-requires : goal.of-requires
 of-requires c = rw c.deref.ensures.value (sources_in_order _ _ (given (goal.at.of-requires c).In_ok-order)).numbered
+
+pub returns-clause-table : goal.returns-clause-table
+returns-clause-table c =
+    let is = given (goal.at.returns-clause-table c).In_ok-order in
+    record {
+      sources = sources_in_order _ _ is;
+      edges = rw c.deref.ensures.value at c.in_ok-near.ensures.near;
+      pairs = c.in_ok-near.ensures.pairs;
+    }
