@@ -6,15 +6,15 @@ import subprocess
 TOP = os.path.dirname(os.path.dirname(os.path.abspath(__file__)))
 
 
-def newest(built, released):
-    """Returns the file built here, or the released one if there is none."""
-    built = os.path.join(TOP, built)
+def newest(named, built, released):
+    """Returns the file that the environment names, or the one built here, or the released one if there is none."""
+    built = os.environ.get(named) or os.path.join(TOP, built)
     return built if os.access(built, os.R_OK) else os.path.join(TOP, released)
 
 
 def program():
     """Returns the main program."""
-    return newest("crates/path_server/out/path_server", "release/path_server")
+    return newest("PATH_SERVER", "crates/path_server/out/path_server", "release/path_server")
 
 
 def counted(words, given=b"", within=None):
@@ -35,7 +35,7 @@ def said(words):
 
 def queries(folder):
     """Compiles bench/queries.c with the library built here, or the released one, and returns the program."""
-    library = newest("crates/pathdb/out/libpathdb.a", "release/pathdb/libpathdb.a")
+    library = newest("PATHDB", "crates/pathdb/out/libpathdb.a", "release/pathdb/libpathdb.a")
     made = os.path.join(folder, "queries")
     sources = [os.path.join(TOP, name) for name in ("bench/queries.c", "lib/pathdb_heap.c")]
     gcc = ["gcc", "-std=c99", "-O2", "-I", os.path.join(TOP, "include")]

@@ -8,8 +8,8 @@ Counts a build with one and with four workers, the versions after four edits, 1,
 
 Fails if a count is more than 1.2 times the recorded one, and reports a count below 0.8, so that you can record the
 better one. --show prints every count, and --write records them. PROGRAM and the library are those built here, or the
-released ones if nothing is built. Takes half a minute. Needs valgrind and gcc: without them it prints one line and
-counts nothing."""
+released ones if nothing is built, or those that PATH_SERVER and PATHDB in the environment name. Takes half a minute.
+Needs valgrind and gcc: without them it prints one line and is skipped."""
 import argparse
 import os
 import random
@@ -17,15 +17,15 @@ import shutil
 import sys
 import tempfile
 
-HERE = os.path.dirname(os.path.abspath(__file__))
-sys.path[:0] = [os.path.join(HERE, "..", "clients", "python"), os.path.join(HERE, "..", "bench")]
+from judging import TOP, skip
 
+sys.path.insert(0, os.path.join(TOP, "bench"))
 import maps  # noqa: E402
 import programs  # noqa: E402
 from path_server import Build, Bye, Change, Hello, Path, Published, Query, Terrain  # noqa: E402
 from path_server.frames import decoded, encoded, split_replies  # noqa: E402
 
-TABLE = os.path.join(HERE, "speed.txt")
+TABLE = os.path.join(TOP, "tests/speed.txt")
 MOST, LEAST = 1.2, 0.8
 KINDS = {"rooms": 50, "blocked25": 40, "open": 32}
 EDITED = [(7, 7), (40, 30)]  # cells inside rooms
@@ -110,8 +110,7 @@ def main():
     options = parser.parse_args()
     for tool in ("valgrind", "gcc"):
         if not shutil.which(tool):
-            print("speed.py: skipped: there is no", tool, file=sys.stderr)
-            return 0
+            skip("there is no " + tool)
     with tempfile.TemporaryDirectory() as folder:
         found = figures(options.program, folder)
         if options.write:
