@@ -1,6 +1,7 @@
 //! Rows of a component, built by workers side by side, and look-ups in them.
 
-ghost use Rattle.std.specs.Prelude.{◌≡◌, ◌<◌};
+ghost use Rattle.std.specs.Prelude.{◌≡◌, ◌<◌, IfOk, length, map};
+ghost use Rattle.row_store.specs.Rows.{row_at};
 
 use crate::packing::{unpacked, write_runs};
 use crate::shapes::component_of;
@@ -8,6 +9,7 @@ use build_pool::{FreeGate, Gate, MAX_WORKERS, build_rows};
 use case_kit::{Fields, Refusal};
 use cell_order::OrderKind;
 use row_store::CompData;
+use run_pack::Run;
 use run_pack::steps::Steps;
 use std::alloc::{AllocError, Global};
 use std::fmt::Write;
@@ -76,6 +78,43 @@ fn rows_text(alloc: Global, comp: &CompData) -> Result<String, AllocError> {
         write!(text, " {},{}", cell.x, cell.y)?;
     }
     Ok(text)
+}
+
+/// `remade | MAP`: the same rows, of the component that is made anew from lists of their runs.
+pub fn remade<R: Threads + Sync>(
+    rt: &R,
+    alloc: Global,
+    mut fields: Fields<'_>,
+) -> Result<String, Refusal> {
+    let cells = component_of(alloc, &fields.grid(alloc)?)?;
+    let comp = build_rows(rt, alloc, OrderKind::Rows, &cells, 1, &FreeGate)?;
+    let rows = rows_of(alloc, &comp)?;
+    let cells = Vec::from_slice(alloc, comp.cells())?;
+    let comp = CompData::make(alloc, comp.kind(), cells, rows)?;
+    Ok(rows_text(alloc, &comp)?)
+}
+
+/// The runs of all rows.
+fn rows_of(alloc: Global, comp: &CompData) -> Result<Vec<Vec<Run>>, AllocError>
+    ensures { IfOk result (λ rows. map (λ row. row.items) rows.items ≡ comp.now.rows) }
+{
+    let mut rows = Vec::new(alloc);
+    for from in 0..comp.cells().len() as u32 {
+        rows.push(runs_of(alloc, comp, from)?)?;
+    }
+    Ok(rows)
+}
+
+/// The runs of a row.
+fn runs_of(alloc: Global, comp: &CompData, from: u32) -> Result<Vec<Run>, AllocError>
+    requires { from < length comp.now.cells }
+    ensures { IfOk result (λ runs. runs.items ≡ row_at comp.now.rows from) }
+{
+    let mut runs = Vec::new(alloc);
+    for place in 0..comp.row_len(from) {
+        runs.push(comp.row_run(from, place))?;
+    }
+    Ok(runs)
 }
 
 /// `look up | MAP`: looks up the move from each cell of the map's first component to each other cell, and marks it with

@@ -37,6 +37,7 @@ pub fn answer<R: Threads + Sync>(
         "row edits" => row_edits::row_edits(alloc, fields)?,
         "tile" => tiling::tile(alloc, fields)?,
         "rows" => builds::rows(rt, alloc, fields)?,
+        "remade" => builds::remade(rt, alloc, fields)?,
         "look up" => builds::look_up(rt, alloc, fields)?,
         "known rows" => staying::known_rows(rt, alloc, fields)?,
         "components after edits and anew" => family(alloc, input, &LabelsAfterEdits)?,
