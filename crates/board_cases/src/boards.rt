@@ -97,14 +97,10 @@ fn replayed(alloc: Global, board: Board, events: &str) -> Result<(Board, Text), 
 fn board_shown(alloc: Global, board: &Board) -> Result<String, AllocError> {
     let (room, accepted) = (board.room(), board.accepted());
     let prefix = board.copy_version()?.prefix();
-    let halts = if board.look().halting {
-        "halting"
-    } else {
-        "not halting"
-    };
+    let not = if board.look().halting { "" } else { "not " };
     let mut text = String::new(alloc);
     write!(text, "room {room}, {accepted} accepted, version {prefix}, ")?;
-    write!(text, "{halts}:")?;
+    write!(text, "{not}halting:")?;
     push_entries(&mut text, board)?;
     Ok(text)
 }

@@ -21,8 +21,7 @@ impl<R> Case<'_, R> {
     /// `edits | EDIT, EDIT | PLACE`: a list of these edits, what stands at a place of it, and from there on.
     pub(crate) fn edits_said(&mut self) -> Result<String, Refusal> {
         let list = list_in(self.alloc, self.fields.text()?)?;
-        let place = self.fields.number()?;
-        Ok(list_shown(self.alloc, &list, place)?)
+        Ok(list_shown(self.alloc, &list, self.fields.number()?)?)
     }
 }
 

@@ -6,7 +6,7 @@ ghost use Rattle.moves.specs.Maps.{IsSearchable};
 use crate::case::{Case, all_cells, version_of};
 use crate::queries::{near_of, next_at};
 use build_pool::FreeGate;
-use case_kit::{Comparison, Family, Random, Refusal, compared};
+use case_kit::{Family, Random, Refusal};
 use cell_order::OrderKind;
 use moves::{Cell, Grid, MAX_PASSABLE, Move};
 use near_rows::NearVersion;
@@ -25,40 +25,54 @@ pub(crate) enum Bodies {
     Edited,
 }
 
-impl<R: Threads + Sync> Case<'_, R> {
-    /// `walks | FAMILY | ORDER | EVERY`, `near | ..` or `edited | ..`: how many answers of two bodies differ between
-    /// every so manieth cell of each map.
-    pub(crate) fn made_said(&mut self, bodies: Bodies) -> Result<String, Refusal> {
-        let family = Family::of(self.alloc, self.fields.text()?)?;
-        let made = Made {
-            rt: self.rt,
-            bodies,
-            kind: self.fields.order()?,
-            every: self.fields.number()?,
-        };
-        compared(self.alloc, &family, &made)
-    }
-}
-
-/// The versions of made maps, and what is compared between how many of their cells.
-#[derive(Drop)]
-struct Made<'a, R> {
-    rt: &'a R,
+/// What is compared on maps, in which order of the cells, and between every how manieth cell.
+#[derive(Clone, Copy)]
+struct Asked {
     bodies: Bodies,
     kind: OrderKind,
     every: u32,
 }
 
-impl<R: Threads + Sync> Comparison for Made<'_, R> {
-    fn differences(&self, alloc: Global, grid: &Grid, seed: u32) -> Result<u32, Refusal> {
-        let version = version_of(self.rt, alloc, grid.copy()?, 0, self.kind)?;
-        let twins = match self.bodies {
-            Bodies::Walks => Twins::Walks(version),
-            Bodies::Near => near_twins(self.rt, alloc, version)?,
-            Bodies::Edited => edited_twins(self.rt, alloc, &version, edited(grid, seed)?)?,
+impl<R: Threads + Sync> Case<'_, R> {
+    /// `walks | FAMILY | ORDER | EVERY`, `near | ..` or `edited | ..`: how many answers of two bodies differ between
+    /// every so manieth cell of each map. It is no `Comparison`, as a trait's method can't share `rt` among threads.
+    pub(crate) fn made_said(&mut self, bodies: Bodies) -> Result<String, Refusal> {
+        let named = self.fields.text()?;
+        let family = Family::of(self.alloc, named)?;
+        let (_, count) = named.rsplit_once(' ').unwrap_or(("", named));
+        let count: u32 = count.parse().map_err(|_| Refusal::OutOfForm)?;
+        let asked = Asked {
+            bodies,
+            kind: self.fields.order()?,
+            every: self.fields.number()?,
         };
-        let ends = ends_of(alloc, grid, self.every)?;
-        Ok(twins.differing(alloc, &ends))
+        let differences = self.differences(asked, &family, count)?;
+        Ok(format!(in self.alloc; "{count} maps, {differences} differences")?)
+    }
+
+    /// How many answers differ on the first so many maps of a family.
+    fn differences(&self, asked: Asked, family: &Family, count: u32) -> Result<u32, Refusal> {
+        let mut differences: u32 = 0;
+        for seed in 0..count {
+            let grid = family.map(self.alloc, seed)?;
+            let more = self.differences_on(asked, &grid, seed)?;
+            differences = differences.saturating_add(more);
+        }
+        Ok(differences)
+    }
+
+    /// How many answers differ on a map.
+    fn differences_on(&self, asked: Asked, grid: &Grid, seed: u32) -> Result<u32, Refusal>
+        requires { IsSearchable grid.now }
+    {
+        let version = version_of(self.rt, self.alloc, grid.copy()?, 0, asked.kind)?;
+        let twins = match asked.bodies {
+            Bodies::Walks => Twins::Walks(version),
+            Bodies::Near => near_twins(self.rt, self.alloc, version)?,
+            Bodies::Edited => edited_twins(self.rt, self.alloc, &version, edited(grid, seed)?)?,
+        };
+        let ends = ends_of(self.alloc, grid, asked.every)?;
+        Ok(twins.differing(self.alloc, &ends))
     }
 }
 
@@ -178,8 +192,8 @@ fn edited(grid: &Grid, seed: u32) -> Result<Grid, Refusal>
     let mut random = Random::of(seed);
     let mut edited = grid.copy()?;
     for _ in 0..3 {
-        let x = random.below(grid.width()) as u16;
-        let y = random.below(grid.height()) as u16;
+        let x = random.below(edited.width()) as u16;
+        let y = random.below(edited.height()) as u16;
         edited.set_terrain(Cell { x, y }, random.terrain(40, 30));
     }
     if edited.passable_count() > MAX_PASSABLE {

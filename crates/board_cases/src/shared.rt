@@ -76,17 +76,16 @@ fn members_of<'a>(
 }
 
 /// What either of two passes is told, where one of them submits an edit.
-#[tactic(auto, using(crate::proofs::Passes::passes_of))]
 fn met_shown<R: Wait>(rt: &R, alloc: Global, board: Board, edit: Edit) -> Result<String, AllocError>
     requires { board.history ≡ [] }
 {
-    let Ok((board, passes)) = SharedBoard::share(alloc, board, 2) else {
-        return Err(AllocError);
-    };
-    let mut members = members_of(alloc, &board, passes)?;
-    match (members.pop(), members.pop()) {
-        (Some(mut b), Some(mut a)) => met_by(rt, alloc, &mut a, &mut b, edit),
-        _ => Err(AllocError),
+    match SharedBoard::share(alloc, board, 2) {
+        Ok((board, mut passes)) => {
+            let b = passes.pop().unwrap();
+            let a = passes.pop().unwrap();
+            met_by(rt, alloc, &board, a, b, edit)
+        }
+        Err(_) => Err(AllocError),
     }
 }
 
@@ -94,16 +93,22 @@ fn met_shown<R: Wait>(rt: &R, alloc: Global, board: Board, edit: Edit) -> Result
 fn met_by<R: Wait>(
     rt: &R,
     alloc: Global,
-    a: &mut Member,
-    b: &mut Member,
+    board: &SharedBoard,
+    a: Pass,
+    b: Pass,
     edit: Edit,
-) -> Result<String, AllocError> {
-    let first = b.board.fresh(&mut b.pass);
-    let told = a.board.submit(rt, &mut a.pass, edit);
-    b.board.meet(&mut b.pass, a.board.note(&mut a.pass));
-    let met = b.board.fresh(&mut b.pass);
-    let accepted = b.board.look(rt, &mut b.pass).accepted;
-    let last = b.board.fresh(&mut b.pass);
+) -> Result<String, AllocError>
+    requires first { IsPassOf (board_id board.now) a }
+    requires second { IsPassOf (board_id board.now) b }
+{
+    let (mut a, mut b) = (a, b);
+    let first = board.fresh(&mut b);
+    let told = board.submit(rt, &mut a, edit);
+    let note = board.note(&mut a);
+    board.meet(&mut b, note);
+    let met = board.fresh(&mut b);
+    let accepted = board.look(rt, &mut b).accepted;
+    let last = board.fresh(&mut b);
     format!(in alloc; "B {first:?}, A {told:?}, B {met:?}, sees {accepted} accepted, {last:?}")
 }
 
@@ -131,15 +136,13 @@ fn passes_shown<R: Threads + Wait + Sync>(
         threads,
         &|_, member: &mut Member| { member.submit_all(rt, count) },
     );
-    match members.pop() {
-        Some(mut last) => {
-            let edits = last.board.job(rt, &mut last.pass, 0)?.edits;
-            let in_order = are_in_order(alloc, &edits, threads, count)?;
-            let accepted = edits.len();
-            format!(in alloc; "{threads} passes, {accepted} accepted, in order: {in_order}")
-        }
-        None => Err(AllocError),
-    }
+    let Some(mut last) = members.pop() else {
+        return Err(AllocError);
+    };
+    let edits = last.board.job(rt, &mut last.pass, 0)?.edits;
+    let in_order = are_in_order(alloc, &edits, threads, count)?;
+    let accepted = edits.len();
+    format!(in alloc; "{threads} passes, {accepted} accepted, in order: {in_order}")
 }
 
 /// Whether a list has so many edits of so many passes, those of each in its order.
