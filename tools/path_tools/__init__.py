@@ -5,7 +5,8 @@ import os
 import sys
 
 TOP = os.path.dirname(os.path.dirname(os.path.dirname(os.path.abspath(__file__))))
-sys.path.insert(0, os.path.join(TOP, "clients/python"))
+sys.path[:0] = [os.path.join(TOP, "clients/python"), os.path.join(TOP, "clients/pathdb")]
+os.environ.setdefault("PATHDB_LIBRARY", os.path.join(TOP, "release/pathdb/libpathdb.so"))
 
 
 def program_here() -> str:
