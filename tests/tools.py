@@ -1,6 +1,6 @@
 #!/usr/bin/env python3
-"""The tools beside the program: `tools/draw` and `tools/scenarios` over made maps and lists of scenarios. Prints only
-where something is not as it should be.
+"""The tools beside the program: `tools/draw`, `tools/scenarios` and `tools/judge` over made maps and lists
+of scenarios. Prints only where something is not as it should be.
 """
 import contextlib, csv, io, math, os, random, runpy, subprocess, sys, tempfile
 from xml.etree import ElementTree
@@ -8,7 +8,7 @@ from xml.etree import ElementTree
 from judging import TOP, Judge, program_here
 
 sys.path.insert(0, os.path.join(TOP, "tools"))
-from path_tools.grids import Grid, read_grid
+from path_tools.grids import MAX_PASSABLE, Grid, read_grid
 from path_tools.searches import DIAGONAL, STRAIGHT, components, runs_by_row, search
 from path_tools.problems import Problem
 from path_tools.scenario_runs import fault_of, fault_of_answer
@@ -24,7 +24,7 @@ def run(*words):
     return done.returncode, done.stdout, done.stderr
 
 
-MAIN = {name: runpy.run_path(os.path.join(TOP, "tools", name))["main"] for name in ("draw", "scenarios")}
+MAIN = {name: runpy.run_path(os.path.join(TOP, "tools", name))["main"] for name in ("draw", "scenarios", "judge")}
 
 
 def tool(name, *words):
@@ -104,6 +104,25 @@ def judge_lines(name, grid, lines, told):
         judge(f"{name}: a line", found, text)
 
 
+def judge_totals(name, lines, parts, total):
+    """The times and ratios of the totals are those of the lines."""
+    times = sorted(int(line["nanoseconds"]) for line in lines if line["nanoseconds"])
+    ranks = {part: next(time for time in times if 100 * sum(each <= time for each in times) >= part * len(times))
+             for part in (50, 90, 99) if times}
+    judge(f"{name}: percentiles", {part: int(total[f"p{part}_nanoseconds"]) for part in ranks}, ranks)
+    ratios = [float(line["length"]) / float(line["stated"]) for line in lines
+              if line["length"] and float(line["stated"])]
+    if ratios:
+        found = float(total["mean_ratio"]) - sum(ratios) / len(ratios), float(total["worst_ratio"]) - max(ratios)
+        judge(f"{name}: ratios {found}", max(map(abs, found)) < 1e-5, True)
+    buckets = {line["bucket"]: 0 for line in lines}
+    for line in lines:
+        buckets[line["bucket"]] += 1
+    found = {part["bucket"]: int(part["problems"]) for part in parts if part["map"] == "all"}
+    judge(f"{name}: buckets", found, buckets)
+    judge(f"{name}: the build", float(total["build_seconds"]) > 0 and int(total["database_bytes"]) > 0, True)
+
+
 def judge_paths(name, grid, lines, rows):
     """The file of paths has the cells of each path, and each leads from start to goal by legal moves."""
     cells = {}
@@ -141,13 +160,14 @@ def judge_set(rng, folder, number):
     with open(paths) as file:
         judge_paths(name, grid, lines, csv.DictReader(file))
     with open(totals) as file:
-        total = list(csv.DictReader(file))[-1]
+        *parts, total = csv.DictReader(file)
+    judge_totals(name, lines, parts, total)
     results = " ".join(
         f"{result} {total[result]}" for result in ("match", "differs", "unreachable", "refused", "scaled")
     )
     judge(f"{name}: the totals", f"scenarios {total['problems']} {results}", told.splitlines()[-1])
     judge(f"{name}: the status", status, 0 if total["match"] == total["problems"] else 1)
-    judge(f"{name}: the time is explained", said.startswith("time: "), True)
+    judge(f"{name}: the time is explained", "\nnanoseconds: a call of libpathdb, the least of 1," in said, True)
     check = dict(line.split(" ", 1) for line in run(program, "check", map_name, "--order", order)[1].splitlines())
     read = read_grid(map_name)
     judge(f"{name}: the map", read, grid)
@@ -160,13 +180,15 @@ def judge_faults(folder):
     maps = os.path.join(TOP, "tests/maps")
     row = os.path.join(maps, "row.map")
     for scen in ("fields.scen", "number.scen", "version.scen", "none.scen"):
-        judge(f"{scen}", tool("scenarios", row, os.path.join(maps, scen))[0], 3)
+        judge(scen, tool("scenarios", row, os.path.join(maps, scen))[0], 3)
     judge("no map", tool("scenarios", os.path.join(folder, "none.map"), os.path.join(maps, "row.scen"))[0], 3)
     for name in sorted(os.listdir(maps)):
         if name.endswith(".map"):
             is_map = run(program, "check", os.path.join(maps, name))[0] == 0
             judge(f"draw map {name}", tool("draw", "map", os.path.join(maps, name))[0], 0 if is_map else 1)
-    judge("words", [tool("draw")[0], tool("draw", "path", row, "0", "0", "2")[0], tool("scenarios", row)[0]], [2, 2, 2])
+    judge("words", [tool("draw")[0], tool("draw", "path", row, "0", "0", "2")[0], tool("scenarios")[0]], [2, 2, 2])
+    judge("no list beside a map", tool("scenarios", row)[0], 3)
+    judge("a folder without maps", tool("scenarios", os.path.join(TOP, "docs"))[0], 3)
     judge("a blocked end", tool("draw", "path", row, "0", "0", "1", "0")[2], "tools/draw: the goal is blocked\n")
 
 
@@ -211,6 +233,103 @@ def judge_example():
     judge("the tutorial's scenarios", (status, results), (0, {"match"}))
 
 
+SET = {"plain": "\n", "windows": "\r\n", "scaled": "\n", "wet": "\n", "deep/maze": "\n", "large": "\n"}
+"""The maps of a folder, and how their lines end."""
+
+
+def made_set(folder, maps, scens):
+    """Writes maps and lists into two folders, `large` with a cell too many; some scenarios of `scaled` are of other
+    sides. Returns how many scenarios there are of the others."""
+    rng, count = random.Random(3), 0
+    for name, end in SET.items():
+        width, height = (4, 3) if name != "large" else (MAX_PASSABLE // 128, 129)
+        cells = bytearray(b"\1" * (width * height))
+        cells[0] = 2 if name == "wet" else 1
+        grid = Grid(width, height, bytes(cells))
+        lines = ["version 1"]
+        for number in range(8):
+            start, goal = [(rng.randint(1, 3), rng.randint(0, 2)) for _ in range(2)]
+            straight, diagonal = least_cost(grid, start, goal) if name != "large" else (0, 0)
+            sides = f"{width + (name == 'scaled' and number == 5)} {height}"
+            length = straight + diagonal * 2**0.5
+            lines.append(f"{number // 4} x {sides} {start[0]} {start[1]} {goal[0]} {goal[1]} {length:.8f}")
+        count += 8 if name != "large" else 0
+        for place, text in ((maps, grid.text()), (scens, "\n".join([*lines, ""]))):
+            file = os.path.join(folder, place, name + (".map" if text.startswith("type") else ".map.scen"))
+            os.makedirs(os.path.dirname(file), exist_ok=True)
+            with open(file, "w", newline="") as opened:
+                opened.write(text.replace("\n", end))
+    return count
+
+
+def judge_sets(folder):
+    """A folder of maps in one command: the lists beside the maps or in a folder of their own, scaled lines, lines that
+    end as on Windows, and a map with too many cells, which is skipped with the reason."""
+    totals = os.path.join(folder, "totals")
+    for maps, scens in (("maps", "scens"), ("both", "both")):
+        count = made_set(folder, maps, scens)
+        words = ["--scens", os.path.join(folder, scens)] if maps != scens else []
+        status, text, said = tool("scenarios", os.path.join(folder, maps), *words, "--totals", totals, "--rounds", "1")
+        lines = list(csv.DictReader(text.splitlines()))
+        names = sorted(f"{name}.map" for name in SET if name != "large")
+        judge(f"{maps}: its lines", (sorted({line["map"] for line in lines}), len(lines)), (names, count))
+        others = [(line["map"], line["problem"], line["result"]) for line in lines if line["result"] != "match"]
+        judge(f"{maps}: what does not match", (others, status), ([("scaled.map", "6", "scaled")], 1))
+        reason = f"{os.path.join(folder, maps)}/large.map: {256 * 129} passable cells, more than 32768"
+        with open(totals) as file:
+            told = {(line["map"], line["bucket"]): line for line in csv.DictReader(file)}
+        skipped = {key: line["skipped"] for key, line in told.items() if line["skipped"]}
+        judge(f"{maps}: skipped", skipped, {("large.map", ""): reason})
+        judge(f"{maps}: told", f"skipped: {reason}\n" in said, True)
+        judge(f"{maps}: maps", [told[name, "all"]["problems"] for name in names], ["8"] * 5)
+        os.remove(os.path.join(folder, maps, "scaled.map"))
+        judge(f"{maps}: maps are skipped", tool("scenarios", os.path.join(folder, maps), *words, "--rounds", "1")[0], 5)
+        os.rename(os.path.join(folder, scens, "wet.map.scen"), os.path.join(folder, scens, "none"))
+        judge(f"{maps}: no list", tool("scenarios", os.path.join(folder, maps), *words, "--rounds", "1")[0], 3)
+
+
+def judge_judge(folder):
+    """Answers that are too long by a move, illegal or cut short are found, and those alone; in each form."""
+    example = os.path.join(TOP, "maps/tutorial.map")
+    status, text, _ = tool("scenarios", example, example + ".scen", "--rounds", "1", "--paths", folder + "/paths")
+    problems = [line["problem"] for line in csv.DictReader(text.splitlines())]
+    with open(folder + "/paths") as file:
+        cells = {problem: [] for problem in problems}
+        for row in csv.DictReader(file):
+            cells[row["problem"]].append((int(row["x"]), int(row["y"])))
+    paths, wanted = [cells[problem] for problem in problems], ["best"] * len(problems)
+    for number, verdict in ((3, "longer"), (8, "illegal"), (14, "ends elsewhere"), (20, "missed")):
+        wanted[number] = verdict
+        path = paths[number]
+        if verdict == "longer":  # a step back and forth
+            path[1:1] = [path[1], path[0]]
+        elif verdict == "illegal":  # a cell is jumped
+            del path[1]
+            path[1:1] = [(path[0][0], path[0][1] - 20)]
+        paths[number] = path if verdict != "ends elsewhere" else path[:-1]
+    lines = [" ".join("%d,%d" % cell for cell in path) for path in paths]
+    lines[20] = "-"
+    with open(folder + "/answers", "w") as file:
+        file.write("\n".join(lines) + "\n")
+    status, text, said = tool("judge", example, example + ".scen", folder + "/answers")
+    found = [line["verdict"] for line in csv.DictReader(text.splitlines())]
+    judge("verdicts", (found, status), (wanted, 1))
+    judge("their count", said.startswith("21 answers: 17 best, 1 longer, 1 illegal, 1 ends elsewhere, 1 missed\n"), True)
+    with open(example + ".scen") as file:
+        lengths = [line.split("\t")[-1] for line in file.read().splitlines()[1:]]
+    wanted = ["best"] * len(lengths)
+    lengths[2], wanted[2] = "1.0", "too short"
+    lengths[7], wanted[7] = "99.5", "longer"
+    with open(folder + "/answers", "w") as file:
+        file.write("\n".join(lengths) + "\n")
+    words = [example, example + ".scen", folder + "/answers"]
+    text = tool("judge", *words, "--form", "lengths")[1]
+    judge("lengths", [line["verdict"] for line in csv.DictReader(text.splitlines())], wanted)
+    text = tool("judge", *words, "--form", "lengths", "--wrong")[1]
+    judge("those that are wrong", [line["problem"] for line in csv.DictReader(text.splitlines())], ["3", "8"])
+    judge("no cells", tool("judge", *words)[0], 3)
+
+
 def judge_outputs():
     """Where an output takes nothing the status is 4, with a line, and without one behind a pipe that was closed."""
     example = os.path.join(TOP, "maps/tutorial.map")
@@ -229,7 +348,8 @@ def judge_outputs():
             done = subprocess.run(
                 [*command, *words], stdin=subprocess.DEVNULL, stdout=output, stderr=subprocess.PIPE, text=True
             )
-            judge(f"{name}: status and words", (done.returncode, done.stderr), (4, wanted))
+            said = [line for line in done.stderr.splitlines(keepends=True) if " built in " not in line]
+            judge(f"{name}: status and words", (done.returncode, "".join(said)), (4, wanted))
 
 
 def judge_views(folder):
@@ -264,6 +384,8 @@ with tempfile.TemporaryDirectory() as folder:
         judge_set(rng, folder, number)
     judge_faults(folder)
     judge_views(folder)
+    judge_sets(folder)
+    judge_judge(folder)
 judge_checker()
 judge_answers()
 judge_example()

@@ -11,5 +11,13 @@ os.environ.setdefault("PATHDB_LIBRARY", os.path.join(TOP, "release/pathdb/libpat
 
 def program_here() -> str:
     """The program that was built here, or the release where none was."""
-    built = os.path.join(TOP, "crates/path_server/out/path_server")
-    return built if os.path.isfile(built) else os.path.join(TOP, "release/path_server")
+    return _found("crates/path_server/out/path_server", "release/path_server")
+
+
+def bake_here() -> str:
+    """The program path_bake that was built here, or that of the release."""
+    return _found("crates/path_bake/out/path_bake", "release/pathdb/path_bake")
+
+
+def _found(built: str, released: str) -> str:
+    return next(path for path in (os.path.join(TOP, built), os.path.join(TOP, released)) if os.path.isfile(path))

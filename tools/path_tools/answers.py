@@ -66,8 +66,8 @@ class Judged:
 
     @property
     def ratio(self) -> Optional[float]:
-        """The answer's length over the least; 1 from a cell to itself."""
-        if self.best is None or self.length is None:
+        """The answer's length over the least, where it leads to the goal; 1 from a cell to itself."""
+        if self.best is None or self.length is None or self.verdict is Verdict.ENDS_ELSEWHERE:
             return None
         return self.length / self.best.length if self.best.length else 1.0
 
@@ -160,8 +160,8 @@ def _walked(start: Cell, answer: Union[List[Cell], List[Move]]) -> List[Cell]:
 
 
 def _between(one: Cell, other: Cell) -> List[Cell]:
-    """The cells after one up to another, by steps in one of the eight directions; the other alone where it lies on no such
-    line."""
+    """The cells after one up to another, by steps in one of the eight directions; the other alone where it lies on no
+    such line."""
     right, down = other[0] - one[0], other[1] - one[1]
     count = max(abs(right), abs(down))
     if not count or not (right == 0 or down == 0 or abs(right) == abs(down)):

@@ -22,6 +22,10 @@ class MapFault(Exception):
     """A file is no map of this format, and where."""
 
 
+class MapTooLarge(MapFault):
+    """A map is beyond the limits of the database."""
+
+
 @dataclass(frozen=True)
 class Grid:
     """A map: its sides in cells, and a byte a cell, row by row: 0 blocked, 1 land, 2 water. A cell's place is its
@@ -105,7 +109,7 @@ def read_grid(name: str) -> Grid:
     with open(name, "rb") as file:
         data = file.read(MAX_FILE + 1)
     if len(data) > MAX_FILE:
-        raise MapFault("%s: more than %d bytes" % (name, MAX_FILE))
+        raise MapTooLarge("%s: more than %d bytes" % (name, MAX_FILE))
     lines = lines_of(data)
     width, height = _sides(name, lines)
     rows = [line.rstrip(b" \t") for line in lines[4 : 4 + height]]
@@ -121,10 +125,11 @@ def read_grid(name: str) -> Grid:
         if line.strip(b" \t"):
             raise MapFault("%s:%d: a line behind the last row" % (name, number))
     terrain_of = {byte: terrain for letters, terrain in _BYTES.items() for byte in letters}
-    grid = Grid(width, height, bytes(terrain_of[byte] for byte in b"".join(rows)))
-    if len(grid.places) > MAX_PASSABLE:
-        raise MapFault("%s: more than %d passable cells" % (name, MAX_PASSABLE))
-    return grid
+    terrain = bytes(terrain_of[byte] for byte in b"".join(rows))
+    passable = len(terrain) - terrain.count(0)
+    if passable > MAX_PASSABLE:
+        raise MapTooLarge("%s: %d passable cells, more than %d" % (name, passable, MAX_PASSABLE))
+    return Grid(width, height, terrain)
 
 
 def _sides(name: str, lines: List[bytes]) -> Tuple[int, int]:
@@ -136,5 +141,6 @@ def _sides(name: str, lines: List[bytes]) -> Tuple[int, int]:
         raise MapFault("%s: lines 2 and 3 are not 'height' and 'width', each with a number" % name)
     width, height = int(sides[b"width"]), int(sides[b"height"])
     if not (1 <= width <= MAX_SIDE and 1 <= height <= MAX_SIDE and width * height <= MAX_CELLS):
-        raise MapFault("%s: a map has sides of 1 to %d and at most %d cells" % (name, MAX_SIDE, MAX_CELLS))
+        fault = MapTooLarge if width and height else MapFault
+        raise fault("%s: a map has sides of 1 to %d and at most %d cells" % (name, MAX_SIDE, MAX_CELLS))
     return width, height

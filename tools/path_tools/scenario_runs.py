@@ -1,18 +1,19 @@
-"""Scenarios run by the program: what each query answers and how long it takes, and a check of each path that shares
-nothing with the program but the map's file."""
+"""Scenarios run by the program and by the library: what each query answers and how long it takes, and a check of each
+path that shares nothing with the two but the map's file."""
 
 from __future__ import annotations
 
 import enum
 import time
-from dataclasses import dataclass, field
-from typing import Dict, List, Optional, Tuple
+from dataclasses import dataclass
+from typing import List, Optional, Tuple
 
 from path_server import AskStatus, Cell, ChildLink, Path, Query, Refused, Unreachable
 from path_server.frames import Reply, Request, decoded, encoded
 
 from .grids import Grid
-from .problems import Problem, is_as_stated
+from .images import TimedImage
+from .problems import NANO, Problem, is_as_stated
 from .searches import DIAGONAL, STRAIGHT, search
 
 PATIENCE = 3600.0  # seconds that the program may take to build the database and to answer
@@ -31,13 +32,54 @@ class Result(enum.Enum):
 
 @dataclass(frozen=True)
 class Run:
-    """A scenario that was run: its result, in words too, its path if it has one, and the query's nanoseconds."""
+    """A scenario that was run: its result, in words too, its path if it has one, and the query's nanoseconds, in this
+    process and over the pipe."""
 
     problem: Problem
     result: Result
     words: str
     path: Optional[Path] = None
     nanoseconds: Optional[int] = None
+    pipe_nanoseconds: Optional[int] = None
+
+    @property
+    def ratio(self) -> Optional[float]:
+        """The path's length over the stated one, where that is above 0."""
+        return self.path.length * NANO / self.problem.nano if self.path and self.problem.nano else None
+
+
+@dataclass(frozen=True)
+class Runner:
+    """A map that is asked: by the pipe to the program, and by the library in this process."""
+
+    link: ChildLink
+    image: TimedImage
+    grid: Grid
+    rounds: int
+    with_search: bool
+
+    def run(self, problem: Problem) -> Run:
+        """Asks a scenario's query in each round, of which the fastest counts, and judges the answers."""
+        if (problem.width, problem.height) != (self.grid.width, self.grid.height):
+            return Run(problem, Result.SCALED, "scaled")
+        answers = [timed(self.link, Query(problem.start, problem.goal)) for _ in range(self.rounds)]
+        answer, over_pipe = answers[0][0], min(each[1] for each in answers)
+        if isinstance(answer, Refused):
+            words = "%s %s" % (answer.reason.name.lower(), answer.end.name.lower())
+            if words == refusal_of(self.grid, problem):
+                return Run(problem, Result.REFUSED, words)
+            return Run(problem, Result.WRONG, "wrong: " + words)
+        moves, taken = self.image.path(problem.start, problem.goal)
+        path = answer if isinstance(answer, Path) else None
+        fault = fault_of_answer(self.grid, problem, answer, self.with_search)
+        if not fault and moves != (path.move_bytes if path else None):
+            fault = "the library answers another path"
+        if fault:
+            return Run(problem, Result.WRONG, "wrong: " + fault, path, taken, over_pipe)
+        if path is None:
+            return Run(problem, Result.UNREACHABLE, "unreachable", None, taken, over_pipe)
+        result = Result.MATCH if is_as_stated(path, problem.nano) else Result.DIFFERS
+        return Run(problem, result, result.value, path, taken, over_pipe)
 
 
 def timed(link: ChildLink, request: Request) -> Tuple[Reply, int]:
@@ -53,27 +95,6 @@ def timed(link: ChildLink, request: Request) -> Tuple[Reply, int]:
 def empty_round(link: ChildLink, rounds: int = 101) -> int:
     """The median nanoseconds of a request that looks nothing up: what the pipes and this program take of each query."""
     return sorted(timed(link, AskStatus())[1] for _ in range(rounds))[rounds // 2]
-
-
-def run(link: ChildLink, grid: Grid, problem: Problem, rounds: int, with_search: bool) -> Run:
-    """Asks a scenario's query so many times, of which the fastest counts, and judges the answer."""
-    if (problem.width, problem.height) != (grid.width, grid.height):
-        return Run(problem, Result.SCALED, "scaled")
-    answers = [timed(link, Query(problem.start, problem.goal)) for _ in range(rounds)]
-    answer, taken = answers[0][0], min(each[1] for each in answers)
-    if isinstance(answer, Refused):
-        words = "%s %s" % (answer.reason.name.lower(), answer.end.name.lower())
-        if words == refusal_of(grid, problem):
-            return Run(problem, Result.REFUSED, words)
-        return Run(problem, Result.WRONG, "wrong: " + words)
-    path = answer if isinstance(answer, Path) else None
-    fault = fault_of_answer(grid, problem, answer, with_search)
-    if fault:
-        return Run(problem, Result.WRONG, "wrong: " + fault, path, taken)
-    if path is None:
-        return Run(problem, Result.UNREACHABLE, "unreachable", None, taken)
-    result = Result.MATCH if is_as_stated(path, problem.nano) else Result.DIFFERS
-    return Run(problem, result, result.value, path, taken)
 
 
 def fault_of_answer(grid: Grid, problem: Problem, answer: Reply, with_search: bool) -> Optional[str]:
@@ -118,59 +139,27 @@ def excess_of(grid: Grid, problem: Problem, path: Path) -> Optional[str]:
     return None if path.straight * STRAIGHT + path.diagonal * DIAGONAL == least else "a shorter path exists"
 
 
-COLUMNS = (
-    "problem bucket start_x start_y goal_x goal_y stated straight diagonal length moves nanoseconds result".split()
-)
+COLUMNS = [
+    *"map problem bucket start_x start_y goal_x goal_y stated straight diagonal length moves".split(),
+    *"nanoseconds pipe_nanoseconds result".split(),
+]
 """What a run's line of CSV has."""
 
 
-def line_of(done: Run) -> List[object]:
-    """A run as a line of CSV."""
+def line_of(name: str, done: Run) -> List[object]:
+    """A run on the map of that name as a line of CSV."""
     problem, path = done.problem, done.path
     found: List[object] = [path.straight, path.diagonal, path.exact_length, len(path.move_bytes)] if path else [""] * 4
-    taken = "" if done.nanoseconds is None else done.nanoseconds
-    return [problem.number, problem.bucket, *problem.start, *problem.goal, problem.stated, *found, taken, done.words]
+    times = ["" if taken is None else taken for taken in (done.nanoseconds, done.pipe_nanoseconds)]
+    ends = [*problem.start, *problem.goal]
+    return [name, problem.number, problem.bucket, *ends, problem.stated, *found, *times, done.words]
 
 
-PATH_COLUMNS = "problem step x y".split()
+PATH_COLUMNS = "map problem step x y".split()
 """What a line of the file of paths has."""
 
 
-def path_rows(done: Run) -> List[Tuple[int, int, int, int]]:
-    """A run's path: the scenario's number, the step from 0, and column and row."""
+def path_rows(name: str, done: Run) -> List[Tuple[str, int, int, int, int]]:
+    """A run's path: the map's name, the scenario's number, the step from 0, and column and row."""
     cells = done.path.cells(done.problem.start) if done.path else []
-    return [(done.problem.number, step, *cell) for step, cell in enumerate(cells)]
-
-
-@dataclass
-class Totals:
-    """Sums over the runs of a bucket, or over all."""
-
-    counts: Dict[Result, int] = field(default_factory=lambda: {result: 0 for result in Result})
-    straight: int = 0
-    diagonal: int = 0
-    nanoseconds: int = 0
-    timed: int = 0
-
-    COLUMNS = [
-        *("bucket problems".split()),
-        *(result.value for result in Result),
-        *("straight diagonal length moves mean_nanoseconds".split()),
-    ]
-
-    def add(self, done: Run) -> None:
-        """Takes a run in."""
-        self.counts[done.result] += 1
-        if done.path:
-            self.straight += done.path.straight
-            self.diagonal += done.path.diagonal
-        if done.nanoseconds is not None:
-            self.nanoseconds += done.nanoseconds
-            self.timed += 1
-
-    def line(self, bucket: str) -> List[object]:
-        """The sums as a line of CSV."""
-        length = Path(0, self.straight, self.diagonal, b"").exact_length
-        mean = self.nanoseconds // self.timed if self.timed else ""
-        sums = [self.straight, self.diagonal, length, self.straight + self.diagonal, mean]
-        return [bucket, sum(self.counts.values()), *self.counts.values(), *sums]
+    return [(name, done.problem.number, step, *cell) for step, cell in enumerate(cells)]
