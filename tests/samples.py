@@ -124,6 +124,7 @@ with tempfile.TemporaryDirectory() as folder:
     try_sample("path.c", C, [CHECKED])
     try_sample("threads.cpp", CPP, [CHECKED, RACED])
     try_sample("parts.cpp", CPP, [CHECKED, RACED])
+    try_sample("competition.cpp", CPP, [CHECKED])
     try_others()
     try_threads_and_memory()
     try_images()

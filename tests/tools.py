@@ -1,8 +1,8 @@
 #!/usr/bin/env python3
-"""The tools beside the program: `tools/draw`, `tools/scenarios` and `tools/judge` over made maps and lists
-of scenarios. Prints only where something is not as it should be.
+"""The tools beside the program: `tools/draw`, `tools/scenarios`, `tools/judge` and `tools/plot` over made maps and
+lists of scenarios. Prints only where something is not as it should be.
 """
-import contextlib, csv, io, math, os, random, runpy, subprocess, sys, tempfile
+import contextlib, csv, importlib.util, io, math, os, random, runpy, statistics, subprocess, sys, tempfile
 from xml.etree import ElementTree
 
 from judging import TOP, Judge, program_here
@@ -24,7 +24,8 @@ def run(*words):
     return done.returncode, done.stdout, done.stderr
 
 
-MAIN = {name: runpy.run_path(os.path.join(TOP, "tools", name))["main"] for name in ("draw", "scenarios", "judge")}
+TOOLS = ("draw", "scenarios", "judge", "plot")
+MAIN = {name: runpy.run_path(os.path.join(TOP, "tools", name))["main"] for name in TOOLS}
 
 
 def tool(name, *words):
@@ -314,7 +315,8 @@ def judge_judge(folder):
     status, text, said = tool("judge", example, example + ".scen", folder + "/answers")
     found = [line["verdict"] for line in csv.DictReader(text.splitlines())]
     judge("verdicts", (found, status), (wanted, 1))
-    judge("their count", said.startswith("21 answers: 17 best, 1 longer, 1 illegal, 1 ends elsewhere, 1 missed\n"), True)
+    counts = "21 answers: 17 best, 1 longer, 1 illegal, 1 ends elsewhere, 1 missed\n"
+    judge("their count", said.startswith(counts), True)
     with open(example + ".scen") as file:
         lengths = [line.split("\t")[-1] for line in file.read().splitlines()[1:]]
     wanted = ["best"] * len(lengths)
@@ -328,6 +330,69 @@ def judge_judge(folder):
     text = tool("judge", *words, "--form", "lengths", "--wrong")[1]
     judge("those that are wrong", [line["problem"] for line in csv.DictReader(text.splitlines())], ["3", "8"])
     judge("no cells", tool("judge", *words)[0], 3)
+
+
+PLOTTED = {
+    "one": {0: ([100, 900, 300], [2.0, 4.0]), 2: ([2000], [8.5]), 5: ([40000, 60000], [21.0, 23.0, 22.0])},
+    "two & three": {0: ([7000], [2.5]), 2: ([8000, 9000], [10.0]), 5: ([500000], [30.0])},
+}
+"""Planners, and by bucket the nanoseconds and lengths of their runs."""
+
+
+def points_of(chart, is_log):
+    """The points of each line of a chart, read off by its own axes: pixels are turned into numbers by the numbers that
+    stand at two places of each axis."""
+    space = "{http://www.w3.org/2000/svg}"
+    texts = [(text.text, float(text.get("x")), float(text.get("y")), text.get("text-anchor"))
+             for text in chart.iter(space + "text") if text.get("x") and text.text != "bucket"]
+    turn = math.log10 if is_log else float
+    ups = [(turn(float(text)), y - 5) for text, _, y, anchor in texts if anchor == "end"]
+    rights = [(float(text), x) for text, x, _, anchor in texts if anchor == "middle"]
+
+    def read_off(ticks, pixel):
+        (one, at), *_, (other, to) = ticks
+        return one + (pixel - at) * (other - one) / (to - at)
+
+    for line in chart.iter(space + "polyline"):
+        places = [tuple(map(float, place.split(","))) for place in line.get("points").split()]
+        yield [(read_off(rights, x), read_off(ups, y)) for x, y in places]
+
+
+def judge_plot(folder):
+    """The plain SVG has the medians of the times and the means of the lengths where its axes say that they are."""
+    for name, buckets in PLOTTED.items():
+        with open(os.path.join(folder, name), "w", newline="") as file:
+            lines = [[bucket, time, ""] for bucket, (times, _) in buckets.items() for time in times]
+            lines += [[bucket, "", length] for bucket, (_, lengths) in buckets.items() for length in lengths]
+            csv.writer(file).writerows([["bucket", "nanoseconds", "length"], *lines])
+    output, files = os.path.join(folder, "plot.svg"), [os.path.join(folder, name) for name in PLOTTED]
+    judge("a plot", tool("plot", *files, "--plain", "-o", output), (0, "", ""))
+    picture = ElementTree.parse(output).getroot()
+    times, lengths = picture.findall("{http://www.w3.org/2000/svg}g")
+    for found, buckets in zip(points_of(times, True), PLOTTED.values()):
+        wanted = [(bucket, math.log10(statistics.median(all_of) / 1000)) for bucket, (all_of, _) in buckets.items()]
+        judge(f"times {found}", near(found, wanted, 0.01), True)
+    for found, buckets in zip(points_of(lengths, False), PLOTTED.values()):
+        wanted = [(bucket, sum(all_of) / len(all_of)) for bucket, (_, all_of) in buckets.items()]
+        judge(f"lengths {found}", near(found, wanted, 0.05), True)
+    labels = [text.text for text in picture.findall("{http://www.w3.org/2000/svg}text")]
+    judge("labels", labels, list(PLOTTED))
+    judge("each chart has both", [len(list(points_of(times, True))), len(list(points_of(lengths, False)))], [2, 2])
+    judge("no columns", tool("plot", os.path.join(TOP, "README.md"), "--plain", "-o", output)[0], 3)
+    judge("no format", tool("plot", *files, "--plain", "-o", folder + "/plot.png")[0], 2)
+    judge("no room", tool("plot", *files, "--plain", "-o", "/nowhere/plot.svg")[0], 4)
+    if importlib.util.find_spec("matplotlib"):
+        judge("by matplotlib", tool("plot", *files, "-o", folder + "/plot.png"), (0, "", ""))
+        with open(folder + "/plot.png", "rb") as file:
+            judge("a picture", file.read(4), b"\x89PNG")
+    else:
+        print("skipped: there is no matplotlib")
+
+
+def near(found, wanted, most):
+    """Whether points are these, but for what is rounded."""
+    pairs = [pair for one, other in zip(found, wanted) for pair in zip(one, other)]
+    return len(found) == len(wanted) and all(abs(one - other) <= most for one, other in pairs)
 
 
 def judge_outputs():
@@ -386,6 +451,7 @@ with tempfile.TemporaryDirectory() as folder:
     judge_views(folder)
     judge_sets(folder)
     judge_judge(folder)
+    judge_plot(folder)
 judge_checker()
 judge_answers()
 judge_example()
