@@ -289,6 +289,30 @@ def judge_sets(folder):
         judge(f"{maps}: no list", tool("scenarios", os.path.join(folder, maps), *words, "--rounds", "1")[0], 3)
 
 
+WALK = "E E E E E E E E SE SE E E E E SE SE SE SE S S SE E E E SE E E S SE SE SE SE E E E E E E"
+"""The path of README.md, from (2, 2) to (37, 17)."""
+CORNERS = "2,2 10,2 12,4 16,4 20,8 20,10 21,11 24,11 25,12 27,12 27,13 31,17 38,17"
+"""Its corners, and one move more than it has."""
+
+
+def judge_forms(folder):
+    """One path as words, as digits, as its corners, and one move too far."""
+    example, scen, answers = os.path.join(TOP, "maps/tutorial.map"), folder + "/scen", folder + "/answers"
+    with open(scen, "w") as file:
+        file.write("version 1\n" + "0 x 40 20 2 2 37 17 42.97\n" * 2)
+    digits = "".join(str(Move[move].value) for move in WALK.split())
+    for form, lines, wanted in (
+        ("moves", [WALK, digits], ["best"] * 2),
+        ("moves", [WALK[:-2], "W W " + WALK], ["ends elsewhere", "illegal"]),
+        ("cells", [CORNERS, CORNERS.replace("38,", "37,")], ["ends elsewhere", "best"]),
+        ("cells", [CORNERS.replace(" 12,4", ""), "(2, 2); (3, 2)"], ["illegal", "ends elsewhere"]),
+    ):
+        with open(answers, "w") as file:
+            file.write("\n".join(lines))
+        text = tool("judge", example, scen, answers, "--form", form)[1]
+        judge(f"{lines}", [line["verdict"] for line in csv.DictReader(text.splitlines())], wanted)
+
+
 def judge_judge(folder):
     """Answers that are too long by a move, illegal or cut short are found, and those alone; in each form."""
     example = os.path.join(TOP, "maps/tutorial.map")
@@ -395,6 +419,14 @@ def near(found, wanted, most):
     return len(found) == len(wanted) and all(abs(one - other) <= most for one, other in pairs)
 
 
+def judge_without_compiler():
+    """Where no C compiler is found the times are taken in Python, and standard error says so."""
+    words = [sys.executable, os.path.join(TOP, "tools/scenarios"), os.path.join(TOP, "maps/tutorial.map")]
+    bare = {**os.environ, "PATH": ""}
+    done = subprocess.run(words, stdin=subprocess.DEVNULL, capture_output=True, text=True, env=bare)
+    judge("without a compiler", (done.returncode, "timed by Python, since no `cc` is here" in done.stderr), (0, True))
+
+
 def judge_outputs():
     """Where an output takes nothing the status is 4, with a line, and without one behind a pipe that was closed."""
     example = os.path.join(TOP, "maps/tutorial.map")
@@ -451,9 +483,11 @@ with tempfile.TemporaryDirectory() as folder:
     judge_views(folder)
     judge_sets(folder)
     judge_judge(folder)
+    judge_forms(folder)
     judge_plot(folder)
 judge_checker()
 judge_answers()
 judge_example()
 judge_outputs()
+judge_without_compiler()
 sys.exit(judge.failed)
