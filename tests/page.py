@@ -152,7 +152,7 @@ def try_door(browser, folder, address, pictures):
     wanted = path_on(edited, START, GOAL)
     judge("the door matters", wanted != path_on(MAP, START, GOAL), True)
     wait_until(shows(browser, wanted), "the path around the closed door")
-    wait_until(lambda: browser.text("build").endswith(" ms"), "a build time")
+    wait_until(lambda: browser.text("build").split(" ")[-1] in ("ms", "second", "seconds"), "a build time")
     return wanted
 
 

@@ -28,7 +28,6 @@ from urllib.parse import parse_qs, urlsplit
 
 from path_server import (
     Accepted,
-    AskStatus,
     Cell,
     Client,
     ConnectionLost,
@@ -38,7 +37,6 @@ from path_server import (
     Refused,
     Server,
     SessionOver,
-    Status,
     Terrain,
 )
 from path_server.frames import MAX_COORDINATE, QueryReply
@@ -118,11 +116,12 @@ class Table:
         """The version, the edits behind those that are known, and the answer to a query where there are ends."""
 
         def work(client: Client) -> Json:
-            status = client.send(AskStatus())
-            query = client.send_query((ends[0], ends[1]), (ends[2], ends[3])) if ends else None
-            found = status.result()
-            assert isinstance(found, Status)
-            told: Json = dict(vars(found), build_ms=self.build_ms, answer=answer_of(query.result()) if query else None)
+            found = client.status()
+            told: Json = dict(vars(found), build_ms=self.build_ms, answer=None)
+            if ends:
+                began = time.perf_counter()
+                reply = client.query((ends[0], ends[1]), (ends[2], ends[3]))
+                told.update(query_ms=(time.perf_counter() - began) * 1000, answer=answer_of(reply))
             # an edit that came another way is not known here
             told["edits"] = [self._edits.get(number) for number in range(known + 1, found.accepted + 1)]
             return told

@@ -13,7 +13,7 @@ const STRAIGHT = 17179869184, DIAGONAL = 24296003999;
 const ALL_MOVES = 255;
 
 const INK = "#1f2430", PAPER = "#ffffff", BLOCKED = "#3b4252", LAND = "#f3efe6", WATER = "#cfe3ee";
-const PATH = "#d1495b", START = "#1b7f4d", GOAL = "#2455a4", PENDING = "#e07a1f";
+const PATH = "#d1495b", START = "#1b7f4d", GOAL = "#2455a4", PENDING = "#b3541e";
 const MOVE_COLOURS = ["#d7263d", "#f46036", "#f2c14e", "#8cb369", "#2a9d8f", "#3a86ff", "#6a4c93", "#d16ba5"];
 const COMPONENT_COLOURS = ["#e9c46a", "#8ecae6", "#f4a261", "#a7c957", "#cdb4db", "#84a98c", "#ffafcc", "#b08968",
   "#90dbf4", "#d4a373"];
@@ -175,6 +175,15 @@ const state = {
 const canvas = document.getElementById("map"), pen = canvas.getContext("2d");
 const put = (id, text) => { document.getElementById(id).textContent = text; };
 
+/** A time of so many milliseconds, as people say it. */
+function spoken(time) {
+  if (time < 1000) return `${time.toFixed(time < 10 ? 2 : 1)} ms`;
+  const count = (number, unit) => `${number} ${unit}${number === 1 ? "" : "s"}`;
+  const seconds = Math.round(time / 1000), minutes = Math.floor(seconds / 60);
+  if (!minutes) return count(seconds, "second");
+  return seconds % 60 ? `${count(minutes, "minute")} ${count(seconds % 60, "second")}` : count(minutes, "minute");
+}
+
 function gridAfter(count) {
   const terrain = state.base.terrain.slice();
   for (const edit of state.edits.slice(0, count)) {
@@ -208,7 +217,7 @@ async function begin() {
   const [startX, startY, goalX, goalY] = isWhole ? ends : told.ends;
   Object.assign(state, { start: [startX, startY], goal: [goalX, goalY] });
   put("name", told.name);
-  document.title = told.name + " - path_server";
+  document.title = `${told.name} - path_server`;
   showTerrains();
   learn({ version: 0, accepted: 0, edits: [] });
 }
@@ -242,7 +251,8 @@ function showNumbers(told) {
   put("version", state.version);
   put("lag", lag);
   document.getElementById("lag").classList.toggle("behind", lag > 0);
-  if (told.build_ms) put("build", `${told.build_ms.toFixed(1)} ms`);
+  if (told.build_ms) put("build", spoken(told.build_ms));
+  if (told.query_ms) put("server", spoken(told.query_ms));
   for (const name of ["cells", "components", "runs"]) if (name in told) put(name, told[name].toLocaleString("en"));
   showFault();
 }
@@ -266,7 +276,7 @@ async function look() {
     state.fault = "";
     told.answer.start = start;
     state.trips = [...state.trips.filter((time) => time > began - 1000), performance.now()];
-    put("trip", `${(performance.now() - began).toFixed(1)} ms`);
+    put("trip", spoken(performance.now() - began));
     put("rate", state.trips.length);
     learn(told);
   } catch (fault) {
@@ -354,7 +364,7 @@ let side = 1;
 function fit() {
   const stage = document.getElementById("stage");
   const { width, height } = state.base;
-  side = Math.max(0.25, Math.min((stage.clientWidth - 24) / width, (window.innerHeight - 24) / height));
+  side = Math.max(0.25, Math.min((stage.clientWidth - 24) / width, (stage.clientHeight - 24) / height));
   side = side >= 2 ? Math.floor(side) : side;
   const pixels = window.devicePixelRatio || 1;
   canvas.style.width = `${width * side}px`;
@@ -438,7 +448,7 @@ function draw() {
   pen.imageSmoothingEnabled = false;
   pen.drawImage(cellsImage, 0, 0, width, height);
   state.versionGrid.terrain.forEach((each, place) => {
-    if (each !== terrain[place]) disc([place % width, Math.floor(place / width)], 0.22, PENDING);
+    if (each !== terrain[place]) disc([place % width, Math.floor(place / width)], 0.25, PENDING);
   });
   if (state.answer && state.answer.kind === "path") drawPath();
   const radius = Math.max(0.6, 8 / side);
@@ -450,6 +460,9 @@ function draw() {
 function disc([column, row], radius, colour, letter) {
   pen.beginPath();
   pen.arc(column + 0.5, row + 0.5, radius, 0, 2 * Math.PI);
+  pen.strokeStyle = PAPER;
+  pen.lineWidth = 0.4 * radius;
+  pen.stroke();
   pen.fillStyle = colour;
   pen.fill();
   if (!letter) return;
@@ -471,7 +484,7 @@ function drawPath() {
   }
   pen.lineJoin = pen.lineCap = "round";
   const width = Math.max(0.3, 2.5 / side);
-  for (const [colour, wider] of state.layer === "path" ? [[PATH, 1]] : [[PAPER, 1.7], [INK, 1]]) {
+  for (const [colour, wider] of [[PAPER, 1.7], [state.layer === "path" ? PATH : INK, 1]]) {
     pen.strokeStyle = colour;
     pen.lineWidth = width * wider;
     pen.stroke();
@@ -538,11 +551,16 @@ function paintTo(cell) {
   showEdits();
 }
 
-function moveTo(cell) {
-  const end = state[state.holds.end];
-  if (!isInside(cell) || (end[0] === cell[0] && end[1] === cell[1])) return;
-  state[state.holds.end] = cell;
+/** Moves the start or the goal to a cell. */
+function moveEnd(end, cell) {
+  if (!isInside(cell) || (state[end][0] === cell[0] && state[end][1] === cell[1])) return;
+  state[end] = cell;
   state.isDirty = true;
+}
+
+/** Keeps the ends in the page's address. */
+function keepEnds() {
+  history.replaceState(null, "", `#${[...state.start, ...state.goal]}`);
 }
 
 canvas.addEventListener("pointerdown", (event) => {
@@ -551,6 +569,7 @@ canvas.addEventListener("pointerdown", (event) => {
   const end = isAt(event, state.start) ? "start" : isAt(event, state.goal) ? "goal" : null;
   state.holds = { end, last: cellOf(event) };
   if (!end) paintTo(cellOf(event));
+  canvas.focus({ focusVisible: false });
   event.preventDefault();
 });
 
@@ -559,13 +578,13 @@ canvas.addEventListener("pointermove", (event) => {
   const cell = cellOf(event);
   state.pointer = isInside(cell) ? cell : null;
   put("pointer", state.pointer ? `column ${cell[0]}, row ${cell[1]}` : "\u00a0");
-  if (state.holds) (state.holds.end ? moveTo : paintTo)(cell);
+  if (state.holds) state.holds.end ? moveEnd(state.holds.end, cell) : paintTo(cell);
 });
 
 for (const name of ["pointerup", "pointercancel"]) {
   canvas.addEventListener(name, () => {
     state.holds = null;
-    history.replaceState(null, "", `#${[...state.start, ...state.goal]}`);
+    keepEnds();
   });
 }
 canvas.addEventListener("pointerleave", () => { state.pointer = null; });
@@ -584,7 +603,6 @@ function choose(kind, value) {
 
 document.addEventListener("change", (event) => {
   if (event.target.name) choose(event.target.name, event.target.value);
-  event.target.blur();
 });
 
 document.addEventListener("keydown", (event) => {
@@ -593,6 +611,16 @@ document.addEventListener("keydown", (event) => {
   const terrain = state.terrains.find(({ name }) => name[0] === event.key);
   if (layer) choose("layer", layer);
   if (terrain) choose("terrain", terrain.name);
+});
+
+const ARROWS = { ArrowUp: [0, -1], ArrowRight: [1, 0], ArrowDown: [0, 1], ArrowLeft: [-1, 0] };
+
+canvas.addEventListener("keydown", (event) => {
+  if (!(event.key in ARROWS) || !state.base) return;
+  const end = event.shiftKey ? "start" : "goal", [right, down] = ARROWS[event.key];
+  moveEnd(end, [state[end][0] + right, state[end][1] + down]);
+  keepEnds();
+  event.preventDefault();
 });
 
 document.getElementById("save").addEventListener("click", (event) => {
