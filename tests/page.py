@@ -228,7 +228,8 @@ def try_end(browser, demo):
     """A server that is killed is told of; Ctrl-C ends the demo, and the page says so."""
     children = subprocess.run(["ps", "-o", "pid=", "--ppid", str(demo.pid)], stdout=subprocess.PIPE, text=True).stdout
     os.kill(int(children.split()[0]), signal.SIGKILL)
-    wait_until(lambda: browser.text("fault") != "", "that the server is gone")
+    wait_until(lambda: "path_server is gone" in browser.text("fault"), "that the server is gone")
+    judge("the answers are grey", browser.run("return document.body.classList.contains('gone')"), True)
     demo.send_signal(signal.SIGINT)
     judge("the demo's status", demo.wait(PATIENCE), 0)
     wait_until(lambda: "./demo has ended" in browser.text("fault"), "that the demo has ended")

@@ -37,6 +37,7 @@ from path_server import (
     Refused,
     Server,
     SessionOver,
+    Status,
     Terrain,
 )
 from path_server.frames import MAX_COORDINATE, QueryReply
@@ -58,8 +59,11 @@ MAX_BODY = 1 << 20
 class Table:
     """The server's map and its edits as far as they came through this page, and one session that all threads share."""
 
-    def __init__(self, name: str, grid: Grid, server: Server, order: str) -> None:
+    def __init__(self, name: str, grid: Grid, server: Server, order: str, start_ms: float) -> None:
         self.name, self.grid, self.order = os.path.basename(name), grid, order
+        self._run = str(time.time_ns())
+        self._behind: Optional[Tuple[int, float]] = None
+        self._last_ms = start_ms
         self._server = server
         self._client: Optional[Client] = None
         self._session, self._news = threading.Lock(), threading.Condition()
@@ -117,7 +121,8 @@ class Table:
 
         def work(client: Client) -> Json:
             found = client.status()
-            told: Json = dict(vars(found), build_ms=self.build_ms, answer=None)
+            told: Json = dict(vars(found), run=self._run, build_ms=self.build_ms, answer=None)
+            told.update(self._progress(found))
             if ends:
                 began = time.perf_counter()
                 reply = client.query((ends[0], ends[1]), (ends[2], ends[3]))
@@ -127,6 +132,25 @@ class Table:
             return told
 
         return self.asked(work)
+
+    def _progress(self, found: Status) -> Json:
+        """For how long the version after the published one is waited for, and how long the one before it was."""
+        now = time.monotonic()
+        if self._behind and self._behind[0] != found.version:
+            self._last_ms = (now - self._behind[1]) * 1000
+            self._behind = None
+        if found.lag == 0:
+            return {}
+        self._behind = self._behind or (found.version, now)
+        return {"waited_ms": (now - self._behind[1]) * 1000, "last_ms": self._last_ms}
+
+    def explained(self, fault: PathServerError) -> str:
+        """A fault, in the words of the page."""
+        status = self._server.process.poll()
+        if status is None:
+            return "path_server does not answer: %s" % fault
+        how = "was ended by signal %d" % -status if status < 0 else "has ended with status %d" % status
+        return "path_server is gone: it %s. End ./demo with Ctrl-C and start it again" % how
 
     def _watch(self) -> None:
         """Measures how long the newest edit waits for the version that has it."""
@@ -147,7 +171,14 @@ class Table:
         largest: List[int] = max(components(self.grid), key=len, default=[0])
         ends = [*self.grid.cell(largest[0]), *self.grid.cell(largest[-1])]
         terrains = [{"name": terrain.name.lower(), "value": terrain.value} for terrain in Terrain]
-        return {"name": self.name, "rows": self.grid.rows(), "ends": ends, "order": self.order, "terrains": terrains}
+        return {
+            "run": self._run,
+            "name": self.name,
+            "rows": self.grid.rows(),
+            "ends": ends,
+            "order": self.order,
+            "terrains": terrains,
+        }
 
 
 def answer_of(reply: QueryReply) -> Json:
@@ -224,7 +255,7 @@ class Handler(BaseHTTPRequestHandler):
         try:
             self._send(200, work())
         except PathServerError as fault:
-            self._send(503, {"fault": str(fault)})
+            self._send(503, {"fault": self.table.explained(fault)})
         except (ValueError, KeyError, TypeError, LookupError) as fault:
             self._send(400, {"fault": "faulty request: %s" % fault})
 
@@ -285,8 +316,11 @@ def main(about: str) -> int:
     asked = read_words(about)
     try:
         options = ["--order", asked.order, "--workers", str(asked.workers)]
-        with Server(asked.map, *options, program=program_here(), timeout=600) as server:
-            Handler.table = Table(asked.map, read_grid(asked.map), server, asked.order)
+        os.environ.setdefault("PATH_SERVER_PROGRESS", "1")
+        began = time.monotonic()
+        with Server(asked.map, *options, program=program_here(), timeout=600, heard=sys.stderr.write) as server:
+            start_ms = (time.monotonic() - began) * 1000
+            Handler.table = Table(asked.map, read_grid(asked.map), server, asked.order, start_ms)
             with QuietServer(("127.0.0.1", asked.port), Handler) as pages:
                 _serve(pages, asked.no_browser)
     except ProgramEnded as fault:

@@ -84,8 +84,9 @@ class Program:
     def told(self) -> str:
         """What it has said on standard error so far, or up to its end."""
         if not self._told.closed:
-            self._told.seek(0)
-            self._last_words = self._told.read().decode(errors="replace")
+            file = self._told.fileno()
+            # the child writes at the place that a seek would move
+            self._last_words = os.pread(file, os.fstat(file).st_size, 0).decode(errors="replace")
         return self._last_words
 
     def end(self, patience: float = 0.0) -> None:

@@ -5,15 +5,17 @@ from __future__ import annotations
 import select
 import socket
 import subprocess
+import time
 from dataclasses import dataclass
 from types import TracebackType
-from typing import Optional, Type
+from typing import Callable, Optional, Type
 
 from .client import Client
 from .faults import ProgramEnded, TimedOut
 from .programs import Program, find_program
 
 _GRACE = 15.0  # seconds in which a server ends after a stop: open sessions have ten
+_LOOK = 0.2  # seconds between two looks at what a program says while it starts
 _TRIES = 5  # free ports that may be taken by another before the server has them
 _PORT_TAKEN = 5  # the program's status then
 
@@ -48,9 +50,11 @@ class Server:
         feed: Optional[int] = None,
         program: Optional[str] = None,
         timeout: float = 60.0,
+        heard: Optional[Callable[[str], object]] = None,
     ) -> None:
         """Starts it at a port, or at a free one, and waits up to `timeout` seconds until it serves. With `feed` it leads:
-        it feeds followers at that port, or at a free one where it is 0.
+        it feeds followers at that port, or at a free one where it is 0. `heard` is called with each piece of what the
+        program says on standard error until it serves.
 
         NotConnected: there is no such program. ProgramEnded: it refuses the map, the port or the options. TimedOut: the
         map's database was not built in time.
@@ -63,26 +67,35 @@ class Server:
             self._program = Program([*command, *words, *options], has_input=False)
             self.process = self._program.process
             try:
-                self._hear_first_line(timeout)
+                self._hear_first_line(timeout, heard or (lambda _: None))
                 return
             except ProgramEnded as ended:
                 if ended.status != _PORT_TAKEN or "port" not in ended.told or not left:
                     raise
 
-    def _hear_first_line(self, timeout: float) -> None:
-        poll = select.poll()
-        poll.register(self._program.output.fileno(), select.POLLIN)
+    def _hear_first_line(self, timeout: float, heard: Callable[[str], object]) -> None:
         wanted = [b"serving %d\n" % self.port]
         if self.feed is not None:
             wanted.append(b"feeding %d\n" % self.feed)
         for each in wanted:
-            if not poll.poll(timeout * 1000):
-                self.kill()
-                raise TimedOut("the server", timeout)
+            self._wait_for_output(timeout, heard)
             line = self._program.output.readline()
             if line != each:
                 self._program.end(timeout)
                 raise ProgramEnded(self.process.returncode, self.told(), line)
+
+    def _wait_for_output(self, timeout: float, heard: Callable[[str], object]) -> None:
+        poll = select.poll()
+        poll.register(self._program.output.fileno(), select.POLLIN)
+        deadline, known = time.monotonic() + timeout, 0
+        while not poll.poll(min(_LOOK, timeout) * 1000):
+            told = self.told()
+            if len(told) > known:
+                heard(told[known:])
+            known = len(told)
+            if time.monotonic() >= deadline:
+                self.kill()
+                raise TimedOut("the server", timeout)
 
     def told(self) -> str:
         """What the program has said on standard error so far, or up to its end."""

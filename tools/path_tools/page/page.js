@@ -170,14 +170,19 @@ function packed(sets, places) {
 const state = {
   base: null, order: "rows", terrains: [], edits: [], version: 0, accepted: 0, versionGrid: null, editedGrid: null,
   start: [0, 0], goal: [0, 0], answer: null, layer: "path", terrain: "blocked", pointer: null, holds: null,
-  isDirty: true, fault: "", note: "", trips: [], runs: null, field: null,
+  isDirty: true, run: "", fault: "", note: "", rows: null, trips: [], runs: null, field: null,
 };
 const canvas = document.getElementById("map"), pen = canvas.getContext("2d");
 const put = (id, text) => { document.getElementById(id).textContent = text; };
 
+const inWords = (number) => number.toLocaleString("en");
+
 /** A time of so many milliseconds, as people say it. */
 function spoken(time) {
-  if (time < 1000) return `${time.toFixed(time < 10 ? 2 : 1)} ms`;
+  return time < 1000 ? `${time.toFixed(time < 10 ? 2 : 1)} ms` : spokenSeconds(time);
+}
+
+function spokenSeconds(time) {
   const count = (number, unit) => `${number} ${unit}${number === 1 ? "" : "s"}`;
   const seconds = Math.round(time / 1000), minutes = Math.floor(seconds / 60);
   if (!minutes) return count(seconds, "second");
@@ -210,7 +215,7 @@ async function begin() {
   const told = await asked("map");
   const terrain = Uint8Array.from(told.rows.join(""), (letter) => "@.W".indexOf(letter));
   state.base = new Grid(told.rows[0].length, told.rows.length, terrain);
-  Object.assign(state, { order: told.order, terrains: told.terrains });
+  Object.assign(state, { order: told.order, terrains: told.terrains, run: told.run });
   const ends = location.hash.slice(1).split(",").map(Number);
   const isPlace = (number) => Number.isInteger(number) && number >= 0 && number < 65536;
   const isWhole = ends.length === 4 && ends.every(isPlace);
@@ -224,7 +229,6 @@ async function begin() {
 
 /** Takes what a look tells: the version, the edits, and the answer. */
 function learn(told) {
-  if (told.accepted < state.edits.length) location.reload(); // another ./demo answers at this address
   state.edits.push(...told.edits);
   const version = told.answer ? told.answer.version : told.version;
   const isNews = !state.versionGrid || version !== state.version || told.edits.length > 0;
@@ -232,7 +236,7 @@ function learn(told) {
   if (isNews) {
     state.versionGrid = gridAfter(version);
     showEdits();
-    state.runs = state.field = null;
+    state.runs = state.field = state.rows = null;
   }
   showNumbers(told);
   document.body.dataset.version = version;
@@ -249,17 +253,40 @@ function showNumbers(told) {
     put("length", "\u00a0");
   }
   put("version", state.version);
+  showBuild(told, lag);
   put("lag", lag);
   document.getElementById("lag").classList.toggle("behind", lag > 0);
   if (told.build_ms) put("build", spoken(told.build_ms));
   if (told.query_ms) put("server", spoken(told.query_ms));
-  for (const name of ["cells", "components", "runs"]) if (name in told) put(name, told[name].toLocaleString("en"));
+  for (const name of ["cells", "components", "runs"]) if (name in told) put(name, inWords(told[name]));
   showFault();
 }
 
+/** Tells of the version that is built: the protocol has no number of rows that are done. */
+function showBuild(told, lag) {
+  const isBuilt = lag > 0 && told.waited_ms !== undefined, edits = lag === 1 ? "1 edit" : `${lag} edits`;
+  put("old", isBuilt ? `old: without the newest ${edits}` : "\u00a0");
+  if (!isBuilt) return put("build-news", "");
+  state.rows = state.rows === null ? rowsToBuild() : state.rows;
+  put("build-news", `Building for ${spokenSeconds(told.waited_ms)}: ${edits}, components of ${inWords(state.rows)} rows. `
+    + `The last build took ${spoken(told.last_ms)}. The dashed path is that of version ${state.version}.`);
+}
+
+/** How many rows the version with all known edits has in components that the published one does not have. */
+function rowsToBuild() {
+  const { label } = state.versionGrid.components, old = state.versionGrid.components.parts;
+  const isKept = (part) => label[part[0]] >= 0 && old[label[part[0]]].length === part.length
+    && part.every((place) => label[place] === label[part[0]]);
+  const { parts } = gridAfter(state.edits.length).components;
+  return parts.reduce((count, part) => count + (isKept(part) ? 0 : part.length), 0);
+}
+
 function showFault() {
+  document.body.classList.toggle("gone", state.fault !== "");
+  if (state.fault) put("build-news", "");
   const isBlind = state.edits.some((edit) => !edit);
-  put("fault", state.fault || state.note || (isBlind ? "edits came in past this page, which cannot draw them" : ""));
+  const gone = state.fault && `${state.fault}. What you see is the last answer.`;
+  put("fault", gone || state.note || (isBlind ? "edits came in past this page, which cannot draw them" : ""));
 }
 
 // ---- asking: a look a frame while something moves, else two a second
@@ -273,6 +300,7 @@ async function look() {
   lastLook = began;
   try {
     const told = await asked(`look?edits=${state.edits.length}&ends=${[...start, ...goal]}`);
+    if (told.run !== state.run) return location.reload(); // ./demo was started again
     state.fault = "";
     told.answer.start = start;
     state.trips = [...state.trips.filter((time) => time > began - 1000), performance.now()];
@@ -484,11 +512,13 @@ function drawPath() {
   }
   pen.lineJoin = pen.lineCap = "round";
   const width = Math.max(0.3, 2.5 / side);
+  pen.setLineDash(state.accepted > state.version ? [2 * width, 3 * width] : []);
   for (const [colour, wider] of [[PAPER, 1.7], [state.layer === "path" ? PATH : INK, 1]]) {
     pen.strokeStyle = colour;
     pen.lineWidth = width * wider;
     pen.stroke();
   }
+  pen.setLineDash([]);
 }
 
 let shownKey = "";
