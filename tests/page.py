@@ -24,7 +24,7 @@ import urllib.error
 import urllib.request
 
 from judging import TOP, Judge, program_here, skip
-from path_server import free_port
+from path_server import Client, Terrain, free_port
 
 sys.path.insert(0, os.path.join(TOP, "tools"))
 from path_tools.grids import read_grid
@@ -128,7 +128,8 @@ def path_on(map_name, start, goal):
 def start_demo(*words):
     """The demo, and the address of its page."""
     demo = subprocess.Popen([os.path.join(TOP, "demo"), "--no-browser", *words], stdout=subprocess.PIPE, text=True)
-    return demo, demo.stdout.readline().split("; ")[0].split()[-1]
+    address = demo.stdout.readline().split("; ")[0].split()[-1]
+    return demo, address, int(demo.stdout.readline().split(",")[0].split()[-1])
 
 
 def shows(browser, length):
@@ -198,6 +199,18 @@ def try_two_pages(browser, length):
     wait_until(shows(browser, path_on(MAP, START, GOAL)), "the path through the door again")
 
 
+def try_other_client(browser, port):
+    """An edit of two cells by another client is drawn, and so is the next one."""
+    cells = [(10, 10), (11, 12)]
+    terrain = "return arguments[0].map(([column, row]) => state.editedGrid.at(column, row)).join()"
+    with Client.connect(port) as client:
+        for wanted in (Terrain.WATER, Terrain.LAND):
+            client.edit([(cell, wanted) for cell in cells])
+            drawn = ",".join(2 * [str(wanted.value)])
+            wait_until(lambda: browser.run(terrain, cells) == drawn, "an edit by another client")
+    wait_until(lambda: browser.text("lag") == "0", "the version with the edits by another client")
+
+
 def try_rate(browser):
     """A query a frame while the goal is dragged: how many answers, moves of the pointer and frames the busiest second
     had."""
@@ -241,13 +254,14 @@ def main():
     pictures = parser.parse_args().pictures
     if not (shutil.which("chromedriver") and shutil.which("chromium")):
         skip("there is no chromium with chromedriver")
-    demo, address = start_demo()
+    demo, address, port = start_demo()
     browser = Browser()
     try:
         with tempfile.TemporaryDirectory() as folder:
             length = try_door(browser, folder, address, pictures)
         try_layers(browser, pictures)
         try_two_pages(browser, length)
+        try_other_client(browser, port)
         rate = try_rate(browser)
         judge(
             "answers a second while dragging, beside moves and frames: %s" % (rate,),

@@ -1,4 +1,4 @@
-"""The page of `./demo`: a small web server before a `path_server serve`, both at 127.0.0.1.
+"""The page of `./demo`: a small web server before a `path_server lead`, both at 127.0.0.1.
 
 | request | answer, as JSON but for the page's two files |
 |---|---|
@@ -23,11 +23,13 @@ import threading
 import time
 import webbrowser
 from http.server import BaseHTTPRequestHandler, ThreadingHTTPServer
-from typing import Any, Callable, Dict, List, Optional, Tuple, TypeVar, Union
+from itertools import takewhile
+from typing import Any, Callable, Dict, List, Optional, Tuple, TypeVar, Union, cast
 from urllib.parse import parse_qs, urlsplit
 
 from path_server import (
     Accepted,
+    AskStatus,
     Cell,
     Client,
     ConnectionLost,
@@ -43,6 +45,7 @@ from path_server import (
 from path_server.frames import MAX_COORDINATE, QueryReply
 
 from . import TOP, program_here
+from .feeds import Changes, FeedFault, edits_after
 from .grids import Grid, MapFault, read_grid
 from .searches import ORDERS, components
 
@@ -57,7 +60,7 @@ MAX_BODY = 1 << 20
 
 
 class Table:
-    """The server's map and its edits as far as they came through this page, and one session that all threads share."""
+    """The server's map and its edits, and one session that all threads share."""
 
     def __init__(self, name: str, grid: Grid, server: Server, order: str, start_ms: float) -> None:
         self.name, self.grid, self.order = os.path.basename(name), grid, order
@@ -67,7 +70,7 @@ class Table:
         self._server = server
         self._client: Optional[Client] = None
         self._session, self._news = threading.Lock(), threading.Condition()
-        self._edits: Dict[int, Tuple[int, int, int]] = {}
+        self._edits: Dict[int, Changes] = {}
         self._awaited: Optional[Tuple[int, float]] = None
         self.build_ms: Optional[float] = None
         threading.Thread(target=self._watch, daemon=True).start()
@@ -102,7 +105,7 @@ class Table:
                 answer = client.change(cell, terrain)
                 if isinstance(answer, Accepted):
                     last = answer.number
-                    self._edits[last] = (*cell, terrain.value)
+                    self._edits[last] = [(*cell, terrain.value)]
                     self._await(last)
                 else:
                     refused.append(answer.fault.name.lower().replace("_", " "))
@@ -120,18 +123,32 @@ class Table:
         """The version, the edits behind those that are known, and the answer to a query where there are ends."""
 
         def work(client: Client) -> Json:
-            found = client.status()
-            told: Json = dict(vars(found), run=self._run, build_ms=self.build_ms, answer=None)
+            began = time.perf_counter()
+            query = client.send_query((ends[0], ends[1]), (ends[2], ends[3])) if ends else None
+            status = client.send(AskStatus())
+            answer = answer_of(query.result()) if query else None
+            query_ms = (time.perf_counter() - began) * 1000
+            found = status.result()
+            assert isinstance(found, Status)
+            told: Json = dict(vars(found), run=self._run, build_ms=self.build_ms, answer=answer, query_ms=query_ms)
             told.update(self._progress(found))
-            if ends:
-                began = time.perf_counter()
-                reply = client.query((ends[0], ends[1]), (ends[2], ends[3]))
-                told.update(query_ms=(time.perf_counter() - began) * 1000, answer=answer_of(reply))
-            # an edit that came another way is not known here
-            told["edits"] = [self._edits.get(number) for number in range(known + 1, found.accepted + 1)]
             return told
 
-        return self.asked(work)
+        told = self.asked(work)
+        told["edits"] = self._edits_between(known, cast(int, told["accepted"]))
+        return told
+
+    def _edits_between(self, known: int, accepted: int) -> List[Changes]:
+        """The edits after the first `known` ones. Those that came past this page are read from the server's feed; where
+        that fails, they and all later ones are missing, and the next look asks for them."""
+        numbers = range(known + 1, accepted + 1)
+        unread = next((number for number in numbers if number not in self._edits), None)
+        if unread is not None and self._server.feed is not None:
+            try:
+                self._edits.update(enumerate(edits_after(self._server.feed, unread - 1), unread))
+            except FeedFault:
+                pass  # the page counts what it has not got
+        return [self._edits[number] for number in takewhile(self._edits.__contains__, numbers)]
 
     def _progress(self, found: Status) -> Json:
         """For how long the version after the published one is waited for, and how long the one before it was."""
@@ -318,11 +335,13 @@ def main(about: str) -> int:
         options = ["--order", asked.order, "--workers", str(asked.workers)]
         os.environ.setdefault("PATH_SERVER_PROGRESS", "1")
         began = time.monotonic()
-        with Server(asked.map, *options, program=program_here(), timeout=600, heard=sys.stderr.write) as server:
+        with Server(
+            asked.map, *options, feed=0, program=program_here(), timeout=600, heard=sys.stderr.write
+        ) as server:
             start_ms = (time.monotonic() - began) * 1000
             Handler.table = Table(asked.map, read_grid(asked.map), server, asked.order, start_ms)
             with QuietServer(("127.0.0.1", asked.port), Handler) as pages:
-                _serve(pages, asked.no_browser)
+                _serve(pages, server, asked.no_browser)
     except ProgramEnded as fault:
         print("demo: %s" % (fault.told.strip() or fault), file=sys.stderr)
         return 1
@@ -334,9 +353,10 @@ def main(about: str) -> int:
     return 0
 
 
-def _serve(pages: QuietServer, is_browserless: bool) -> None:
+def _serve(pages: QuietServer, server: Server, is_browserless: bool) -> None:
     address = "http://127.0.0.1:%d/" % pages.server_address[1]
-    print("the page is at %s; Ctrl-C ends it" % address, flush=True)
+    print("the page is at %s; Ctrl-C ends it" % address)
+    print("path_server is at port %d, for clients and `ask`" % server.port, flush=True)
     if not is_browserless and (os.environ.get("DISPLAY") or os.environ.get("WAYLAND_DISPLAY")):
         webbrowser.open(address)
     pages.serve_forever()

@@ -191,8 +191,8 @@ function spokenSeconds(time) {
 
 function gridAfter(count) {
   const terrain = state.base.terrain.slice();
-  for (const edit of state.edits.slice(0, count)) {
-    if (edit) terrain[edit[1] * state.base.width + edit[0]] = edit[2];
+  for (const [column, row, value] of state.edits.slice(0, count).flat()) {
+    terrain[row * state.base.width + column] = value;
   }
   return new Grid(state.base.width, state.base.height, terrain);
 }
@@ -284,9 +284,9 @@ function rowsToBuild() {
 function showFault() {
   document.body.classList.toggle("gone", state.fault !== "");
   if (state.fault) put("build-news", "");
-  const isBlind = state.edits.some((edit) => !edit);
+  const missing = state.accepted - state.edits.length;
   const gone = state.fault && `${state.fault}. What you see is the last answer.`;
-  put("fault", gone || state.note || (isBlind ? "edits came in past this page, which cannot draw them" : ""));
+  put("fault", gone || state.note || (missing > 0 ? `${missing} edits by others are not drawn yet` : ""));
 }
 
 // ---- asking: a look a frame while something moves, else two a second
