@@ -78,7 +78,8 @@ class Browser:
     def at(self, cell):
         """Where a cell is in the window, in pixels."""
         script = """const box = document.getElementById("map").getBoundingClientRect();
-                    return [box.left + (arguments[0] + 0.5) * side, box.top + (arguments[1] + 0.5) * side];"""
+                    return [box.left + (arguments[0] + 0.5 - corner[0]) * side,
+                            box.top + (arguments[1] + 0.5 - corner[1]) * side];"""
         return [round(place) for place in self.run(script, *cell)]
 
     def drag(self, *cells):
@@ -211,6 +212,43 @@ def try_other_client(browser, port):
     wait_until(lambda: browser.text("lag") == "0", "the version with the edits by another client")
 
 
+def try_zoom(browser):
+    """The column under the pointer stays there as the map grows; arrow keys move B, and the map with it."""
+    x, y = browser.at(GOAL)
+    wheel = {"type": "scroll", "x": x, "y": y, "deltaX": 0, "deltaY": -120}
+    browser.ask("/actions", {"actions": [{"type": "wheel", "id": "wheel", "actions": 3 * [wheel]}]})
+    wait_until(lambda: browser.run("return zoom") > 1.9, "three steps of the wheel")
+    judge("the column under the pointer", abs(browser.at(GOAL)[0] - x) <= 1, True)
+    judge("the end under the pointer", browser.run("return state.goal"), list(GOAL))
+    browser.run("canvas.focus()")
+    for _ in range(3):
+        browser.key("\ue014")  # the arrow to the right
+    judge("B after three arrow keys", browser.run("return state.goal"), [GOAL[0] + 3, GOAL[1]])
+    for _ in range(3):
+        browser.key("\ue012")
+    browser.key("0")
+    judge("the whole map", browser.run("return [zoom, ...corner]"), [1, 0, 0])
+
+
+def try_contrast(browser):
+    """Marks have a contrast of 3 or more with what they may lie on, by the formula of WCAG 2.1; on dark ground it is
+    their ring."""
+
+    def light(colour):
+        parts = [int(colour[at : at + 2], 16) / 255 for at in (1, 3, 5)]
+        red, green, blue = [part / 12.92 if part <= 0.04045 else ((part + 0.055) / 1.055) ** 2.4 for part in parts]
+        return 0.2126 * red + 0.7152 * green + 0.0722 * blue + 0.05
+
+    def contrast(one, other):
+        return max(light(one), light(other)) / min(light(one), light(other))
+
+    blocked, paper, *grounds = browser.run("return [BLOCKED, PAPER, LAND, WATER]")
+    judge("rings on blocked cells", contrast(paper, blocked) >= 3, True)
+    for mark, colour in zip(("path", "A", "B", "edit"), browser.run("return [PATH, START, GOAL, PENDING]")):
+        for ground in (paper, *grounds):
+            judge(f"{mark} on {ground}", contrast(colour, ground) >= 3, True)
+
+
 def try_rate(browser):
     """A query a frame while the goal is dragged: how many answers, moves of the pointer and frames the busiest second
     had."""
@@ -262,6 +300,8 @@ def main():
         try_layers(browser, pictures)
         try_two_pages(browser, length)
         try_other_client(browser, port)
+        try_zoom(browser)
+        try_contrast(browser)
         rate = try_rate(browser)
         judge(
             "answers a second while dragging, beside moves and frames: %s" % (rate,),

@@ -387,19 +387,50 @@ function growRuns(span) {
 
 // ---- drawing
 
-let side = 1;
+const MOST_SIDE = 64;
+// a cell's pixels, how often larger than where the whole map is in view, and the place of the canvas's corner, in cells
+let side = 1, zoom = 1, corner = [0, 0];
 
 function fit() {
-  const stage = document.getElementById("stage");
-  const { width, height } = state.base;
-  side = Math.max(0.25, Math.min((stage.clientWidth - 24) / width, (stage.clientHeight - 24) / height));
-  side = side >= 2 ? Math.floor(side) : side;
+  const stage = document.getElementById("stage"), room = [stage.clientWidth - 24, stage.clientHeight - 24];
+  const sides = [state.base.width, state.base.height];
+  const whole = Math.max(0.25, Math.min(room[0] / sides[0], room[1] / sides[1]));
+  zoom = Math.max(1, Math.min(zoom, MOST_SIDE / whole));
+  side = zoom === 1 && whole >= 2 ? Math.floor(whole) : whole * zoom;
+  const shown = sides.map((count, axis) => Math.min(count * side, Math.max(room[axis], 1)));
+  corner = corner.map((place, axis) => Math.max(0, Math.min(place, sides[axis] - shown[axis] / side)));
   const pixels = window.devicePixelRatio || 1;
-  canvas.style.width = `${width * side}px`;
-  canvas.style.height = `${height * side}px`;
-  canvas.width = Math.round(width * side * pixels);
-  canvas.height = Math.round(height * side * pixels);
-  pen.setTransform(pixels * side, 0, 0, pixels * side, 0, 0);
+  [canvas.style.width, canvas.style.height] = shown.map((length) => `${length}px`);
+  [canvas.width, canvas.height] = shown.map((length) => Math.round(length * pixels));
+  pen.setTransform(pixels * side, 0, 0, pixels * side, -corner[0] * pixels * side, -corner[1] * pixels * side);
+}
+
+/** Zooms by a factor; what lies at a place of the canvas, in pixels, stays there. */
+function zoomBy(factor, [right, down]) {
+  const [column, row] = [corner[0] + right / side, corner[1] + down / side];
+  zoom *= factor;
+  fit();
+  corner = [column - right / side, row - down / side];
+  fit();
+}
+
+/** Zooms by a factor round the middle of what is in view. */
+function zoomMiddle(factor) {
+  zoomBy(factor, [canvas.clientWidth / 2, canvas.clientHeight / 2]);
+}
+
+function panBy(right, down) {
+  corner = [corner[0] + right, corner[1] + down];
+  fit();
+}
+
+/** Pans as far as a cell has to be brought into view. */
+function show(cell) {
+  const ahead = [canvas.clientWidth, canvas.clientHeight].map((length, axis) => {
+    const least = cell[axis] + 2 - length / side, most = cell[axis] - 1;
+    return Math.min(Math.max(corner[axis], least), most) - corner[axis];
+  });
+  panBy(...ahead);
 }
 
 const cellsImage = document.createElement("canvas"), cellsPen = cellsImage.getContext("2d");
@@ -547,17 +578,21 @@ function showKey() {
 
 // ---- what a person does
 
-function cellOf(event) {
+/** Where the pointer is, in cells and parts of them. */
+function placeOf(event) {
   const box = canvas.getBoundingClientRect();
-  return [Math.floor((event.clientX - box.left) / side), Math.floor((event.clientY - box.top) / side)];
+  return [corner[0] + (event.clientX - box.left) / side, corner[1] + (event.clientY - box.top) / side];
+}
+
+function cellOf(event) {
+  return placeOf(event).map(Math.floor);
 }
 
 const isInside = ([column, row]) => column >= 0 && row >= 0 && column < state.base.width && row < state.base.height;
 
 function isAt(event, [column, row]) {
-  const box = canvas.getBoundingClientRect();
-  const right = event.clientX - box.left - (column + 0.5) * side, down = event.clientY - box.top - (row + 0.5) * side;
-  return Math.hypot(right, down) <= Math.max(10, 0.8 * side);
+  const [toColumn, toRow] = placeOf(event);
+  return Math.hypot(toColumn - column - 0.5, toRow - row - 0.5) * side <= Math.max(10, 0.8 * side);
 }
 
 /** The cells on the way from one to another, both with it. */
@@ -594,8 +629,13 @@ function keepEnds() {
 }
 
 canvas.addEventListener("pointerdown", (event) => {
-  if (event.button !== 0 || !state.base) return;
+  if (event.button > 1 || !state.base) return;
   canvas.setPointerCapture(event.pointerId);
+  if (event.button === 1 || event.shiftKey) {
+    state.holds = { pans: placeOf(event) };
+    event.preventDefault();
+    return;
+  }
   const end = isAt(event, state.start) ? "start" : isAt(event, state.goal) ? "goal" : null;
   state.holds = { end, last: cellOf(event) };
   if (!end) paintTo(cellOf(event));
@@ -608,7 +648,15 @@ canvas.addEventListener("pointermove", (event) => {
   const cell = cellOf(event);
   state.pointer = isInside(cell) ? cell : null;
   put("pointer", state.pointer ? `column ${cell[0]}, row ${cell[1]}` : "\u00a0");
-  if (state.holds) state.holds.end ? moveEnd(state.holds.end, cell) : paintTo(cell);
+  if (!state.holds) return;
+  if (state.holds.pans) {
+    const [column, row] = placeOf(event);
+    panBy(state.holds.pans[0] - column, state.holds.pans[1] - row);
+  } else if (state.holds.end) {
+    moveEnd(state.holds.end, cell);
+  } else {
+    paintTo(cell);
+  }
 });
 
 for (const name of ["pointerup", "pointercancel"]) {
@@ -635,13 +683,22 @@ document.addEventListener("change", (event) => {
   if (event.target.name) choose(event.target.name, event.target.value);
 });
 
+const ZOOMS = { "+": 1.25, "-": 0.8, 0: 0 };
+
 document.addEventListener("keydown", (event) => {
   if (event.ctrlKey || event.metaKey || event.altKey) return;
   const layer = { 1: "path", 2: "components", 3: "moves", 4: "runs" }[event.key];
   const terrain = state.terrains.find(({ name }) => name[0] === event.key);
   if (layer) choose("layer", layer);
   if (terrain) choose("terrain", terrain.name);
+  if (event.key in ZOOMS && state.base) zoomMiddle(ZOOMS[event.key]);
 });
+
+canvas.addEventListener("wheel", (event) => {
+  const box = canvas.getBoundingClientRect();
+  zoomBy(event.deltaY < 0 ? 1.25 : 0.8, [event.clientX - box.left, event.clientY - box.top]);
+  event.preventDefault();
+}, { passive: false });
 
 const ARROWS = { ArrowUp: [0, -1], ArrowRight: [1, 0], ArrowDown: [0, 1], ArrowLeft: [-1, 0] };
 
@@ -649,6 +706,7 @@ canvas.addEventListener("keydown", (event) => {
   if (!(event.key in ARROWS) || !state.base) return;
   const end = event.shiftKey ? "start" : "goal", [right, down] = ARROWS[event.key];
   moveEnd(end, [state[end][0] + right, state[end][1] + down]);
+  show(state[end]);
   keepEnds();
   event.preventDefault();
 });
@@ -660,6 +718,10 @@ document.getElementById("save").addEventListener("click", (event) => {
   const text = ["type octile", `height ${height}`, `width ${width}`, "map", ...rows, ""].join("\n");
   event.target.href = URL.createObjectURL(new Blob([text], { type: "text/plain" }));
 });
+
+for (const name of ["in", "out", "all"]) {
+  document.getElementById(`zoom-${name}`).addEventListener("click", () => zoomMiddle({ in: 1.25, out: 0.8, all: 0 }[name]));
+}
 
 window.addEventListener("resize", () => state.base && fit());
 
