@@ -475,6 +475,26 @@ def judge_views(folder):
                 ElementTree.fromstring(text)
 
 
+def judge_wide_picture(folder):
+    """A picture of 200 by 200 cells is shown 1,000 pixels wide, with letters of 11 pixels and more, and marks in it."""
+    name = os.path.join(folder, "wide.map")
+    with open(name, "w") as file:
+        file.write(Grid(200, 200, bytes([1]) * 20_000 + bytes(20_000)).text())
+    _, text, _ = tool("draw", "moves", name, "0", "0")
+    picture = ElementTree.fromstring(text)
+    _, _, width, _ = map(float, picture.get("viewBox").split())
+    judge("pixels", picture.get("width"), "1000")
+    in_cells = picture.find(".//{*}g/{*}g")
+    scale = float(in_cells.get("transform")[len("scale(") : -1])
+    margin = float(picture.find("{*}g").get("transform")[len("translate(") : -1].split()[0])
+    marks, others = in_cells.findall("{*}text"), picture.findall("{*}g/{*}text")
+    letters = [scale * float(each.get("font-size")) for each in marks] + [float(each.get("font-size")) for each in others]
+    judge("letters", (len(marks), len(others), min(letters) * 1000 / width >= 11), (1, 9, True))
+    circle = in_cells.find("{*}circle")
+    outermost = scale * (float(circle.get("r")) + float(circle.get("stroke-width")) / 2 - float(circle.get("cx")))
+    judge("a mark in the corner is whole", outermost <= margin, True)
+
+
 rng = random.Random(7)
 with tempfile.TemporaryDirectory() as folder:
     for number in range(SETS):
@@ -485,6 +505,7 @@ with tempfile.TemporaryDirectory() as folder:
     judge_judge(folder)
     judge_forms(folder)
     judge_plot(folder)
+    judge_wide_picture(folder)
 judge_checker()
 judge_answers()
 judge_example()

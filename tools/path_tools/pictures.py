@@ -1,4 +1,8 @@
-"""Pictures of maps as SVG files. A cell is a square of SIDE pixels; the same input gives the same bytes."""
+"""Pictures of maps as SVG files. A cell is a square of SIDE units; the same input gives the same bytes.
+
+A unit is a pixel in a picture up to SHOWN pixels wide. A wider one is shown so wide, and its letters, marks and lines are
+as large there as in the others.
+"""
 
 from __future__ import annotations
 
@@ -11,10 +15,12 @@ from path_server import Cell, Move
 from .grids import Grid
 
 SIDE = 14
-"""Pixels of a cell's side."""
-_LINE = 20  # pixels of a line of text
+"""Units of a cell's side."""
+SHOWN = 1000
+"""Pixels of the width in which a wide picture is shown."""
+_LINE, _FONT, _LETTER = 20, 13, 8  # pixels of a line of text, of its letters' height, and of a wide letter's width
 BLOCKED, LAND, WATER, INK, PAPER = "#3b4252", "#f3efe6", "#cfe3ee", "#1f2430", "#ffffff"
-PATH, FORMER_PATH, START, GOAL = "#d1495b", "#7a8599", "#1b7f4d", "#2455a4"
+PATH, FORMER_PATH, START, GOAL = "#d1495b", "#5f6a7d", "#1b7f4d", "#2455a4"
 ADDED, REMOVED, REBUILT = "#5fae6e", "#c8553d", "#cfe0f5"
 KEPT, CHANGED = "#d9ead3", "#f2a65a"
 MOVES = {
@@ -67,6 +73,11 @@ class Picture:
     def __post_init__(self) -> None:
         self.cells({place: (BLOCKED, LAND, WATER)[terrain] for place, terrain in enumerate(self.grid.terrain)})
 
+    @property
+    def _pixel(self) -> float:
+        """The units of a pixel, where the picture is shown."""
+        return max(1.0, self.grid.width * SIDE / (SHOWN - 2 * SIDE))
+
     def cells(self, colours: Dict[int, str]) -> None:
         """Fills places, each in its colour."""
         shapes: Dict[str, List[str]] = {}
@@ -86,20 +97,23 @@ class Picture:
     def line(self, cells: Sequence[Cell], colour: str, dashed: bool = False) -> None:
         """A line through the middles of cells."""
         points = " ".join("%d.5,%d.5" % cell for cell in cells)
-        dashes = ' stroke-dasharray="0.5 0.4"' if dashed else ""
+        pixel = self._pixel
+        dashes = ' stroke-dasharray="%g %g"' % (0.5 * pixel, 0.4 * pixel) if dashed else ""
         self._parts.append(
-            '<polyline points="%s" fill="none" stroke="%s" stroke-width="0.3" stroke-linejoin="round"'
-            ' stroke-linecap="round"%s/>' % (points, colour, dashes)
+            '<polyline points="%s" fill="none" stroke="%s" stroke-width="%g" stroke-linejoin="round"'
+            ' stroke-linecap="round"%s/>' % (points, colour, 0.3 * pixel, dashes)
         )
 
     def mark(self, cell: Cell, colour: str, letter: str) -> None:
         """A disc with a letter on a cell."""
+        pixel = self._pixel
         self._parts.append(
-            '<circle cx="%d.5" cy="%d.5" r="0.62" fill="%s" stroke="%s" stroke-width="0.1"/>' % (*cell, colour, PAPER)
+            '<circle cx="%d.5" cy="%d.5" r="%g" fill="%s" stroke="%s" stroke-width="%g"/>'
+            % (*cell, 0.62 * pixel, colour, PAPER, 0.1 * pixel)
         )
         self._parts.append(
-            '<text x="%d.5" y="%s" font-size="0.8" fill="%s" text-anchor="middle">%s</text>'
-            % (cell[0], "%d.78" % cell[1], PAPER, letter)
+            '<text x="%d.5" y="%g" font-size="%g" fill="%s" text-anchor="middle">%s</text>'
+            % (cell[0], cell[1] + 0.5 + 0.28 * pixel, 0.8 * pixel, PAPER, letter)
         )
 
     def caption(self, text: str) -> None:
@@ -112,19 +126,26 @@ class Picture:
 
     def svg(self) -> str:
         """The file's text."""
-        width = max(self.grid.width * SIDE, 20 * SIDE)
-        keys, height = self._drawn_keys(width, self.grid.height * SIDE + _LINE)
+        pixel = self._pixel
+        longest = max(map(len, self._captions), default=0)
+        width = max(self.grid.width * SIDE, 20 * SIDE, round(longest * _LETTER * pixel))
+        keys, top = self._drawn_keys(width, self.grid.height * SIDE + round(_LINE * pixel))
         captions = []
         for text in self._captions:
-            captions.append('<text x="0" y="%d" font-size="13" fill="%s">%s</text>' % (height, INK, escape(text)))
-            height += _LINE
-        size = (width + 2 * SIDE, height + SIDE)
+            captions.append(
+                '<text x="0" y="%d" font-size="%g" fill="%s">%s</text>' % (top, _FONT * pixel, INK, escape(text))
+            )
+            top += round(_LINE * pixel)
+        margin = round(SIDE * pixel)
+        units = (width + 2 * margin, top + margin)
+        shown = min(1.0, SHOWN / units[0])
+        pixels = (round(units[0] * shown), round(units[1] * shown))
         return "\n".join(
             [
                 '<svg xmlns="http://www.w3.org/2000/svg" width="%d" height="%d" viewBox="0 0 %d %d"'
-                ' font-family="sans-serif">' % (*size, *size),
+                ' font-family="sans-serif">' % (*pixels, *units),
                 '<rect width="100%%" height="100%%" fill="%s"/>' % PAPER,
-                '<g transform="translate(%d %d)">' % (SIDE, SIDE),
+                '<g transform="translate(%d %d)">' % (margin, margin),
                 '<g transform="scale(%d)">' % SIDE,
                 *self._parts,
                 "</g>",
@@ -137,12 +158,18 @@ class Picture:
 
     def _drawn_keys(self, width: int, top: int) -> Tuple[List[str], int]:
         """The key's parts, from left to right in lines, and where the next line of text stands."""
-        drawn, left = [], 0
+        drawn, left, pixel = [], 0, self._pixel
         for colour, text in self._keys:
-            room = 30 + 8 * len(text)
+            room = round((30 + _LETTER * len(text)) * pixel)
             if left and left + room > width:
-                left, top = 0, top + _LINE
-            drawn.append('<rect x="%d" y="%d" width="12" height="12" fill="%s"/>' % (left, top - 11, colour))
-            drawn.append('<text x="%d" y="%d" font-size="13" fill="%s">%s</text>' % (left + 17, top, INK, escape(text)))
+                left, top = 0, top + round(_LINE * pixel)
+            drawn.append(
+                '<rect x="%d" y="%d" width="%g" height="%g" fill="%s"/>'
+                % (left, top - round(11 * pixel), 12 * pixel, 12 * pixel, colour)
+            )
+            drawn.append(
+                '<text x="%d" y="%d" font-size="%g" fill="%s">%s</text>'
+                % (left + round(17 * pixel), top, _FONT * pixel, INK, escape(text))
+            )
             left += room
-        return drawn, top + _LINE if self._keys else top
+        return drawn, top + round(_LINE * pixel) if self._keys else top
