@@ -314,6 +314,17 @@ class Sessions(Timed):
                 time.sleep(0.2)
                 self.assertRaises(NotConnected, Client.connect, port)
 
+    def test_what_a_server_says_while_it_starts(self) -> None:
+        heard: list[str] = []
+        with tempfile.TemporaryDirectory() as folder:
+            program = os.path.join(folder, "program")
+            with open(program, "w", encoding="utf-8") as file:
+                file.write("#!/bin/sh\necho 1 >&2\nsleep 1\necho 2 >&2\nsleep 2\necho serving $3\nexec sleep 60\n")
+            os.chmod(program, 0o755)
+            with Server("-", program=program, heard=heard.append) as server:
+                self.assertEqual("".join(heard), "1\n2\n")
+                self.assertEqual(server.told(), "1\n2\n")
+
     def test_stop(self) -> None:
         with map_file(ROW) as name, Server(name) as server:
             with server.connect() as client:
