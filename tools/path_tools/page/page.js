@@ -179,7 +179,7 @@ const inWords = (number) => number.toLocaleString("en");
 
 /** A time of so many milliseconds, as people say it. */
 function spoken(time) {
-  return time < 1000 ? `${time.toFixed(time < 10 ? 2 : 1)} ms` : spokenSeconds(time);
+  return time < 1000 ? `${time.toFixed(time < 10 ? 2 : 0)} ms` : spokenSeconds(time);
 }
 
 function spokenSeconds(time) {
