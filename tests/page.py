@@ -82,10 +82,11 @@ class Browser:
                             box.top + (arguments[1] + 0.5 - corner[1]) * side];"""
         return [round(place) for place in self.run(script, *cell)]
 
-    def drag(self, *cells):
+    def drag(self, *cells, button=0):
         """Presses on the first cell, moves over the others, and lets go."""
         moves = [{"type": "pointerMove", "duration": 16, "x": x, "y": y} for x, y in map(self.at, cells)]
-        actions = [moves[0], {"type": "pointerDown", "button": 0}, *moves[1:], {"type": "pointerUp", "button": 0}]
+        down, up = ({"type": kind, "button": button} for kind in ("pointerDown", "pointerUp"))
+        actions = [moves[0], down, *moves[1:], up]
         self.ask("/actions", {"actions": [{"type": "pointer", "id": "mouse", "actions": actions}]})
 
     def hover(self, cell):
@@ -220,6 +221,11 @@ def try_zoom(browser):
     wait_until(lambda: browser.run("return zoom") > 1.9, "three steps of the wheel")
     judge("the column under the pointer", abs(browser.at(GOAL)[0] - x) <= 1, True)
     judge("the end under the pointer", browser.run("return state.goal"), list(GOAL))
+    accepted = browser.run("return state.accepted")
+    browser.drag(GOAL, (GOAL[0] - 3, GOAL[1]), button=1)
+    moved = x - browser.at(GOAL)[0]
+    judge("the map is moved by three columns", abs(moved - 3 * browser.run("return side")) <= 2, True)
+    judge("nothing is drawn so", browser.run("return state.accepted"), accepted)
     browser.run("canvas.focus()")
     for _ in range(3):
         browser.key("\ue014")  # the arrow to the right
