@@ -16,6 +16,7 @@ from .client import START_TIMEOUT, TIMEOUT, Client, Pending
 from .faults import (
     BadReply,
     ConnectionLost,
+    FeedAhead,
     NeedsHello,
     NotConnected,
     PathServerError,
@@ -82,6 +83,7 @@ __all__ = [
     "EditFault",
     "EditRefused",
     "End",
+    "FeedAhead",
     "Hello",
     "Link",
     "Malformed",

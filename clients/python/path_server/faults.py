@@ -68,5 +68,15 @@ class NeedsHello(PathServerError):
     sent, and the session goes on."""
 
 
+class FeedAhead(PathServerError):
+    """A leader has `accepted` fewer edits than the `known` ones: it is another leader, or was started again. The feed
+    goes on."""
+
+    def __init__(self, accepted: int, known: int) -> None:
+        super().__init__("the leader has accepted %d edits, and %d are known" % (accepted, known))
+        self.accepted = accepted
+        self.known = known
+
+
 class SessionOver(PathServerError):
     """The session was closed, or had ended by the fault that is the cause."""

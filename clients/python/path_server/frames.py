@@ -2,7 +2,7 @@
 
 docs/FORMATS.md, "Frames", is the rule. In every number the highest byte comes first. A request is a length in 2 bytes
 and so many bytes of frame, a reply a length in 4 bytes and so many bytes of frame; a frame's first byte is its kind.
-Each request and each reply has one spelling. This is the only place of the module that packs or unpacks bytes.
+Each request and each reply has one spelling. Only this module and `feed` pack or unpack bytes.
 """
 
 from __future__ import annotations

@@ -45,9 +45,10 @@ def _kill(process: subprocess.Popen[bytes]) -> None:
 
 class Program:
     """A child process with a pipe for its output, and one for its input where that is asked for. What it says on
-    standard error is kept. It ends with this Python, or as soon as nothing names it any more."""
+    standard error is kept, or goes where this Python's goes. It ends with this Python, or as soon as nothing names it
+    any more."""
 
-    def __init__(self, command: Sequence[str], has_input: bool) -> None:
+    def __init__(self, command: Sequence[str], has_input: bool, keeps_stderr: bool = True) -> None:
         """Starts it.
 
         NotConnected: it could not be started.
@@ -63,7 +64,7 @@ class Program:
                 bufsize=0,
                 stdin=given,
                 stdout=subprocess.PIPE,
-                stderr=self._told,
+                stderr=self._told if keeps_stderr else None,
                 preexec_fn=_die_with_parent if lasts else None,
             )
         except (OSError, ValueError) as fault:

@@ -51,10 +51,12 @@ class Server:
         program: Optional[str] = None,
         timeout: float = 60.0,
         heard: Optional[Callable[[str], object]] = None,
+        keeps_stderr: bool = True,
     ) -> None:
         """Starts it at a port, or at a free one, and waits up to `timeout` seconds until it serves. With `feed` it leads:
-        it feeds followers at that port, or at a free one where it is 0. `heard` is called with each piece of what the
-        program says on standard error until it serves.
+        it feeds followers at that port, or at a free one where it is 0. What it says on standard error is kept for
+        `told`, or goes where this Python's goes. `heard` is called with each piece of it until the program serves, where
+        it is kept.
 
         NotConnected: there is no such program. ProgramEnded: it refuses the map, the port or the options. TimedOut: the
         map's database was not built in time.
@@ -64,7 +66,7 @@ class Server:
             self.port = port or free_port()
             self.feed = feed if feed != 0 else free_port()
             words = [str(word) for word in (self.port, doors, self.feed) if word is not None]
-            self._program = Program([*command, *words, *options], has_input=False)
+            self._program = Program([*command, *words, *options], has_input=False, keeps_stderr=keeps_stderr)
             self.process = self._program.process
             try:
                 self._hear_first_line(timeout, heard or (lambda _: None))
