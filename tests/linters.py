@@ -2,7 +2,7 @@
 """What other programs find wrong in the scripts of this repository: nothing.
 
     tests/linters.py shellcheck    over the shell scripts
-    tests/linters.py mypy          over clients/, tools/ and demo, as mypy --strict
+    tests/linters.py mypy          over clients/, tools/, deploy/ and demo, as mypy --strict
 """
 import os, shutil, subprocess, sys, tempfile
 
@@ -32,13 +32,13 @@ def shellcheck():
 
 def mypy():
     tools = [path for path, line in files() if line.startswith(b"#!") and b"python3" in line
-             and (path == "demo" or path.startswith("tools/"))]
-    os.environ["MYPYPATH"] = "clients/python:clients/pathdb:tools"
+             and (path == "demo" or path.startswith(("tools/", "deploy/")) and path != "deploy/try")]
+    os.environ["MYPYPATH"] = "clients/python:clients/pathdb:tools:deploy"
     clients = [f"clients/{name}" for name in ("python/make_wheel.py", "python/path_server", "python/tests",
                                               "pathdb/pathdb", "pathdb/tests")]
     with tempfile.TemporaryDirectory() as cache:
         return subprocess.call(["mypy", "--strict", "--scripts-are-modules", "--cache-dir", cache, "--no-error-summary",
-                                *tools, "tools/path_tools", *clients])
+                                *tools, "tools/path_tools", "deploy/path_deploy", *clients])
 
 
 def main(name):
