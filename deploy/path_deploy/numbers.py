@@ -29,7 +29,8 @@ def text_of(numbers: List[Number]) -> str:
     lines = []
     for each in numbers:
         name = "path_server_" + each.name
-        lines += ["# HELP %s %s" % (name, each.about), "# TYPE %s %s" % (name, each.kind), "%s %.12g" % (name, each.value)]
+        lines += ["# HELP %s %s" % (name, each.about), "# TYPE %s %s" % (name, each.kind)]
+        lines.append("%s %.12g" % (name, each.value))
     return "\n".join(lines) + "\n"
 
 
