@@ -258,12 +258,15 @@ if at > 0:
         judge("a forbidden port", forbidden[:3], (
             "read fault\n", f"path_server serve: port {at} is forbidden: Permission denied (os error 13)\n", 5))
 
-# deploy/serve: a signal is a stop
-for sign in (signal.SIGTERM, signal.SIGINT, signal.SIGHUP):
-    at = free_port()
-    script = subprocess.Popen([serve, row, str(at), "3"], stdin=subprocess.DEVNULL, stdout=subprocess.PIPE,
-                              stderr=subprocess.PIPE, env={**os.environ, "PATH_SERVER": program})
+# deploy/serve: a signal is a stop, of a server and of a leader
+for lead, sign in ((False, signal.SIGTERM), (False, signal.SIGINT), (False, signal.SIGHUP), (True, signal.SIGTERM)):
+    at, feed = free_port(), free_port()
+    words = ["lead", row, str(at), "3", str(feed)] if lead else [row, str(at), "3"]
+    script = subprocess.Popen([serve, *words], stdin=subprocess.DEVNULL, stdout=subprocess.PIPE, stderr=subprocess.PIPE,
+                              env={**os.environ, "PATH_SERVER": program})
     judge(f"{sign.name}: the first line", script.stdout.readline(), b"serving %d\n" % at)
+    if lead:
+        judge("a leader's second line", script.stdout.readline(), b"feeding %d\n" % feed)
     with connect(at) as link:
         judge(f"{sign.name}: a session", answer(link, encoded(Change((1, 0), Terrain.LAND))), b"\x84\0\0\0\1")
         begun = time.monotonic()
@@ -278,4 +281,17 @@ for sign in (signal.SIGTERM, signal.SIGINT, signal.SIGHUP):
     out, err = script.communicate(timeout=30)
     lines = re.sub(rb"published \d", b"published N", out).split(b"\n")[:2]
     judge(f"{sign.name}: the end", (lines, err, script.returncode), ([b"accepted 1", b"published N"], b"", 0))
+
+# a stop that finds no free door is given up: the status is one that the unit takes for a success
+at = free_port()
+script = subprocess.Popen([serve, row, str(at), "1"], stdin=subprocess.DEVNULL, stdout=subprocess.PIPE,
+                          env={**os.environ, "PATH_SERVER": program, "STOP_TIME": "1"})
+judge("one door", script.stdout.readline(), b"serving %d\n" % at)
+with connect(at) as link:
+    judge("the door is taken", len(answer(link)), 25)
+    script.send_signal(signal.SIGTERM)
+    judge("a stop without a door", script.communicate(timeout=30)[0] + b"%d" % script.returncode, b"143")
+for words in (["lead", row, "1", "2"], [row, "x", "2"], []):
+    done = subprocess.run([serve, *words], stdin=subprocess.DEVNULL, capture_output=True)
+    judge(f"the words {words}", (done.stderr[:7], done.returncode), (b"usage: ", 1))
 sys.exit(judge.failed)
