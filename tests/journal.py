@@ -45,9 +45,10 @@ class Leader:
         """With its journal, a port for followers of that, and how many bytes a file of it may have."""
         self.port, self.feed = free_port(), free_port()
         words = ["--journal", path, *(["--relay", str(relay)] if relay else [])]
-        self.process = subprocess.Popen([SERVE, *words, "lead", MAP, str(self.port), "4", str(self.feed)],
-                                        stdin=subprocess.DEVNULL, stdout=subprocess.PIPE, stderr=subprocess.PIPE, text=True,
-                                        preexec_fn=lambda: resource.setrlimit(resource.RLIMIT_FSIZE, (most, most)))
+        self.process = subprocess.Popen(
+            [SERVE, *words, "lead", MAP, str(self.port), "4", str(self.feed)], stdin=subprocess.DEVNULL,
+            stdout=subprocess.PIPE, stderr=subprocess.PIPE, text=True,
+            preexec_fn=lambda: resource.setrlimit(resource.RLIMIT_FSIZE, (most, most)))
         self.said = [self.process.stdout.readline() for _ in range(4)]
         judge("the first lines", self.said[:2], [f"serving {self.port}\n", f"feeding {self.feed}\n"])
 
@@ -65,7 +66,7 @@ class Leader:
 
 
 def make_edits(client, begin, count, between=lambda accepted: None):
-    """Makes so many edits after the first ones, 32 in flight, and yields how many are accepted after each reply."""
+    """Makes so many edits after the first ones, 32 in flight, and tells `between` how many are accepted."""
     flying = collections.deque()
     for number in range(begin + 1, begin + count + 1):
         flying.append(client.send(edit_of(edit(number))))
@@ -77,8 +78,8 @@ def make_edits(client, begin, count, between=lambda accepted: None):
 
 
 def edits_until_killed(path, begin, count):
-    """Makes a thousand edits, and kills the leader after so many: how many it began with, how many were accepted, and how
-    many a follower had heard of, which hears what is synced."""
+    """Makes a thousand edits, and kills the leader after so many: how many it began with, how many were accepted, and
+    how many a follower had heard of, which hears what is synced."""
     relay = free_port()
     leader, heard, accepted = Leader(path, relay), 0, begin
 
@@ -109,7 +110,8 @@ def try_kills(folder):
         had, accepted, heard = edits_until_killed(path, begin, count)
         judge("a new leader's edits", had, begin)
         _, *whole, torn = in_file(path)
-        judge(f"{heard} heard, {len(whole)} whole lines, {accepted} accepted", heard <= len(whole) <= accepted + 32, True)
+        counts = f"{heard} heard, {len(whole)} whole lines, {accepted} accepted"
+        judge(counts, heard <= len(whole) <= accepted + 32, True)
         judge("whole lines", (whole, torn), (lines(range(1, len(whole) + 1)), ""))
         begin, least = len(whole), max(least, len(whole))
     judge("edits were made", least > 0, True)

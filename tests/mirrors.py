@@ -1,12 +1,13 @@
 #!/usr/bin/env python3
-"""A leader with a journal, two mirrors and HAProxy before them, under load, while each is killed and started again.
+"""A leader with a journal, two mirrors and HAProxy before them, under load, while each ends and is started again.
 
     tests/mirrors.py [--seconds N] [--clients N]
 
-Clients ask through deploy/mirrors.cfg, and one makes an edit a second. The leader is killed, begins again, and so does
-a mirror. At the end each reply is judged by the map of its version, which is made here of the journal's lines: its cost
-by a plain search, its path move by move. No client that waited for a version is answered by an older one, and no edit
-is lost that was accepted and seen at a mirror. Prints what was seen; the status is 1 where something is wrong.
+Clients ask through deploy/mirrors.cfg, and one makes an edit a second. The leader and a mirror are killed and begin
+again; then the other mirror and the leader are stopped and begin again, as in an upgrade. At the end each reply is
+judged by the map of its version, which is made here of the journal's lines: its cost by a plain search, its path move
+by move. No client that waited for a version is answered by an older one, and no edit is lost that was accepted and seen
+at a mirror. Prints what was seen; the status is 1 where something is wrong.
 """
 import argparse, collections, contextlib, os, random, shutil, signal, subprocess, sys, tempfile, threading, time
 import urllib.request
@@ -51,7 +52,8 @@ class Field:
             "haproxy": ["haproxy", "-f", f"{self.folder}/haproxy.cfg"],
         }[name]
         said = open(f"{self.folder}/{name}.log", "ab")
-        self.running[name] = subprocess.Popen([str(word) for word in command], stdin=subprocess.DEVNULL, stdout=said, stderr=said)
+        self.running[name] = subprocess.Popen(
+            [str(word) for word in command], stdin=subprocess.DEVNULL, stdout=said, stderr=said)
 
     def configure(self):
         with open(f"{TOP}/deploy/mirrors.cfg", encoding="ascii") as file:
@@ -62,9 +64,9 @@ class Field:
         with open(f"{self.folder}/haproxy.cfg", "w", encoding="ascii") as file:
             file.write(text)
 
-    def kill(self, name):
-        self.running[name].kill()
-        self.running[name].wait()
+    def end(self, name, sign):
+        self.running[name].send_signal(sign)
+        return self.running[name].wait(PATIENCE)
 
     def numbers(self, port):
         """The numbers at a port, or nothing."""
@@ -116,10 +118,12 @@ class Field:
         """An edit a second; one that a mirror has is certain."""
         dice = random.Random(9)
         while not self.ending.is_set():
-            cells = {(dice.randrange(self.width), dice.randrange(self.height)) for _ in range(dice.choice((1, 1, 3, 9)))}
+            size = dice.choice((1, 1, 3, 9))
+            cells = {(dice.randrange(self.width), dice.randrange(self.height)) for _ in range(size)}
             edit = [(cell, dice.choice(list(KINDS))) for cell in sorted(cells)]
             with contextlib.suppress(PathServerError):
-                with Client.connect(self.at[4001], timeout=5) as leader, Client.connect(self.at[4000], timeout=5) as mirror:
+                with Client.connect(self.at[4001], timeout=5) as leader, \
+                        Client.connect(self.at[4000], timeout=5) as mirror:
                     told = leader.edit(edit)
                     if isinstance(told, Accepted):
                         self.counts["accepted"] += 1
@@ -152,7 +156,8 @@ class Field:
             for start, goal, reply in self.seen.pop(number, ()):
                 if start not in costs:
                     costs[start] = grid.costs(start) if grid.at(*start) else {}
-                judge(f"version {number}, {start} to {goal}", found_in(grid, start, goal, reply), wanted(grid, costs[start], start, goal))
+                judge(f"version {number}, {start} to {goal}",
+                      found_in(grid, start, goal, reply), wanted(grid, costs[start], start, goal))
                 self.counts["judged"] += 1
             last = number
         judge("edits that are lost", sorted(self.certain), [])
@@ -194,13 +199,14 @@ def run(field):
     works += [threading.Thread(target=field.client, args=(seed,)) for seed in range(field.options.clients)]
     for work in works:
         work.start()
-    for pause, name in ((0.2, "leader"), (0.2, "one"), (0.15, "leader"), (0.15, "two")):
-        time.sleep(pause * seconds)
-        field.kill(name)
+    killed, stopped = signal.SIGKILL, signal.SIGTERM
+    for name, sign in (("leader", killed), ("one", killed), ("two", stopped), ("leader", stopped)):
+        time.sleep(seconds / 5)
+        field.end(name, sign)
         time.sleep(2.5 if name == "leader" else 0.5)
         field.start(name)
-        field.counts["killed"] += 1
-    time.sleep(0.3 * seconds)
+        field.counts["begun again"] += 1
+    time.sleep(seconds / 5)
     numbers = [field.numbers(port) for port in (4111, 4112, 4113, 4100)]
     field.ending.set()
     for work in works:
@@ -212,9 +218,7 @@ def run(field):
 def end(field):
     """Ends all as on a stop."""
     for name in ("one", "two", "leader"):
-        field.running[name].send_signal(signal.SIGTERM)
-    for name in ("one", "two", "leader"):
-        judge(f"the end of {name}", field.running[name].wait(PATIENCE), 0)
+        judge(f"the end of {name}", field.end(name, signal.SIGTERM), 0)
 
 
 def main():
@@ -229,7 +233,8 @@ def main():
         field.configure()
         try:
             leader, one, two, haproxy = run(field)
-            judge("numbers of mirrors", {"path_server_fed_edits", "path_server_feed_age_seconds"} <= {*one} & {*two}, True)
+            for each in (one, two):
+                judge("numbers of a mirror", {"path_server_fed_edits", "path_server_feed_age_seconds"} <= {*each}, True)
             judge("numbers of the leader", "path_server_synced_edits" in leader, True)
             judge("HAProxy's numbers", any(name.startswith("haproxy_server_status") for name in haproxy), True)
             end(field)

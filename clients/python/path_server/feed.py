@@ -181,8 +181,8 @@ class Feed:
     def ask(self, known: int) -> Tuple[AnyEdit, ...]:
         """The edits after the first `known` ones, at most 1,024; none where there are no others yet.
 
-        FeedAhead: the leader has accepted fewer than `known`. ServerOutOfMemory: the leader said so. ConnectionLost: the
-        feed ended, as it does after 1,048,576 asks. TimedOut, BadReply: the feed can't be used any more.
+        FeedAhead: the leader has accepted fewer than `known`. ServerOutOfMemory: the leader said so. ConnectionLost:
+        the feed ended, as it does after 1,048,576 asks. TimedOut, BadReply: the feed can't be used any more.
         """
         try:
             self._socket.sendall(ask_bytes(known))

@@ -53,10 +53,10 @@ class Server:
         heard: Optional[Callable[[str], object]] = None,
         keeps_stderr: bool = True,
     ) -> None:
-        """Starts it at a port, or at a free one, and waits up to `timeout` seconds until it serves. With `feed` it leads:
-        it feeds followers at that port, or at a free one where it is 0. What it says on standard error is kept for
-        `told`, or goes where this Python's goes. `heard` is called with each piece of it until the program serves, where
-        it is kept.
+        """Starts it at a port, or at a free one, and waits up to `timeout` seconds until it serves. With `feed` it
+        leads: it feeds followers at that port, or at a free one where it is 0. What it says on standard error is kept
+        for `told`, or goes where this Python's goes. `heard` is called with each piece of it until the program serves,
+        where it is kept.
 
         NotConnected: there is no such program. ProgramEnded: it refuses the map, the port or the options. TimedOut: the
         map's database was not built in time.

@@ -30,7 +30,18 @@ from path_server import (
     TimedOut,
     free_port,
 )
-from path_server.feed import Ahead, FedEdits, FedMap, Feed, Message, ask_bytes, decoded_message, known_of, message_bytes
+from path_server.feed import (
+    Ahead,
+    FedEdits,
+    FedMap,
+    Feed,
+    Message,
+    ask_bytes,
+    changes_of,
+    decoded_message,
+    known_of,
+    message_bytes,
+)
 
 TOP = os.path.dirname(os.path.dirname(os.path.dirname(os.path.dirname(os.path.abspath(__file__)))))
 MAP = bytes.fromhex("0000000C 31 00000003 00000001 010101")
@@ -42,7 +53,8 @@ BLOCKED = Change((0, 0), Terrain.BLOCKED)
 
 @contextlib.contextmanager
 def leader(*answers: bytes) -> Iterator[Tuple[int, List[bytes]]]:
-    """Somebody who sends the first bytes at once and the next ones after each ask. Gives the port, and the asks that came."""
+    """Somebody who sends the first bytes at once and the next ones after each ask. Gives the port and the asks that
+    came."""
     asks: List[bytes] = []
     listener = socket.create_server(("127.0.0.1", 0))
 
@@ -142,7 +154,7 @@ class Feeds(unittest.TestCase):
                 self.assertEqual(len(first), 1024)
                 found = [*first, *feed.ask(1024)]
         self.assertEqual(
-            [[(each.cell, each.terrain) for each in (edit.changes if isinstance(edit, Edit) else (edit,))] for edit in found],
+            [[(each.cell, each.terrain) for each in changes_of(edit)] for edit in found],
             edits,
         )
 
