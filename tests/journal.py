@@ -132,6 +132,16 @@ def try_kills(folder):
     judge("an edit before a stop", in_file(path)[1:], [*lines(range(1, begin + 2)), ""])
 
 
+def try_leader_killed(folder):
+    """A leader that is killed ends the script."""
+    leader = Leader(f"{folder}/alone")
+    with open(f"/proc/{leader.process.pid}/task/{leader.process.pid}/children", encoding="ascii") as file:
+        os.kill(int(file.read()), signal.SIGKILL)
+    out, err = leader.process.communicate(timeout=PATIENCE)
+    judge("a leader that is killed", (out, err, leader.process.returncode),
+          ("", "journal: the program ended with status -9\n", 1))
+
+
 def try_full(folder):
     """A file that can't grow ends the leader, and what was whole is there again."""
     path = f"{folder}/full"
@@ -207,6 +217,7 @@ def try_refusals(folder, path):
 def main():
     with tempfile.TemporaryDirectory() as folder:
         try_kills(folder)
+        try_leader_killed(folder)
         try_full(folder)
         try_refusals(folder, try_commands(folder))
     return judge.failed

@@ -3,7 +3,6 @@
 from __future__ import annotations
 
 import contextlib
-import socket
 import socketserver
 import threading
 
@@ -19,6 +18,7 @@ class Relay(socketserver.ThreadingTCPServer):
 
     allow_reuse_address = True
     daemon_threads = True
+    request_queue_size = 64
 
     def __init__(self, port: int, start: FedMap, journal: Journal) -> None:
         super().__init__(("127.0.0.1", port), _Follower)
@@ -26,17 +26,16 @@ class Relay(socketserver.ThreadingTCPServer):
         threading.Thread(target=self.serve_forever, daemon=True).start()
 
 
-class _Follower(socketserver.BaseRequestHandler):
+class _Follower(socketserver.StreamRequestHandler):
     server: Relay
-    request: socket.socket
+    timeout = _SILENCE
+    disable_nagle_algorithm = True
 
     def handle(self) -> None:
-        self.request.settimeout(_SILENCE)
-        self.request.setsockopt(socket.IPPROTO_TCP, socket.TCP_NODELAY, 1)
         with contextlib.suppress(OSError, ValueError):  # it broke off, or asked for something else
             self._send(self.server.start)
             for _ in range(MAX_ASKS):
-                known = known_of(self.request.recv(len(ask_bytes(0)), socket.MSG_WAITALL))
+                known = known_of(self.rfile.read(len(ask_bytes(0))))
                 accepted = self.server.journal.accepted
                 if known > accepted:
                     self._send(Ahead(accepted))
@@ -44,4 +43,4 @@ class _Follower(socketserver.BaseRequestHandler):
                     self._send(FedEdits(known, self.server.journal.edits(known, MAX_EDITS)))
 
     def _send(self, message: Message) -> None:
-        self.request.sendall(message_bytes(message))
+        self.wfile.write(message_bytes(message))
