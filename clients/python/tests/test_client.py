@@ -414,6 +414,7 @@ class Faults(Timed):
             with Client.connect(first.port, reconnect=True) as client:
                 self.assertEqual(client.change((1, 0), Terrain.LAND), Accepted(1))
                 os.kill(first.process.pid, signal.SIGSTOP)
+                os.waitpid(first.process.pid, os.WUNTRACED)  # all its threads have stopped
                 lost = client.send_query((0, 0), (2, 0))
                 first.kill()
                 with self.assertRaises(ConnectionLost):
