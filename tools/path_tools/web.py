@@ -45,7 +45,7 @@ from path_server import (
 from path_server.frames import MAX_COORDINATE, QueryReply
 
 from . import TOP, program_here
-from .feeds import Changes, FeedFault, edits_after
+from .feeds import Changes, edits_after
 from .grids import Grid, MapFault, read_grid
 from .searches import ORDERS, components
 
@@ -146,7 +146,7 @@ class Table:
         if unread is not None and self._server.feed is not None:
             try:
                 self._edits.update(enumerate(edits_after(self._server.feed, unread - 1), unread))
-            except FeedFault:
+            except PathServerError:
                 pass  # the page counts what it has not got
         return [self._edits[number] for number in takewhile(self._edits.__contains__, numbers)]
 
