@@ -5,6 +5,7 @@ Where they can't be had, as from a server that does not answer, the status is 50
 
 from __future__ import annotations
 
+import contextlib
 import http.server
 import threading
 import time
@@ -82,11 +83,12 @@ class _Scrape(http.server.BaseHTTPRequestHandler):
             self._send(503, "%s\n" % fault)
 
     def _send(self, status: int, text: str) -> None:
-        self.send_response(status)
-        self.send_header("Content-Type", "text/plain; version=0.0.4")
-        self.send_header("Content-Length", str(len(text.encode())))
-        self.end_headers()
-        self.wfile.write(text.encode())
+        with contextlib.suppress(ConnectionError):  # whoever asks may hang up, as HAProxy does after the first line
+            self.send_response(status)
+            self.send_header("Content-Type", "text/plain; version=0.0.4")
+            self.send_header("Content-Length", str(len(text.encode())))
+            self.end_headers()
+            self.wfile.write(text.encode())
 
     def log_message(self, format: str, *args: object) -> None:
         """Says nothing of requests."""

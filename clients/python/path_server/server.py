@@ -2,6 +2,8 @@
 
 from __future__ import annotations
 
+import contextlib
+import random
 import select
 import socket
 import subprocess
@@ -16,16 +18,19 @@ from .programs import Program, find_program
 
 _GRACE = 15.0  # seconds in which a server ends after a stop: open sessions have ten
 _LOOK = 0.2  # seconds between two looks at what a program says while it starts
+_PORTS = range(20_000, 32_768)  # below those that Linux gives to connections
 _TRIES = 5  # free ports that may be taken by another before the server has them
 _PORT_TAKEN = 5  # the program's status then
 
 
 def free_port() -> int:
-    """A port of this machine at which nobody listens now."""
-    with socket.socket() as one:
-        one.bind(("127.0.0.1", 0))
-        port: int = one.getsockname()[1]
-        return port
+    """A port of this machine at which nobody listens now, and which the system doesn't give to connections."""
+    for port in [*random.sample(_PORTS, 100), 0]:
+        with socket.socket() as one, contextlib.suppress(OSError):
+            one.bind(("127.0.0.1", port))
+            found: int = one.getsockname()[1]
+            return found
+    raise OSError("no port of this machine is free")
 
 
 @dataclass(frozen=True)
