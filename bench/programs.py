@@ -37,7 +37,10 @@ def queries(folder):
     """Compiles bench/queries.c with the library built here, or the released one, and returns the program."""
     library = newest("PATHDB", "crates/pathdb/out/libpathdb.a", "release/pathdb/libpathdb.a")
     made = os.path.join(folder, "queries")
-    sources = [os.path.join(TOP, name) for name in ("bench/queries.c", "lib/pathdb_heap.c")]
+    sources = [os.path.join(TOP, "bench/queries.c")]
+    if "crates" in os.path.relpath(library, TOP).split(os.sep):
+        # the archive of the crate alone, which release/lib puts together with this
+        sources.append(os.path.join(TOP, "lib/pathdb_memory.c"))
     gcc = ["gcc", "-std=c99", "-O2", "-I", os.path.join(TOP, "include")]
     subprocess.run([*gcc, "-o", made, *sources, library], check=True)
     return made

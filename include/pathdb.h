@@ -29,8 +29,8 @@
  * (pathdb_join). The library starts no thread and takes no lock.
  * It must not be called from a signal handler, nor in the forked child of a process with threads.
  *
- * Pointers. No pointer is NULL, also where the length beside it is 0. What is handed in to be written overlaps
- * nothing else that is handed in.
+ * Pointers. A pointer may be NULL where the length beside it is 0: that is an empty list or a room of no places. No
+ * other pointer is NULL. What is handed in to be written overlaps nothing else that is handed in.
  *
  * Processor. The library is for x86-64-v2 (SSSE3, SSE4.1, SSE4.2, POPCNT: nearly all processors since 2009), and does
  * not test for it: on an older one the process may be ended by an illegal instruction. Who may meet one asks before the
@@ -54,6 +54,16 @@
 #ifdef __cplusplus
 extern "C" {
 #endif
+
+/* The version that this header is of. pathdb_version is that of the library that is there when the program runs. */
+#define PATHDB_VERSION "0.22.0"
+#define PATHDB_VERSION_MAJOR 0
+#define PATHDB_VERSION_MINOR 22
+#define PATHDB_VERSION_PATCH 0
+#define PATHDB_VERSION_NUMBER (PATHDB_VERSION_MAJOR * 1000000 + PATHDB_VERSION_MINOR * 1000 + PATHDB_VERSION_PATCH)
+
+/* The version of the library, as PATHDB_VERSION_NUMBER: 22000 is 0.22.0. */
+uint32_t pathdb_version(void);
 
 /* How a call ended. The numbers stay as they are; later versions may add to them. */
 typedef enum pathdb_status {
@@ -190,9 +200,9 @@ typedef struct pathdb_baked {
  *   PATHDB_NO_ORDER .. PATHDB_NO_MEMORY: why there is none. The room is as it was.
  * How many words an image has is known only once the rows are built: a bake into too small a room takes the time of
  * the whole. In the order row by row an open map of n passable cells has about 2.2 * sqrt(n) words a cell, and other
- * maps mostly have fewer; depth first they have some two thirds of that or less. It takes memory by the three
- * functions below, for the database and for the image once more, gives it all back, and works with the calling thread
- * alone: a second or so for 10000 passable cells, ten for 30000. */
+ * maps mostly have fewer; depth first they have some two thirds of that or less. It takes memory (pathdb_memory, below)
+ * for the database and for the image once more, gives it all back, and works with the calling thread alone: a second or
+ * so for 10000 passable cells, ten for 30000. */
 pathdb_status pathdb_bake_text(const uint8_t *text, size_t length, uint32_t order, uint32_t *words, size_t room,
                                pathdb_baked *baked);
 
@@ -218,7 +228,7 @@ pathdb_status pathdb_bake_cells(uint32_t width, uint32_t height, const uint8_t *
  * all of a small component. For pathdb_join lay the words of all parts one behind the other, by component and then by
  * first source.
  *
- * Memory. The three functions below are called by the threads side by side. A part takes 92 bytes for each cell of its
+ * Memory. A part takes 92 bytes for each cell of its
  * component, and each call some 20 for each passable cell and 12 for each cell of the map; all is given back. A
  * part has at most 3 + count * (1 + cells of its component) words, and mostly far fewer.
  *
@@ -263,22 +273,32 @@ pathdb_status pathdb_join(uint32_t width, uint32_t height, const uint8_t *cells,
 
 /* ---- the memory that baking takes ---- */
 
-/* Three functions of the program's own, which pathdb_heap.c defines over malloc, realloc and free: it is in
- * libpathdb.so, and in libpathdb.a as an object of its own, which the linker takes only where the program does not
- * define the three itself. Queries never call them.
+/* Baking takes its memory from malloc, or from where a call is told. Reading takes none.
  *
- * rattle_alloc gives a block of so many bytes, aligned to `align`, a power of two up to 16. rattle_realloc makes a
- * block of `kept` used bytes one of `bytes`, with these bytes as they were; where it fails the old block is as it
- * was. rattle_dealloc takes back what one of the two gave. All three may be called from several threads at once.
- * Where there is no memory `ok` is false, and `at` is any pointer but NULL. */
-typedef struct rattle_block {
-    bool ok;
-    void *at;
-} rattle_block;
+ * Both functions are called while the call runs, on the thread that made it and on no other, so that an arena of that
+ * thread will do. `alloc` answers a block of so many bytes, one at least, that is aligned to 16, or NULL where there is
+ * none: then the bake ends with PATHDB_NO_MEMORY. `free` takes back a block that `alloc` gave. Each is taken back once,
+ * before the call returns. Neither may leave by longjmp or an exception, or call a bake itself. */
+typedef struct pathdb_memory {
+    void *(*alloc)(void *user, size_t bytes);
+    void (*free)(void *user, void *block);
+    void *user; /* handed to both */
+} pathdb_memory;
 
-rattle_block rattle_alloc(size_t bytes, size_t align);
-rattle_block rattle_realloc(void *at, size_t kept, size_t bytes, size_t align);
-void rattle_dealloc(void *at);
+/* The calls above with a memory of the caller's; where `memory` is NULL, with that of malloc. */
+pathdb_status pathdb_bake_text_with(const pathdb_memory *memory, const uint8_t *text, size_t length, uint32_t order,
+                                    uint32_t *words, size_t room, pathdb_baked *baked);
+pathdb_status pathdb_bake_cells_with(const pathdb_memory *memory, uint32_t width, uint32_t height, const uint8_t *cells,
+                                     size_t length, uint32_t order, uint32_t *words, size_t room, pathdb_baked *baked);
+pathdb_status pathdb_components_with(const pathdb_memory *memory, uint32_t width, uint32_t height,
+                                     const uint8_t *cells, size_t length, uint32_t order, uint32_t *sizes, size_t room,
+                                     pathdb_baked *baked);
+pathdb_status pathdb_part_with(const pathdb_memory *memory, uint32_t width, uint32_t height, const uint8_t *cells,
+                               size_t length, uint32_t order, pathdb_sources sources, uint32_t *words, size_t room,
+                               pathdb_baked *baked);
+pathdb_status pathdb_join_with(const pathdb_memory *memory, uint32_t width, uint32_t height, const uint8_t *cells,
+                               size_t length, uint32_t order, const uint32_t *parts, size_t count, uint32_t *words,
+                               size_t room, pathdb_baked *baked);
 
 #ifdef __cplusplus
 }

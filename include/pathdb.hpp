@@ -1,6 +1,7 @@
-// pathdb for C++17: pathdb.h with types that own their words. Nothing is copied: an image moves, a view points at words
-// of somebody else's, and moves are written into a vector that is used again. Nothing throws but a vector that gets no
-// memory.
+// pathdb for C++11 and later: pathdb.h with types that own their words. Nothing is copied: an image moves, a view
+// points at words of somebody else's, and moves are written into a vector that is used again. Nothing throws but a
+// vector that gets no memory. From C++17 on a status that is not looked at is warned of, and from C++20 on lists are
+// spans too.
 #ifndef PATHDB_HPP
 #define PATHDB_HPP
 
@@ -14,6 +15,19 @@
 #include <utility>
 #include <vector>
 
+#if __cplusplus >= 201703L || (defined(_MSVC_LANG) && _MSVC_LANG >= 201703L)
+#include <string_view>
+#define PATHDB_NODISCARD [[nodiscard]]
+#else
+#define PATHDB_NODISCARD
+#endif
+
+#if __cplusplus >= 202002L || (defined(_MSVC_LANG) && _MSVC_LANG >= 202002L)
+#if __has_include(<span>)
+#include <span>
+#endif
+#endif
+
 namespace pathdb {
 
 using cell = pathdb_cell;
@@ -21,10 +35,17 @@ using cost = pathdb_cost;
 using facts = pathdb_facts;
 using baked = pathdb_baked;
 using sources = pathdb_sources;
+using memory = pathdb_memory;
+
+#if __cplusplus >= 201703L || (defined(_MSVC_LANG) && _MSVC_LANG >= 201703L)
+using map_text = std::string_view;
+#else
+using map_text = const std::string &;
+#endif
 
 enum class order : std::uint32_t { rows = PATHDB_ROWS, dfs = PATHDB_DFS };
 
-enum class status : std::uint32_t {
+enum class PATHDB_NODISCARD status : std::uint32_t {
     done = PATHDB_DONE,
     arrived = PATHDB_ARRIVED,
     unreachable = PATHDB_UNREACHABLE,
@@ -65,10 +86,13 @@ inline std::string text(status which)
 }
 
 // Words of somebody else's that passed the check, or that a bake wrote, and that stay as they are while it is used. It
-// is two numbers, and any number of threads may use one.
+// is two numbers, and any number of threads may use one. A view of no words answers `no_image` to each call.
 class view {
 public:
+    view() noexcept : words_(nullptr), count_(0) {}
     view(const std::uint32_t *words, std::size_t count) noexcept : words_(words), count_(count) {}
+    explicit view(const std::vector<std::uint32_t> &words) noexcept : words_(words.data()), count_(words.size()) {}
+    explicit view(std::vector<std::uint32_t> &&) = delete;
 
     // the check; where it passes, a view of the words may be used
     static status check(const std::uint32_t *words, std::size_t count, std::uint32_t &part) noexcept
@@ -76,21 +100,35 @@ public:
         return static_cast<status>(pathdb_check(words, count, &part));
     }
 
+    // whether there are words
+    explicit operator bool() const noexcept { return count_ > 0; }
+
+    // what the image says of its map; of no words all are 0
     pathdb::facts facts() const noexcept
     {
-        pathdb::facts told;
-        pathdb_read_facts(words_, count_, &told);
+        pathdb::facts told = {0, 0, 0, 0, 0};
+        if (count_ > 0) pathdb_read_facts(words_, count_, &told);
         return told;
     }
 
     status next(cell at, cell goal, std::uint8_t &move) const noexcept
     {
+        if (count_ == 0) return status::no_image;
         return static_cast<status>(pathdb_next_move(words_, count_, at, goal, &move));
     }
 
     status cost(cell start, cell goal, pathdb::cost &told) const noexcept
     {
+        if (count_ == 0) return status::no_image;
         return static_cast<status>(pathdb_path_cost(words_, count_, start, goal, &told));
+    }
+
+    // the moves of the path in a room of the caller's, as pathdb_path
+    status path(cell start, cell goal, std::uint8_t *moves, std::size_t room, std::uint32_t &length) const noexcept
+    {
+        length = 0;
+        if (count_ == 0) return status::no_image;
+        return static_cast<status>(pathdb_path(words_, count_, start, goal, moves, room, &length));
     }
 
     // the moves of the path; the vector grows where it has to, and is empty where there is no path
@@ -99,11 +137,25 @@ public:
         moves.resize(moves.capacity() > 0 ? moves.capacity() : 64);
         for (;;) {
             std::uint32_t length = 0;
-            const pathdb_status ended = pathdb_path(words_, count_, start, goal, moves.data(), moves.size(), &length);
+            const status ended = path(start, goal, moves.data(), moves.size(), length);
             moves.resize(length);
-            if (ended != PATHDB_TOO_SMALL) return static_cast<status>(ended);
+            if (ended != status::too_small) return ended;
         }
     }
+
+#ifdef __cpp_lib_span
+    explicit view(std::span<const std::uint32_t> words) noexcept : words_(words.data()), count_(words.size()) {}
+
+    static status check(std::span<const std::uint32_t> words, std::uint32_t &part) noexcept
+    {
+        return check(words.data(), words.size(), part);
+    }
+
+    status path(cell start, cell goal, std::span<std::uint8_t> moves, std::uint32_t &length) const noexcept
+    {
+        return path(start, goal, moves.data(), moves.size(), length);
+    }
+#endif
 
     const std::uint32_t *data() const noexcept { return words_; }
     std::size_t size() const noexcept { return count_; }
@@ -121,70 +173,86 @@ public:
     image &operator=(image &&) noexcept = default;
     image(const image &) = delete;
     image &operator=(const image &) = delete;
+    ~image() = default;
+
+    // whether there are words: some were baked or taken over
+    explicit operator bool() const noexcept { return !words_.empty(); }
 
     // takes words over that pass the check; else the image is as it was
     status take(std::vector<std::uint32_t> words, std::uint32_t &part)
     {
-        const std::uint32_t none = 0;
-        const status found = view::check(words.empty() ? &none : words.data(), words.size(), part);
+        const status found = view::check(words.data(), words.size(), part);
         if (found == status::done) words_ = std::move(words);
         return found;
     }
 
-    // bakes a map that is given as a text; `room` words are tried first, and then as many as are needed
-    status bake(const std::string &map, order by, baked &told, std::size_t room = 1 << 16)
+    // Bakes a map that is given as a text; `room` words are tried first, and then as many as are needed. The library
+    // takes memory from `from`, or from malloc where it is null.
+    status bake(map_text map, order by, baked &told, std::size_t room = 1 << 16, const memory *from = nullptr)
     {
         return bake_with(told, room, [&](std::uint32_t *words, std::size_t count) {
-            return pathdb_bake_text(reinterpret_cast<const std::uint8_t *>(map.c_str()), map.size(),
-                                    static_cast<std::uint32_t>(by), words, count, &told);
+            return pathdb_bake_text_with(from, reinterpret_cast<const std::uint8_t *>(map.data()), map.size(),
+                                         static_cast<std::uint32_t>(by), words, count, &told);
         });
     }
 
     // bakes a map that is given as a byte a cell: 0 blocked, 1 land, 2 water
-    status bake(std::uint32_t width, std::uint32_t height, const std::vector<std::uint8_t> &cells, order by,
-                baked &told, std::size_t room = 1 << 16)
+    status bake(std::uint32_t width, std::uint32_t height, const std::uint8_t *cells, std::size_t count, order by,
+                baked &told, std::size_t room = 1 << 16, const memory *from = nullptr)
     {
-        const std::uint8_t none = 0;
-        return bake_with(told, room, [&](std::uint32_t *words, std::size_t count) {
-            return pathdb_bake_cells(width, height, cells.empty() ? &none : cells.data(), cells.size(),
-                                     static_cast<std::uint32_t>(by), words, count, &told);
+        return bake_with(told, room, [&](std::uint32_t *words, std::size_t places) {
+            return pathdb_bake_cells_with(from, width, height, cells, count, static_cast<std::uint32_t>(by), words,
+                                          places, &told);
         });
+    }
+
+    status bake(std::uint32_t width, std::uint32_t height, const std::vector<std::uint8_t> &cells, order by,
+                baked &told, std::size_t room = 1 << 16, const memory *from = nullptr)
+    {
+        return bake(width, height, cells.data(), cells.size(), by, told, room, from);
     }
 
     // The same image, baked in parts of `most` sources at most. `run(count, job)` is the caller's way to have jobs
     // done: it calls job(0) to job(count - 1), from any threads and side by side, and returns once all have ended.
     template <typename Run>
     status bake_parts(std::uint32_t width, std::uint32_t height, const std::vector<std::uint8_t> &cells, order by,
-                      baked &told, std::uint32_t most, Run run)
+                      baked &told, std::uint32_t most, Run run, const memory *from = nullptr)
     {
-        const std::uint8_t none = 0;
-        const std::uint8_t *const at = cells.empty() ? &none : cells.data();
+        const std::uint8_t *const at = cells.data();
         const auto number = static_cast<std::uint32_t>(by);
         std::vector<std::uint32_t> sizes(64);
         const status counted = fill(sizes, told, [&](std::uint32_t *words, std::size_t count) {
-            return pathdb_components(width, height, at, cells.size(), number, words, count, &told);
+            return pathdb_components_with(from, width, height, at, cells.size(), number, words, count, &told);
         });
         if (counted != status::done) return counted;
-        std::vector<part> parts = cut(sizes, std::max<std::uint32_t>(most, 1));
+        std::vector<block> parts = cut(sizes, most > 0 ? most : 1);
         run(parts.size(), [&](std::size_t which) {
-            part &some = parts[which];
+            block &some = parts[which];
             some.words.resize(some.room);
             some.ended = fill(some.words, some.told, [&](std::uint32_t *words, std::size_t count) {
-                return pathdb_part(width, height, at, cells.size(), number, some.from, words, count, &some.told);
+                return pathdb_part_with(from, width, height, at, cells.size(), number, some.of, words, count,
+                                        &some.told);
             });
         });
         std::vector<std::uint32_t> all;
-        for (const part &some : parts) {
+        for (const block &some : parts) {
             told = some.told;
             if (some.ended != status::done) return some.ended;
             all.insert(all.end(), some.words.begin(), some.words.end());
         }
-        const std::uint32_t nothing = 0;
         return bake_with(told, 1, [&](std::uint32_t *words, std::size_t count) {
-            return pathdb_join(width, height, at, cells.size(), number, all.empty() ? &nothing : all.data(), all.size(),
-                               words, count, &told);
+            return pathdb_join_with(from, width, height, at, cells.size(), number, all.data(), all.size(), words, count,
+                                    &told);
         });
     }
+
+#ifdef __cpp_lib_span
+    status bake(std::uint32_t width, std::uint32_t height, std::span<const std::uint8_t> cells, order by, baked &told,
+                std::size_t room = 1 << 16, const memory *from = nullptr)
+    {
+        return bake(width, height, cells.data(), cells.size(), by, told, room, from);
+    }
+#endif
 
     // a view of the words, for as long as the image stands
     pathdb::view view() const noexcept { return pathdb::view(words_.data(), words_.size()); }
@@ -193,8 +261,8 @@ public:
 
 private:
     // some sources, how many words are tried first, and what came of them
-    struct part {
-        sources from;
+    struct block {
+        sources of;
         std::size_t room;
         std::vector<std::uint32_t> words;
         baked told;
@@ -202,36 +270,40 @@ private:
     };
 
     // the sources of components of these sizes, in blocks of so many at most
-    static std::vector<part> cut(const std::vector<std::uint32_t> &sizes, std::uint32_t most)
+    static std::vector<block> cut(const std::vector<std::uint32_t> &sizes, std::uint32_t most)
     {
-        std::vector<part> parts;
-        for (std::uint32_t component = 0; component < sizes.size(); component++) {
-            const std::uint32_t size = sizes[component];
+        std::vector<block> parts;
+        for (std::size_t number = 0; number < sizes.size(); number++) {
+            const std::uint32_t size = sizes[number];
             // mostly enough for a row
-            const std::size_t row = 1 + std::min<std::size_t>(size, 64 + 3 * static_cast<std::size_t>(std::sqrt(size)));
+            const auto likely = 64 + 3 * static_cast<std::size_t>(std::sqrt(static_cast<double>(size)));
+            const std::size_t row = 1 + (likely < size ? likely : size);
             for (std::uint32_t first = 0; first < size; first += most) {
-                const std::uint32_t count = std::min(most, size - first);
-                parts.push_back({{component, first, count}, 3 + count * row, {}, {}, status::no_memory});
+                const std::uint32_t count = most < size - first ? most : size - first;
+                block some = {{static_cast<std::uint32_t>(number), first, count}, 3 + count * row, {}, baked(),
+                              status::no_memory};
+                parts.push_back(std::move(some));
+                if (most >= size - first) break;
             }
         }
         return parts;
     }
 
     // the words that a call writes, with as many as it wants where there are too few
-    template <typename Bake> static status fill(std::vector<std::uint32_t> &words, const baked &told, Bake bake)
+    template <typename Bake> static status fill(std::vector<std::uint32_t> &words, const baked &told, Bake call)
     {
         for (;;) {
-            const pathdb_status ended = bake(words.data(), words.size());
+            const pathdb_status ended = call(words.data(), words.size());
             if (ended != PATHDB_DONE && ended != PATHDB_TOO_SMALL) return static_cast<status>(ended);
             words.resize(told.words);
             if (ended == PATHDB_DONE) return status::done;
         }
     }
 
-    template <typename Bake> status bake_with(baked &told, std::size_t room, Bake bake)
+    template <typename Bake> status bake_with(baked &told, std::size_t room, Bake call)
     {
         std::vector<std::uint32_t> words(room > 0 ? room : 1);
-        const status ended = fill(words, told, bake);
+        const status ended = fill(words, told, call);
         if (ended != status::done) return ended;
         words.shrink_to_fit();
         words_ = std::move(words);

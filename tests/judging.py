@@ -1,6 +1,8 @@
 """What the tests in Python share: which programs they run, the way to the client (clients/python), and the comparison
 of what they find with what they expect."""
+import ctypes
 import os
+import re
 import sys
 
 TOP = os.path.dirname(os.path.dirname(os.path.abspath(__file__)))
@@ -33,6 +35,16 @@ def bake_here():
 def library_here():
     """The archive of the library for C: that of PATHDB, or the one that `release/lib` has made, or the release."""
     return _found(os.environ.get("PATHDB"), "out/lib/libpathdb.a", "release/pathdb/libpathdb.a")
+
+
+def needs_new_library():
+    """Ends the test where the library for C is older than include/pathdb.h: that of the last release, say."""
+    with open(os.path.join(TOP, "include/pathdb.h"), encoding="utf-8") as file:
+        wanted = re.search(r"define PATHDB_VERSION_MINOR (\d+)", file.read())
+    calls = ctypes.CDLL(os.path.abspath(library_here()).removesuffix("a") + "so")
+    found = calls.pathdb_version() // 1000 % 1000 if hasattr(calls, "pathdb_version") else 0
+    if wanted is None or found < int(wanted[1]):
+        skip("the library is older than include/pathdb.h: release/lib makes it")
 
 
 def skip(why):

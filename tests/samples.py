@@ -9,9 +9,10 @@ What needs a tool that is not here is skipped.
 """
 import os, re, shutil, subprocess, sys, tempfile
 
-from judging import TOP, Judge, library_here, program_here, skip
+from judging import TOP, Judge, library_here, needs_new_library, program_here, skip
 
 judge = Judge()
+needs_new_library()
 library = os.path.dirname(os.path.abspath(library_here()))
 archive, shared = os.path.join(library, "libpathdb.a"), os.path.join(library, "libpathdb.so")
 rounds = int(sys.argv[1]) if len(sys.argv) > 1 else 100_000
