@@ -69,7 +69,7 @@ static struct image load(const char *name)
     if (file == NULL || fseek(file, 0, SEEK_END) != 0 || (size = ftell(file)) < 4 * HEAD) fail(name);
     rewind(file);
     image.count = (size_t)size / 4;
-    image.words = malloc((size_t)size);
+    image.words = (uint32_t *)malloc((size_t)size);
     if (image.words == NULL || fread(image.words, 4, image.count, file) != image.count) fail(name);
     fclose(file);
     return image;
@@ -89,18 +89,18 @@ static void ask(const uint32_t *words, size_t count, const facts_type *facts)
 {
     static uint8_t moves[MOVES];
     const cell_type start = any_cell(facts), goal = random_below(64) == 0 ? start : any_cell(facts);
-    const size_t room = random_below(4) == 0 ? random_below(MOVES + 1) : MOVES;
+    const size_t room = random_below(4) == 0 ? random_below(MOVES + 1) : (size_t)MOVES;
     NAME(cost) cost = {7, 7};
     uint8_t move = 9;
     uint32_t length = 7, at;
-    int status = NAME(next_move)(words, count, start, goal, &move);
-    mix((uint32_t)status);
+    uint32_t status = (uint32_t)NAME(next_move)(words, count, start, goal, &move);
+    mix(status);
     mix(move);
     mix((uint32_t)NAME(path_cost)(words, count, start, goal, &cost));
     mix(cost.straight);
     mix(cost.diagonal);
-    status = NAME(path)(words, count, start, goal, moves, room, &length);
-    mix((uint32_t)status);
+    status = (uint32_t)NAME(path)(words, count, start, goal, moves, room, &length);
+    mix(status);
     mix(length);
     /* of a path that is too long for the room its first moves are there, and of a broken one anything */
     if (status == 0 || status == 7)
@@ -112,8 +112,8 @@ static void look(const uint32_t *words, size_t count, int queries)
 {
     facts_type facts;
     uint32_t part = 7;
-    const int status = NAME(check)(words, count, &part);
-    mix((uint32_t)status);
+    const uint32_t status = (uint32_t)NAME(check)(words, count, &part);
+    mix(status);
     mix(part);
     if (status != 0) {
         refused++;
@@ -178,7 +178,7 @@ static size_t spoil(uint32_t *words, size_t count)
 /* Looks at words that end where their memory ends, so that tools which watch it see each read outside. */
 static void look_at_copy(const uint32_t *words, size_t count)
 {
-    uint32_t *exact = malloc(count > 0 ? 4 * count : 1);
+    uint32_t *exact = (uint32_t *)malloc(count > 0 ? 4 * count : 1);
     if (exact == NULL) fail("no memory");
     memcpy(exact, words, 4 * count);
     look(exact, count, 4);
@@ -195,7 +195,7 @@ int main(int argc, char **argv)
     int sixteenth, k;
     if (queries < 1 || rounds < 1 || many > MOST_IMAGES) fail("usage: pathdb_read QUERIES SPOILT IMAGE..");
     for (k = 0; k < many; k++) images[k] = load(argv[3 + k]);
-    copy = malloc(4 * images[0].count);
+    copy = (uint32_t *)malloc(4 * images[0].count);
     if (copy == NULL) fail("no memory");
     for (sixteenth = 0; sixteenth < 16; sixteenth++) {
         digest = 14695981039346656037u;
