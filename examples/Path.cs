@@ -1,6 +1,9 @@
-// A path in C# (.NET 7 or later, or Unity with small changes): by source alone, nobody has compiled it here.
+// A path in C# 7, for .NET, Mono and Unity. Prints what `./path_server path MAP SX SY GX GY` prints.
 //
-//   dotnet run -- maps/tutorial.map 2 2 37 17      with libpathdb.so where the loader finds it
+//   mcs -unsafe -out:path.exe examples/Path.cs
+//   LD_LIBRARY_PATH=release/pathdb mono path.exe maps/tutorial.map 2 2 37 17
+//
+// A game ships libpathdb.so beside its program, in Unity below Assets/Plugins.
 using System;
 using System.IO;
 using System.Runtime.InteropServices;
@@ -32,26 +35,24 @@ public static unsafe class Pathdb
     public const int Longest = 32767, TextRoom = 64;
 
     [DllImport("pathdb")]
-    static extern uint pathdb_check(uint* words, nuint count, uint* part);
+    static extern uint pathdb_check(uint* words, UIntPtr count, uint* part);
 
     [DllImport("pathdb")]
-    static extern uint pathdb_path_cost(uint* words, nuint count, Cell start, Cell goal, Cost* cost);
+    static extern uint pathdb_path_cost(uint* words, UIntPtr count, Cell start, Cell goal, Cost* cost);
 
     [DllImport("pathdb")]
-    static extern uint pathdb_path(uint* words, nuint count, Cell start, Cell goal, byte* moves, nuint room,
+    static extern uint pathdb_path(uint* words, UIntPtr count, Cell start, Cell goal, byte* moves, UIntPtr room,
                                    uint* length);
 
     [DllImport("pathdb")]
-    static extern nuint pathdb_status_text(uint status, byte* text, nuint room);
+    static extern UIntPtr pathdb_status_text(uint status, byte* text, UIntPtr room);
 
     [DllImport("pathdb")]
-    static extern uint pathdb_bake_text(byte* text, nuint length, uint order, uint* words, nuint room, Baked* baked);
+    static extern uint pathdb_bake_text(byte* text, UIntPtr length, uint order, uint* words, UIntPtr room, Baked* baked);
 
-    // The words of the image of a map. An empty array is pinned to null, which the library does not take: so none is
-    // empty.
+    // The words of the image of a map.
     public static uint[] Bake(byte[] map, uint order)
     {
-        if (map.Length == 0) throw new InvalidDataException("no map");
         var words = new uint[1 << 12];
         for (;;)
         {
@@ -59,7 +60,7 @@ public static unsafe class Pathdb
             uint status;
             fixed (byte* text = map)
             fixed (uint* room = words)
-                status = pathdb_bake_text(text, (nuint)map.Length, order, room, (nuint)words.Length, &baked);
+                status = pathdb_bake_text(text, (UIntPtr)map.Length, order, room, (UIntPtr)words.Length, &baked);
             if (status != Done && status != TooSmall) throw new InvalidDataException(Text(status));
             Array.Resize(ref words, (int)baked.Words);
             if (status == Done) return words;
@@ -70,16 +71,15 @@ public static unsafe class Pathdb
     public static void Check(uint[] words)
     {
         uint part;
-        if (words.Length == 0) throw new InvalidDataException("no image");
         fixed (uint* at = words)
         {
-            var status = pathdb_check(at, (nuint)words.Length, &part);
+            var status = pathdb_check(at, (UIntPtr)words.Length, &part);
             if (status != Done) throw new InvalidDataException(Text(status));
         }
     }
 
     // The moves of a shortest path, and its cost; null where no path exists.
-    public static byte[]? Path(uint[] words, Cell start, Cell goal, out Cost cost)
+    public static byte[] Path(uint[] words, Cell start, Cell goal, out Cost cost)
     {
         var moves = new byte[Longest];
         uint length = 0, status;
@@ -87,19 +87,20 @@ public static unsafe class Pathdb
         fixed (uint* at = words)
         fixed (byte* room = moves)
         {
-            status = pathdb_path_cost(at, (nuint)words.Length, start, goal, &found);
-            if (status == Done) status = pathdb_path(at, (nuint)words.Length, start, goal, room, Longest, &length);
+            status = pathdb_path_cost(at, (UIntPtr)words.Length, start, goal, &found);
+            if (status == Done) status = pathdb_path(at, (UIntPtr)words.Length, start, goal, room, (UIntPtr)Longest, &length);
         }
         cost = found;
         if (status == Unreachable) return null;
         if (status != Done) throw new ArgumentException(Text(status));
-        return moves[..(int)length];
+        Array.Resize(ref moves, (int)length);
+        return moves;
     }
 
     public static string Text(uint status)
     {
         byte* room = stackalloc byte[TextRoom];
-        return Encoding.ASCII.GetString(room, (int)pathdb_status_text(status, room, TextRoom));
+        return Encoding.ASCII.GetString(room, (int)pathdb_status_text(status, room, (UIntPtr)TextRoom));
     }
 }
 

@@ -1,6 +1,6 @@
 #!/usr/bin/env python3
-"""docs/IN_YOUR_GAME.md: its pieces of C are one program, which is compiled and does what the page says; its commands link
-that program in each way, and its lines of CMake too; and its table of sizes is right.
+"""docs/IN_YOUR_GAME.md: its pieces of C are one program, which is compiled and does what the page says; its commands
+link that program in each way, and its lines of CMake too; and what it links to is there.
 
 What needs a tool that is not here is skipped.
 """

@@ -1,8 +1,8 @@
 #!/usr/bin/env python3
 """The library for C as a game links it: no name but its own, each call of the headers in the shared library with a
-version, one number of the version everywhere; empty lists as NULL; a memory that is handed in, also where the library is
-opened at run time; the headers without a warning in each language that they are for; and installed under DESTDIR, moved,
-linked by pkg-config and by CMake in both ways, run, and removed.
+version, one number of the version everywhere; empty lists as NULL; a memory that is handed in, also where the library
+is opened at run time; the headers without a warning in each language that they are for; and installed under DESTDIR,
+moved, linked by pkg-config and by CMake in both ways, run, and removed.
 
     tests/library.py
 
@@ -55,7 +55,8 @@ def try_names():
         found = {line.split()[2] for line in names if len(line.split()) == 3}
         judge("names of the archive", found, declared)
         wanted = {"free", "malloc", "realloc", "memcpy", "memmove", "memset", "memcmp", "__tls_get_addr"}
-        used = {line.split()[1] for line in (ran("nm", "nm", "-u", archive) or "").split("\n") if len(line.split()) == 2}
+        lines = (ran("nm", "nm", "-u", archive) or "").split("\n")
+        used = {line.split()[1] for line in lines if len(line.split()) == 2}
         judge("what the archive wants", used - wanted, set())
         names = (ran("nm", "nm", "-D", "--defined-only", shared) or "").split("\n")
         found = [line.split()[2].split("@@") for line in names if line.split()[1:2] == ["T"]]
@@ -69,7 +70,8 @@ def try_version():
     """One version everywhere."""
     entry = re.search(r"^## (0\.\d+\.0)", text_of("CHANGELOG.md"), re.M).group(1)
     header = text_of("include/pathdb.h")
-    numbers = [re.search(rf"define PATHDB_VERSION_{part} (\d+)", header).group(1) for part in ("MAJOR", "MINOR", "PATCH")]
+    parts = ("MAJOR", "MINOR", "PATCH")
+    numbers = [re.search(rf"define PATHDB_VERSION_{part} (\d+)", header).group(1) for part in parts]
     judge("the header's text", re.search(r'define PATHDB_VERSION "(.*)"', header).group(1), entry)
     judge("the header's numbers", ".".join(numbers), entry)
     calls = ctypes.CDLL(shared)
@@ -90,7 +92,8 @@ class Memory(ctypes.Structure):
 def try_memory():
     """A bake with functions in Python for its memory, which are told whose they are; and one that gets none."""
     calls, libc = ctypes.CDLL(shared), ctypes.CDLL(None)
-    libc.malloc.restype, libc.malloc.argtypes, libc.free.argtypes = ctypes.c_void_p, [ctypes.c_size_t], [ctypes.c_void_p]
+    libc.malloc.restype, libc.malloc.argtypes = ctypes.c_void_p, [ctypes.c_size_t]
+    libc.free.argtypes = [ctypes.c_void_p]
     asked = []
 
     def take(user, size):
@@ -101,8 +104,8 @@ def try_memory():
     text = b"type octile\nheight 2\nwidth 3\nmap\n...\n.@.\n"
     for what, alloc, status in (("memory", take, 0), ("no memory", lambda user, size: None, 26)):
         memory = Memory(TAKE(alloc), GIVE(lambda user, block: libc.free(block)), 7)
-        found = calls.pathdb_bake_text_with(ctypes.byref(memory), text, ctypes.c_size_t(len(text)), ctypes.c_uint32(0), words,
-                                            ctypes.c_size_t(4096), baked)
+        found = calls.pathdb_bake_text_with(ctypes.byref(memory), text, ctypes.c_size_t(len(text)), ctypes.c_uint32(0),
+                                            words, ctypes.c_size_t(4096), baked)
         judge(f"a bake with {what} of Python", found, status)
     judge("whose memory it is", set(asked), {7})
 
@@ -131,7 +134,7 @@ def try_headers():
                 ran(f"pathdb.hpp, {compiler} {language}", made)
             source = os.path.join(folder, "unseen.cpp")
             with open(source, "w") as file:
-                file.write('#include "pathdb.hpp"\nint main() { std::uint8_t m; pathdb::view().next({0, 0}, {0, 0}, m); }\n')
+                file.write('#include "pathdb.hpp"\nint main() { std::uint8_t m; pathdb::view().next({}, {}, m); }\n')
             done = subprocess.run([*words, "-fsyntax-only", source], capture_output=True)
             judge(f"a status that nobody looks at, {compiler} {language}", done.returncode != 0, language >= "c++17")
 

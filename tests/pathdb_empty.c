@@ -1,5 +1,5 @@
-/* Empty lists: each call is made with NULL where the length beside it is 0, and has to answer as it does where a pointer
- * leads to no places. Ends with 1 where one does not. */
+/* Empty lists: each call is made with NULL where the length beside it is 0, and has to answer as it does for a pointer
+ * that leads to no places. Ends with 1 where one does not. */
 #include "pathdb.h"
 
 #include <stdio.h>

@@ -1,11 +1,11 @@
-/* Want of memory in a bake, by a memory that is handed in: the N-th request is refused, for N from 1 until a bake meets no
- * refusal, and then all requests from the N-th on; for a bake of a text, and for one in parts.
+/* Want of memory in a bake, by a memory that is handed in: the N-th request is refused, for N from 1 until a bake meets
+ * no refusal, and then all requests from the N-th on; for bakes of a text and of cells, and for one in parts.
  *
  *   pathdb_memory MAP
  *
  * Each bake ends with PATHDB_NO_MEMORY and leaves the room as it was, or does without what was refused; and each gives
- * back all that it took, and asks nobody but the memory that it was handed. Prints how many bakes were refused, and ends
- * with 1 where that is not so. */
+ * back all that it took, and asks only the memory that it was handed. Prints how many bakes were refused, and ends with
+ * 1 where that is not so. */
 #include "pathdb.h"
 
 #include <stdio.h>

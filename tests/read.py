@@ -1,15 +1,15 @@
 #!/usr/bin/env python3
-"""include/pathdb_read.h beside the library: the same answers to queries, and the same status and part for spoilt images;
-and then as other machines have it, with 32 bits and with the highest byte first, beside this one.
+"""include/pathdb_read.h beside the library: the same answers to queries, and the same status and part for spoilt
+images; and then as other machines have it, with 32 bits and with the highest byte first, beside this one.
 
     tests/read.py [QUERIES [SPOILT]], 1,000,000 and 100,000 where they are not given
 
 What needs a tool that is not here is skipped.
 """
-import ctypes, os, random, shutil, subprocess, sys, tempfile
+import os, shutil, subprocess, sys, tempfile
 
 from judging import TOP, Judge, library_here, needs_new_library
-from map_model import Map, made_map
+from read_images import put_images
 
 judge = Judge()
 needs_new_library()
@@ -29,28 +29,6 @@ OTHERS = [
     ("s390x, highest byte first", ["s390x-linux-gnu-gcc", "-std=c99", "-static"], ["qemu-s390x-static"]),
 ]
 """Other readers: what they are, how they are compiled and what runs them."""
-
-
-def image_of(library, grid, order):
-    """The image of a map, as bytes."""
-    words, baked = (ctypes.c_uint32 * (1 << 20))(), (ctypes.c_uint32 * 7)()
-    status = library.pathdb_bake_cells(grid.width, grid.height, bytes(grid.cells), ctypes.c_size_t(len(grid.cells)), order,
-                                       words, ctypes.c_size_t(len(words)), baked)
-    judge("a bake", status, 0)
-    return bytes(words)[:4 * baked[0]]
-
-
-def put_images():
-    """Files with images of made maps: the first one is small and has several components, and the second is larger."""
-    library, chance, names = ctypes.CDLL(archive.removesuffix("a") + "so"), random.Random(11), []
-    grids = [made_map(chance) for _ in range(40)]
-    grids.sort(key=lambda grid: (-min(len(grid.components()), 4), abs(grid.width * grid.height - 40)))
-    cells = [chance.choice((0, 1, 1, 2)) if chance.random() < 0.4 else 1 for _ in range(60 * 45)]
-    for number, grid in enumerate([grids[0], Map(60, 45, cells), *grids[1:6]]):
-        names.append(os.path.join(folder, f"{number}.image"))
-        with open(names[-1], "wb") as file:
-            file.write(image_of(library, grid, number % 2))
-    return names
 
 
 def compiled(what, words, *more):
@@ -114,7 +92,7 @@ def has_32_bits():
 
 
 with tempfile.TemporaryDirectory() as folder:
-    images = put_images()
+    images = put_images(archive, folder)
     reader = try_library()
     if reader:
         try_others(reader)

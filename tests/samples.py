@@ -1,7 +1,8 @@
 #!/usr/bin/env python3
-"""The library for C as its users have it: the samples of examples/ are built and run, and each has to print the path of
-README.md, under valgrind and the sanitizers of gcc too; threads side by side under helgrind; want of memory; and spoilt
-images, of which every status and move is looked at, and whoever reads outside is ended by a signal.
+"""The library for C as its users have it: the samples of examples/ are built and run, and each has to print the path
+of README.md, under valgrind and the sanitizers of gcc too, and for aarch64 under qemu; threads side by side under
+helgrind; want of memory; and spoilt images, of which every status and move is looked at, and whoever reads outside is
+ended by a signal.
 
     tests/samples.py [ROUNDS], where ROUNDS images are spoilt, 100,000 where it is not given
 
@@ -77,16 +78,47 @@ def try_sample(name, compiler, options):
 
 
 def try_others():
-    """The sample in C over the library that is shared, and those in Python and Rust."""
+    """The sample in C over the library that is shared, and those in Python, C# and Rust."""
     linked = compiled("shared", ["gcc"], "examples/path.c", "-O2", f"-L{library}", "-lpathdb", f"-Wl,-rpath,{library}")
     if linked:
         prints("path.c over libpathdb.so", linked, *QUERY)
     prints("path.py", sys.executable, "examples/path.py", shared, *QUERY)
+    if is_here("mcs") and is_here("mono"):
+        made = os.path.join(folder, "path.exe")
+        if ran("Path.cs is compiled", "mcs", "-unsafe", "-warnaserror", f"-out:{made}", "examples/Path.cs") is not None:
+            prints("Path.cs", "env", f"LD_LIBRARY_PATH={library}", "mono", made, *QUERY)
     if is_here("rustc"):
         rust = os.path.join(folder, "rust")
         words = ["rustc", "--edition", "2021", "-O", "-D", "warnings", "-L", library, "-o", rust, "examples/path.rs"]
         if ran("path.rs is compiled", *words) is not None:
             prints("path.rs", rust, *QUERY)
+
+
+def try_aarch64():
+    """The samples in C and C++ over the libraries for aarch64, and what a bake does without memory there."""
+    folder_there = os.path.join(library, "aarch64")
+    if not os.path.exists(os.path.join(folder_there, "libpathdb.a")):
+        print("skipped: there is no library for aarch64")
+        return
+    if not all([is_here("aarch64-linux-gnu-gcc"), is_here("aarch64-linux-gnu-g++"), is_here("qemu-aarch64-static")]):
+        return
+    there, emulated = os.path.join(folder_there, "libpathdb.a"), ["qemu-aarch64-static", "-L", "/usr/aarch64-linux-gnu"]
+    for name, compiler in (("path.c", C), ("threads.cpp", CPP), ("parts.cpp", CPP), ("competition.cpp", CPP)):
+        words = ["aarch64-linux-gnu-" + compiler[0], *compiler[1:]]
+        made = compiled(f"{name}.aarch64", words, f"examples/{name}", there, "-O2")
+        if made:
+            prints(f"{name} on aarch64", *emulated, made, *QUERY)
+    gcc = ["aarch64-linux-gnu-gcc"]
+    linked = compiled("shared.aarch64", gcc, "examples/path.c", "-O2", f"-L{folder_there}", "-lpathdb")
+    if linked:
+        found = ["-E", f"LD_LIBRARY_PATH={folder_there}"]
+        prints("path.c over libpathdb.so on aarch64", *emulated, *found, linked, *QUERY)
+    memory = compiled("memory.aarch64", ["aarch64-linux-gnu-gcc", "-std=c11"], "tests/pathdb_memory.c", there, "-O2")
+    if memory:
+        ran("want of memory on aarch64", *emulated, memory, "tests/maps/row.map")
+    empty = compiled("empty.aarch64", ["aarch64-linux-gnu-gcc", "-std=c99"], "tests/pathdb_empty.c", there, "-O2")
+    if empty:
+        ran("empty lists on aarch64", *emulated, empty)
 
 
 def try_threads_and_memory():
@@ -127,6 +159,7 @@ with tempfile.TemporaryDirectory() as folder:
     try_sample("parts.cpp", CPP, [CHECKED, RACED])
     try_sample("competition.cpp", CPP, [CHECKED])
     try_others()
+    try_aarch64()
     try_threads_and_memory()
     try_images()
 sys.exit(judge.failed)
