@@ -106,7 +106,7 @@ public:
     // what the image says of its map; of no words all are 0
     pathdb::facts facts() const noexcept
     {
-        pathdb::facts told = {0, 0, 0, 0, 0};
+        pathdb::facts told = pathdb::facts();
         if (count_ > 0) pathdb_read_facts(words_, count_, &told);
         return told;
     }

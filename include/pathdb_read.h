@@ -51,7 +51,8 @@ typedef enum pathdb_read_status {
     PATHDB_READ_WRONG_ORDER = 30,
     PATHDB_READ_WRONG_CELL = 31,
     PATHDB_READ_WRONG_ROW = 32,
-    PATHDB_READ_WRONG_CELL_COUNT = 33
+    PATHDB_READ_WRONG_CELL_COUNT = 33,
+    PATHDB_READ_EXTRA_WORDS = 40
 } pathdb_read_status;
 
 /* A cell: its column and its row, from 0. */
@@ -73,6 +74,7 @@ typedef struct pathdb_read_map_facts {
     uint32_t cells;
     uint32_t components;
     uint32_t prefix;
+    uint32_t order;
 } pathdb_read_map_facts;
 
 /* ---- the words ---- */
@@ -223,7 +225,7 @@ static inline pathdb_read_status pathdb_read_check(const uint32_t *words, size_t
         found = pathdb_read_check_table(words, count, component, &begin, part);
         if (found != PATHDB_READ_DONE) return found;
     }
-    if (begin != count) return PATHDB_READ_WRONG_LENGTH;
+    if (begin != count) return PATHDB_READ_EXTRA_WORDS;
     found = pathdb_read_check_homes(words, part);
     if (found != PATHDB_READ_DONE) return found;
     return pathdb_read_has_sum(words, count) ? PATHDB_READ_DONE : PATHDB_READ_WRONG_SUM;
@@ -239,6 +241,7 @@ static inline void pathdb_read_read_facts(const uint32_t *words, size_t count, p
     facts->prefix = pathdb_read_word(words, 6);
     facts->cells = pathdb_read_word(words, 8);
     facts->components = pathdb_read_word(words, 9);
+    facts->order = pathdb_read_word(words, 7);
 }
 
 /* The move that the row of a place keeps for a goal: that of the last run whose start is not above the goal's place. */

@@ -126,6 +126,7 @@ static void look(const uint32_t *words, size_t count, int queries)
     mix(facts.cells);
     mix(facts.components);
     mix(facts.prefix);
+    mix(facts.order);
     while (queries-- > 0) ask(words, count, &facts);
 }
 

@@ -110,8 +110,8 @@ export async function digest(open, queries, rounds, files) {
             return;
         }
         passed++;
-        const { width, height, cells, components, prefix } = image.facts;
-        for (const number of [0, 0, width, height, cells, components, prefix]) sum.mix(number);
+        const { width, height, cells, components, prefix, order } = image.facts;
+        for (const number of [0, 0, width, height, cells, components, prefix, order]) sum.mix(number);
         for (; many > 0; many--) ask(chance, sum, image);
     };
     for (let sixteenth = 0; sixteenth < 16; sixteenth++) {

@@ -5,7 +5,7 @@ export const Status = Object.freeze({
     DONE: 0, ARRIVED: 1, UNREACHABLE: 2, OUTSIDE_START: 3, BLOCKED_START: 4, OUTSIDE_GOAL: 5, BLOCKED_GOAL: 6,
     TOO_SMALL: 7, BROKEN: 8, NO_IMAGE: 9, OTHER_FORM: 10, WRONG_LENGTH: 11, WRONG_SIDES: 12, WRONG_LISTS: 13,
     WRONG_TABLE: 14, WRONG_HOME: 15, WRONG_SUM: 29, WRONG_ORDER: 30, WRONG_CELL: 31, WRONG_ROW: 32,
-    WRONG_CELL_COUNT: 33,
+    WRONG_CELL_COUNT: 33, EXTRA_WORDS: 40,
 });
 
 /** The step of each move: columns to the east and rows to the south. */
@@ -104,7 +104,7 @@ export function check(words) {
         if (status !== Status.DONE) return { status, part };
         begin = end;
     }
-    if (begin !== words.length) return fault(Status.WRONG_LENGTH);
+    if (begin !== words.length) return fault(Status.EXTRA_WORDS);
     const homes = checkHomes(words);
     if (homes.status !== Status.DONE) return homes;
     return fault(hasSum(words) ? Status.DONE : Status.WRONG_SUM);
@@ -120,8 +120,8 @@ export class Reader {
     }
 
     facts() {
-        const [, , , , width, height, prefix, , cells, components] = this.#words.subarray(0, 10);
-        return { width, height, cells, components, prefix };
+        const [, , , , width, height, prefix, order, cells, components] = this.#words.subarray(0, 10);
+        return { width, height, cells, components, prefix, order };
     }
 
     /** The word of a cell; -1 where it lies outside. */

@@ -1,8 +1,8 @@
 // The calls of pathdb.wasm, which is compiled from the proved sources. pathdb.js says how it is used.
 //
 // Each image has an instance of the module with a memory of its own, so that it goes when nobody has it any more. In
-// that memory, behind what the module has for itself, lie the image, places for what the calls write, and a room for the
-// moves of the longest path. Places are numbers of 64 bits, which JavaScript has as BigInt.
+// that memory, behind what the module has for itself, lie the image, places for what the calls write, and a room for
+// the moves of the longest path. Places are numbers of 64 bits, which JavaScript has as BigInt.
 
 import { Status, wordsOf } from "./reader.js";
 
@@ -66,8 +66,9 @@ class WasmReader {
     facts() {
         this.#room.exports.pathdb_read_facts(...this.#words, this.#place(FACTS));
         const view = this.#room.view(this.#after + FACTS);
-        const [width, height, cells, components, prefix] = [0, 4, 8, 12, 16].map((at) => view.getUint32(at, true));
-        return { width, height, cells, components, prefix };
+        const numbers = [0, 4, 8, 12, 16, 20].map((at) => view.getUint32(at, true));
+        const [width, height, cells, components, prefix, order] = numbers;
+        return { width, height, cells, components, prefix, order };
     }
 
     nextMove(at, goal) {
