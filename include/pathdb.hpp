@@ -134,13 +134,9 @@ public:
     // the moves of the path; the vector grows where it has to, and is empty where there is no path
     status path(cell start, cell goal, std::vector<std::uint8_t> &moves) const
     {
-        moves.resize(moves.capacity() > 0 ? moves.capacity() : 64);
-        for (;;) {
-            std::uint32_t length = 0;
-            const status ended = path(start, goal, moves.data(), moves.size(), length);
-            moves.resize(length);
-            if (ended != status::too_small) return ended;
-        }
+        return fill(moves, 64, [&](std::uint8_t *room, std::size_t places, std::uint32_t &length) {
+            return pathdb_path(words_, count_, start, goal, room, places, &length);
+        });
     }
 
 #ifdef __cpp_lib_span
@@ -161,6 +157,20 @@ public:
     std::size_t size() const noexcept { return count_; }
 
 private:
+    // what a call writes into all the room that a vector has, and again with as many places as it wants
+    template <typename Item, typename Call>
+    status fill(std::vector<Item> &items, std::size_t least, Call call) const
+    {
+        items.resize(items.capacity() > 0 ? items.capacity() : least);
+        for (;;) {
+            std::uint32_t length = 0;
+            const pathdb_status ended =
+                count_ == 0 ? PATHDB_NO_IMAGE : call(items.data(), items.size(), length);
+            items.resize(length);
+            if (ended != PATHDB_TOO_SMALL) return static_cast<status>(ended);
+        }
+    }
+
     const std::uint32_t *words_;
     std::size_t count_;
 };
