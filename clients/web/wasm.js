@@ -41,62 +41,71 @@ class Room {
         }
     }
 
-    /** The memory from a place on. */
-    view(place) {
-        return new DataView(this.#memory.buffer, place);
-    }
-
-    bytes(place, count) {
-        return new Uint8Array(this.#memory.buffer, place, count).slice();
+    get buffer() {
+        return this.#memory.buffer;
     }
 }
 
-/** The calls that read an image which passed the check. */
+/** The calls that read an image which passed the check. Its memory grows no more, so that views of it stay good. */
 class WasmReader {
-    #room;
-    #after;
+    #exports;
     #words;
+    #from;
+    #goal;
+    #count;
+    #move;
+    #facts;
+    #moves;
+    #halves;
+    #numbers;
+    #bytes;
 
     constructor(room, at, after, count) {
-        this.#room = room;
-        this.#after = after;
+        const place = (behind) => BigInt(after + behind);
+        this.#exports = room.exports;
         this.#words = [BigInt(at), BigInt(count)];
+        [this.#from, this.#goal, this.#count] = [place(FROM), place(GOAL), place(COUNT)];
+        [this.#move, this.#facts, this.#moves] = [place(MOVE), place(FACTS), place(MOVES)];
+        this.#halves = new Uint16Array(room.buffer, after, COUNT / 2);
+        this.#numbers = new Uint32Array(room.buffer, after, MOVES / 4);
+        this.#bytes = new Uint8Array(room.buffer, after, MOVES + LONGEST);
     }
 
     facts() {
-        this.#room.exports.pathdb_read_facts(...this.#words, this.#place(FACTS));
-        const view = this.#room.view(this.#after + FACTS);
-        const numbers = [0, 4, 8, 12, 16, 20].map((at) => view.getUint32(at, true));
-        const [width, height, cells, components, prefix, order] = numbers;
+        this.#exports.pathdb_read_facts(...this.#words, this.#facts);
+        const [width, height, cells, components, prefix, order] = this.#numbers.subarray(FACTS / 4);
         return { width, height, cells, components, prefix, order };
     }
 
     nextMove(at, goal) {
-        const status = this.#room.exports.pathdb_next_move(...this.#words, ...this.#ends(at, goal), this.#place(MOVE));
-        return { status, move: status === Status.DONE ? this.#room.view(this.#after + MOVE).getUint8(0) : -1 };
+        this.#putEnds(at, goal);
+        const [words, count] = this.#words;
+        const status = this.#exports.pathdb_next_move(words, count, this.#from, this.#goal, this.#move);
+        return { status, move: status === Status.DONE ? this.#bytes[MOVE] : -1 };
     }
 
     path(start, goal) {
-        const room = [this.#place(MOVES), BigInt(LONGEST), this.#place(COUNT)];
-        const status = this.#room.exports.pathdb_path(...this.#words, ...this.#ends(start, goal), ...room);
+        this.#putEnds(start, goal);
+        const room = [this.#moves, BigInt(LONGEST), this.#count];
+        const status = this.#exports.pathdb_path(...this.#words, this.#from, this.#goal, ...room);
         if (status !== Status.DONE) return { status, moves: new Uint8Array(0), straight: 0, diagonal: 0 };
-        const moves = this.#room.bytes(this.#after + MOVES, this.#room.view(this.#after + COUNT).getUint32(0, true));
+        const moves = this.#bytes.slice(MOVES, MOVES + this.#numbers[COUNT / 4]);
         const diagonal = moves.reduce((sum, move) => sum + (move & 1), 0);
         return { status, moves, straight: moves.length - diagonal, diagonal };
     }
 
-    #place(at) {
-        return BigInt(this.#after + at);
-    }
-
     /** Puts both ends where the calls read them. A number that is no column or row of any map is outside of each. */
-    #ends(from, goal) {
-        const view = this.#room.view(this.#after);
-        [from.x, from.y, goal.x, goal.y].forEach((side, k) => {
-            view.setUint16(2 * k, side >= 0 && side < 65535 ? side : 65535, true);
-        });
-        return [this.#place(FROM), this.#place(GOAL)];
+    #putEnds(from, goal) {
+        const halves = this.#halves;
+        halves[0] = half(from.x);
+        halves[1] = half(from.y);
+        halves[2] = half(goal.x);
+        halves[3] = half(goal.y);
     }
+}
+
+function half(side) {
+    return side >= 0 && side < 65535 ? side : 65535;
 }
 
 /** What opens images with a compiled module: a function of their bytes. It answers a status, a part and a reader. */
@@ -107,7 +116,8 @@ export function opener(module) {
         const place = BigInt(after + COUNT);
         const status = room.exports.pathdb_check(BigInt(at), BigInt(words.length), place);
         idle = status === Status.DONE ? null : room;
-        if (status !== Status.DONE) return { status, part: room.view(after + COUNT).getUint32(0, true), reader: null };
+        const [part] = new Uint32Array(room.buffer, after + COUNT, 1);
+        if (status !== Status.DONE) return { status, part, reader: null };
         return { status, part: 0, reader: new WasmReader(room, at, after, words.length) };
     };
 }
