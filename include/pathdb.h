@@ -32,9 +32,10 @@
  * Pointers. A pointer may be NULL where the length beside it is 0: that is an empty list or a room of no places. No
  * other pointer is NULL. What is handed in to be written overlaps nothing else that is handed in.
  *
- * Processor. The library is for x86-64-v2 (SSSE3, SSE4.1, SSE4.2, POPCNT: nearly all processors since 2009), and does
- * not test for it: on an older one the process may be ended by an illegal instruction. Who may meet one asks before the
- * first call, as by __builtin_cpu_supports("sse4.2") of gcc and clang.
+ * Processor. The library is for Linux on aarch64 and on x86-64-v2 (SSSE3, SSE4.1, SSE4.2, POPCNT: nearly all x86-64
+ * since 2009), and does not test for it: on an older one the process may be ended by an illegal instruction. Who may
+ * meet one asks before the first call, as by __builtin_cpu_supports("sse4.2") of gcc and clang. For other systems
+ * pathdb_read.h reads images.
  *
  * Trust. pathdb_check reads any words of any source, inside of them alone. The other calls that read an image want
  * words that passed it, or that a bake of this library wrote, and that have not changed since: this is not tested
