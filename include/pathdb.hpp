@@ -325,4 +325,6 @@ private:
 
 } // namespace pathdb
 
+#undef PATHDB_NODISCARD
+
 #endif

@@ -128,7 +128,7 @@ def try_headers():
                 ran(f"empty lists, {compiler} {language}", made)
     for compiler in ("g++", "clang++"):
         for language in ("c++11", "c++14", "c++17", "c++20") if is_here(compiler) else ():
-            words = [compiler, f"-std={language}", *WARNED]
+            words = [compiler, f"-std={language}", *WARNED, "-fno-exceptions", "-fno-rtti"]
             made = compiled(f"pathdb.hpp, {compiler} {language}", words, "tests/pathdb_cpp.cpp", archive)
             if made:
                 ran(f"pathdb.hpp, {compiler} {language}", made)
