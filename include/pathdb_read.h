@@ -10,7 +10,7 @@
  *
  * Each call is the one of pathdb.h that has `pathdb_` where this has `pathdb_read_`, with the same arguments, statuses
  * and answers; pathdb.h says what they mean. Both headers may be included in one file. libpathdb or path_bake makes the
- * image on a machine of yours, and the game ships it as a file. Images of form 2 are read (docs/FORMATS.md, "The
+ * image on a machine of yours, and the game ships it as a file. Images of form 1 are read (docs/FORMATS.md, "The
  * image").
  *
  * Byte order. The words are those of the file, each with its lowest byte first, on every processor: load or map the
@@ -46,13 +46,7 @@ typedef enum pathdb_read_status {
     PATHDB_READ_WRONG_SIDES = 12,
     PATHDB_READ_WRONG_LISTS = 13,
     PATHDB_READ_WRONG_TABLE = 14,
-    PATHDB_READ_WRONG_HOME = 15,
-    PATHDB_READ_WRONG_SUM = 29,
-    PATHDB_READ_WRONG_ORDER = 30,
-    PATHDB_READ_WRONG_CELL = 31,
-    PATHDB_READ_WRONG_ROW = 32,
-    PATHDB_READ_WRONG_CELL_COUNT = 33,
-    PATHDB_READ_EXTRA_WORDS = 40
+    PATHDB_READ_WRONG_HOME = 15
 } pathdb_read_status;
 
 /* A cell: its column and its row, from 0. */
@@ -74,14 +68,12 @@ typedef struct pathdb_read_map_facts {
     uint32_t cells;
     uint32_t components;
     uint32_t prefix;
-    uint32_t order;
 } pathdb_read_map_facts;
 
 /* ---- the words ---- */
 
 enum {
-    PATHDB_READ_HEAD = 12,           /* how many words stand before those of the cells */
-    PATHDB_READ_SUM = 10,            /* where the two words of the sum stand */
+    PATHDB_READ_HEAD = 10,           /* how many words stand before those of the cells */
     PATHDB_READ_MOST_SIDE = 4096,    /* the longest side */
     PATHDB_READ_MOST_CELLS = 1 << 20,
     PATHDB_READ_MOST_PASSABLE = 1 << 15
@@ -113,122 +105,81 @@ static inline size_t pathdb_read_table(const uint32_t *words, uint32_t component
 
 /* ---- the check ---- */
 
-/* Whether a table of `size` cells has a row of runs at a place: it has a run at least, ends inside, and its starts rise
- * from 0 and are places. The runs begin at `runs`, and the words end at `count`. */
-static inline int pathdb_read_is_row(const uint32_t *words, size_t count, size_t border, size_t runs, uint32_t size)
+/* Whether a table has a row of runs at a place: it has a run at least, ends inside, and its starts rise from 0. The
+ * runs begin at `runs`, and the words end at `count`. */
+static inline int pathdb_read_is_row(const uint32_t *words, size_t count, size_t border, size_t runs)
 {
     const uint32_t from = pathdb_read_word(words, border), upto = pathdb_read_word(words, border + 1);
     uint32_t before = 0, run, at;
-    if (from >= upto || upto > count - runs || pathdb_read_word(words, runs + from) >= 8) return 0;
+    if (from >= upto || runs > count || upto > count - runs || pathdb_read_word(words, runs + from) >= 8) return 0;
     for (at = from + 1; at < upto; at++) {
         run = pathdb_read_word(words, runs + at) / 8;
         if (run <= before) return 0;
         before = run;
     }
-    return before < size;
+    return 1;
 }
 
-/* Judges the table of a component that is to begin at `begin`, and writes where it ends. */
-static inline pathdb_read_status pathdb_read_check_table(const uint32_t *words, size_t count, uint32_t component,
-                                                         size_t *begin, uint32_t *part)
+/* Whether the table of a component begins there: its cells lie inside the sides, and its rows are rows. */
+static inline int pathdb_read_is_table(const uint32_t *words, size_t count, size_t start)
 {
-    const size_t start = pathdb_read_table(words, component);
     const uint32_t width = pathdb_read_word(words, 4), height = pathdb_read_word(words, 5);
-    uint32_t size, terrain, all, place;
-    size_t borders, runs;
-    *part = component;
-    if (start != *begin || start >= count) return PATHDB_READ_WRONG_TABLE;
+    uint32_t size, place;
+    size_t borders;
+    if (start >= count) return 0;
     size = pathdb_read_word(words, start);
-    if (size < 1 || size > PATHDB_READ_MOST_PASSABLE || count - start < 2 * (size_t)size + 3)
-        return PATHDB_READ_WRONG_TABLE;
-    terrain = pathdb_read_word(words, start + 1);
-    borders = start + 2 + size;
-    runs = borders + size + 1;
-    all = pathdb_read_word(words, runs - 1);
-    if ((terrain != 1 && terrain != 2) || pathdb_read_word(words, borders) != 0 || all > count - runs)
-        return PATHDB_READ_WRONG_TABLE;
+    if (size > PATHDB_READ_MOST_PASSABLE || count - start < 2 * (size_t)size + 2) return 0;
     for (place = 0; place < size; place++) {
-        const uint32_t cell = pathdb_read_word(words, start + 2 + place), x = cell & 0xFFFF, y = cell >> 16;
-        *part = (uint32_t)(start + 2 + place);
-        if (x >= width || y >= height || component > 0xFFFF ||
-            pathdb_read_home(words, x, y) != (component << 16 | place))
-            return PATHDB_READ_WRONG_CELL;
+        const uint32_t cell = pathdb_read_word(words, start + 1 + place);
+        if ((cell & 0xFFFF) >= width || cell >> 16 >= height) return 0;
     }
-    for (place = 0; place < size; place++) {
-        *part = (uint32_t)(borders + place);
-        if (!pathdb_read_is_row(words, count, borders + place, runs, size)) return PATHDB_READ_WRONG_ROW;
-    }
-    *part = 0;
-    *begin = runs + all;
-    return PATHDB_READ_DONE;
+    borders = start + 1 + size;
+    for (place = 0; place < size; place++)
+        if (!pathdb_read_is_row(words, count, borders + place, borders + size + 1)) return 0;
+    return 1;
 }
 
-/* Judges the words of all cells: each is that of a blocked one, or leads to a place of a component with the cell. */
+/* Judges the words of all cells: each is that of a blocked one, or leads to a place of a component. */
 static inline pathdb_read_status pathdb_read_check_homes(const uint32_t *words, uint32_t *part)
 {
-    const uint32_t width = pathdb_read_word(words, 4), height = pathdb_read_word(words, 5);
-    const uint32_t components = pathdb_read_word(words, 9);
-    uint32_t x, y, passable = 0;
-    for (y = 0; y < height; y++) {
-        for (x = 0; x < width; x++) {
-            const uint32_t home = pathdb_read_home(words, x, y), component = home >> 16, place = home & 0xFFFF;
-            size_t start;
-            if (home == 0xFFFFFFFF) continue;
-            *part = y * width + x;
-            if (component >= components) return PATHDB_READ_WRONG_HOME;
-            start = pathdb_read_table(words, component);
-            if (place >= pathdb_read_word(words, start) || pathdb_read_word(words, start + 2 + place) != (y << 16 | x))
-                return PATHDB_READ_WRONG_HOME;
-            passable++;
+    const uint32_t cells = pathdb_read_word(words, 4) * pathdb_read_word(words, 5);
+    uint32_t at;
+    for (at = 0; at < cells; at++) {
+        const uint32_t home = pathdb_read_word(words, PATHDB_READ_HEAD + at), component = home >> 16;
+        if (home != 0xFFFFFFFF && (component >= pathdb_read_word(words, 9) ||
+                                   (home & 0xFFFF) >= pathdb_read_word(words, pathdb_read_table(words, component)))) {
+            *part = at;
+            return PATHDB_READ_WRONG_HOME;
         }
     }
-    *part = 0;
-    if (passable != pathdb_read_word(words, 8) || passable > PATHDB_READ_MOST_PASSABLE)
-        return PATHDB_READ_WRONG_CELL_COUNT;
     return PATHDB_READ_DONE;
-}
-
-/* Whether the words have their sum (Fletcher 1982, over words). */
-static inline int pathdb_read_has_sum(const uint32_t *words, size_t count)
-{
-    uint32_t low = 0, high = 0;
-    size_t at;
-    for (at = 0; at < count; at++) {
-        if (at != PATHDB_READ_SUM && at != PATHDB_READ_SUM + 1) low += pathdb_read_word(words, at);
-        high += low;
-    }
-    return pathdb_read_word(words, PATHDB_READ_SUM) == low && pathdb_read_word(words, PATHDB_READ_SUM + 1) == high;
 }
 
 static inline pathdb_read_status pathdb_read_check(const uint32_t *words, size_t count, uint32_t *part)
 {
     uint32_t width, height, components, component;
     size_t begin;
-    pathdb_read_status found;
     *part = 0;
     if (count < PATHDB_READ_HEAD || pathdb_read_word(words, 0) != 0x68746170 ||
         pathdb_read_word(words, 1) != 0x67616D69)
         return PATHDB_READ_NO_IMAGE;
-    if (pathdb_read_word(words, 2) != 2) return PATHDB_READ_OTHER_FORM;
+    if (pathdb_read_word(words, 2) != 1) return PATHDB_READ_OTHER_FORM;
     if (pathdb_read_word(words, 3) != count) return PATHDB_READ_WRONG_LENGTH;
     width = pathdb_read_word(words, 4);
     height = pathdb_read_word(words, 5);
     if (width < 1 || width > PATHDB_READ_MOST_SIDE || height < 1 || height > PATHDB_READ_MOST_SIDE ||
         width * height > PATHDB_READ_MOST_CELLS)
         return PATHDB_READ_WRONG_SIDES;
-    if (pathdb_read_word(words, 7) > 1) return PATHDB_READ_WRONG_ORDER;
     components = pathdb_read_word(words, 9);
     begin = PATHDB_READ_HEAD + (size_t)width * height;
     if (begin > count || components > count - begin) return PATHDB_READ_WRONG_LISTS;
-    begin += components;
     for (component = 0; component < components; component++) {
-        found = pathdb_read_check_table(words, count, component, &begin, part);
-        if (found != PATHDB_READ_DONE) return found;
+        if (!pathdb_read_is_table(words, count, pathdb_read_table(words, component))) {
+            *part = component;
+            return PATHDB_READ_WRONG_TABLE;
+        }
     }
-    if (begin != count) return PATHDB_READ_EXTRA_WORDS;
-    found = pathdb_read_check_homes(words, part);
-    if (found != PATHDB_READ_DONE) return found;
-    return pathdb_read_has_sum(words, count) ? PATHDB_READ_DONE : PATHDB_READ_WRONG_SUM;
+    return pathdb_read_check_homes(words, part);
 }
 
 /* ---- reading ---- */
@@ -241,14 +192,13 @@ static inline void pathdb_read_read_facts(const uint32_t *words, size_t count, p
     facts->prefix = pathdb_read_word(words, 6);
     facts->cells = pathdb_read_word(words, 8);
     facts->components = pathdb_read_word(words, 9);
-    facts->order = pathdb_read_word(words, 7);
 }
 
 /* The move that the row of a place keeps for a goal: that of the last run whose start is not above the goal's place. */
 static inline uint32_t pathdb_read_move(const uint32_t *words, size_t start, uint32_t place, uint32_t goal)
 {
     const uint32_t size = pathdb_read_word(words, start);
-    const size_t borders = start + 2 + size, runs = borders + size + 1;
+    const size_t borders = start + 1 + size, runs = borders + size + 1;
     size_t low = runs + pathdb_read_word(words, borders + place);
     size_t high = runs + pathdb_read_word(words, borders + place + 1);
     while (high - low > 1) {
@@ -282,7 +232,7 @@ static inline pathdb_read_status pathdb_read_next_move(const uint32_t *words, si
     const pathdb_read_status found = pathdb_read_ends(words, at, goal, &from, &to);
     (void)count;
     if (found != PATHDB_READ_DONE) return found;
-    if (from == to) return PATHDB_READ_ARRIVED;
+    if (at.x == goal.x && at.y == goal.y) return PATHDB_READ_ARRIVED;
     if (from >> 16 != to >> 16) return PATHDB_READ_UNREACHABLE;
     *move = (uint8_t)pathdb_read_move(words, pathdb_read_table(words, from >> 16), from & 0xFFFF, to & 0xFFFF);
     return PATHDB_READ_DONE;

@@ -46,7 +46,7 @@ int main(void)
     if (file == NULL || fwrite(words, sizeof *words, count, file) != count || fclose(file) != 0) fail("no file");
     read = load("level.image", &again);
     if (read == NULL || again != count || memcmp(read, words, 4 * count) != 0) fail("another image");
-    read[count / 2] ^= 1;
+    read[3] ^= 1;
     file = fopen("level.image", "wb");
     if (file == NULL || fwrite(read, sizeof *read, count, file) != count || fclose(file) != 0) fail("no file");
     if (load("level.image", &again) != NULL) fail("a patched image is taken");

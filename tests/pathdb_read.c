@@ -4,8 +4,7 @@
  *   pathdb_read QUERIES SPOILT IMAGE..
  *
  * Asks so many queries of the images in these files in turn, and spoils that many copies of the first: bits are turned,
- * words set to numbers that lie near, ends cut, and of most the sum is put right again, so that the other tests are met
- * too. Of each it looks at the status and the part, and where it passes at the answers to some queries. A line is a
+ * words set to numbers that lie near, and ends cut. Of each it looks at the status and the part, and where it passes at the answers to some queries. A line is a
  * sixteenth of the work. The words are those of the files, each with its lowest byte first, on every processor. */
 #include <stdint.h>
 #include <stdio.h>
@@ -23,7 +22,7 @@ typedef pathdb_facts facts_type;
 #endif
 typedef NAME(cell) cell_type;
 
-enum { MOST_IMAGES = 16, MOVES = 600, HEAD = 12, SUM = 10 };
+enum { MOST_IMAGES = 16, MOVES = 600, HEAD = 10 };
 
 struct image {
     uint32_t *words;
@@ -126,21 +125,7 @@ static void look(const uint32_t *words, size_t count, int queries)
     mix(facts.cells);
     mix(facts.components);
     mix(facts.prefix);
-    mix(facts.order);
     while (queries-- > 0) ask(words, count, &facts);
-}
-
-/* Puts the sum of words right. */
-static void put_sum(uint32_t *words, size_t count)
-{
-    uint32_t low = 0, high = 0;
-    size_t at;
-    for (at = 0; at < count; at++) {
-        if (at != SUM && at != SUM + 1) low += word_at(words, at);
-        high += low;
-    }
-    put_word(words, SUM, low);
-    put_word(words, SUM + 1, high);
 }
 
 /* A number that may stand in the place of a word. */
@@ -172,7 +157,6 @@ static size_t spoil(uint32_t *words, size_t count)
         const size_t at = random_below(8) == 0 ? random_below(HEAD) : random_below((uint32_t)count);
         put_word(words, at, other_word(words, count, at));
     }
-    if (random_below(8) > 0) put_sum(words, count);
     return count;
 }
 

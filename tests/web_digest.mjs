@@ -4,7 +4,7 @@
 //
 // `digest` is for browsers too: an opener of images, the two numbers, and the images as Uint8Arrays.
 
-const HEAD = 12, SUM = 10, MOVES = 600;
+const HEAD = 10, MOVES = 600;
 const MASK = (1n << 64n) - 1n;
 
 class Chance {
@@ -33,16 +33,6 @@ class Digest {
     }
 }
 
-function putSum(words) {
-    let low = 0, high = 0;
-    for (let at = 0; at < words.length; at++) {
-        if (at !== SUM && at !== SUM + 1) low = (low + words[at]) | 0;
-        high = (high + low) | 0;
-    }
-    words[SUM] = low;
-    words[SUM + 1] = high;
-}
-
 function otherWord(chance, words, at) {
     const word = words[at];
     switch (chance.below(6)) {
@@ -69,7 +59,6 @@ function spoilt(chance, image) {
         const at = chance.below(8) === 0 ? chance.below(HEAD) : chance.below(words.length);
         words[at] = otherWord(chance, words, at);
     }
-    if (chance.below(8) > 0) putSum(words);
     return words;
 }
 
@@ -110,8 +99,8 @@ export async function digest(open, queries, rounds, files) {
             return;
         }
         passed++;
-        const { width, height, cells, components, prefix, order } = image.facts;
-        for (const number of [0, 0, width, height, cells, components, prefix, order]) sum.mix(number);
+        const { width, height, cells, components, prefix } = image.facts;
+        for (const number of [0, 0, width, height, cells, components, prefix]) sum.mix(number);
         for (; many > 0; many--) ask(chance, sum, image);
     };
     for (let sixteenth = 0; sixteenth < 16; sixteenth++) {

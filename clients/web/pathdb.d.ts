@@ -4,8 +4,7 @@
 export const Status: Readonly<{
     DONE: 0; ARRIVED: 1; UNREACHABLE: 2; OUTSIDE_START: 3; BLOCKED_START: 4; OUTSIDE_GOAL: 5; BLOCKED_GOAL: 6;
     TOO_SMALL: 7; BROKEN: 8; NO_IMAGE: 9; OTHER_FORM: 10; WRONG_LENGTH: 11; WRONG_SIDES: 12; WRONG_LISTS: 13;
-    WRONG_TABLE: 14; WRONG_HOME: 15; WRONG_SUM: 29; WRONG_ORDER: 30; WRONG_CELL: 31; WRONG_ROW: 32;
-    WRONG_CELL_COUNT: 33; EXTRA_WORDS: 40;
+    WRONG_TABLE: 14; WRONG_HOME: 15;
 }>;
 
 /** The step of each move, 0 for north clockwise to 7: columns to the east, and rows to the south. */
@@ -28,8 +27,6 @@ export interface Facts {
     readonly components: number;
     /** How many edits of its first map it comes after; 0 for a map that was baked. */
     readonly prefix: number;
-    /** The order of its cells: 0 row by row, 1 depth first. */
-    readonly order: number;
 }
 
 export interface Next {

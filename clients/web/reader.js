@@ -4,15 +4,14 @@
 export const Status = Object.freeze({
     DONE: 0, ARRIVED: 1, UNREACHABLE: 2, OUTSIDE_START: 3, BLOCKED_START: 4, OUTSIDE_GOAL: 5, BLOCKED_GOAL: 6,
     TOO_SMALL: 7, BROKEN: 8, NO_IMAGE: 9, OTHER_FORM: 10, WRONG_LENGTH: 11, WRONG_SIDES: 12, WRONG_LISTS: 13,
-    WRONG_TABLE: 14, WRONG_HOME: 15, WRONG_SUM: 29, WRONG_ORDER: 30, WRONG_CELL: 31, WRONG_ROW: 32,
-    WRONG_CELL_COUNT: 33, EXTRA_WORDS: 40,
+    WRONG_TABLE: 14, WRONG_HOME: 15,
 });
 
 /** The step of each move: columns to the east and rows to the south. */
 export const EAST = Object.freeze([0, 1, 1, 1, 0, -1, -1, -1]);
 export const SOUTH = Object.freeze([-1, -1, 0, 1, 1, 1, 0, -1]);
 
-const HEAD = 12, SUM = 10, BLOCKED = 0xFFFFFFFF;
+const HEAD = 10, BLOCKED = 0xFFFFFFFF;
 const MOST_SIDE = 4096, MOST_CELLS = 1 << 20, MOST_PASSABLE = 1 << 15;
 
 /** The words of an image that is given as bytes, each with its lowest byte first. */
@@ -25,8 +24,8 @@ export function wordsOf(bytes) {
     return Uint32Array.from({ length: count }, (_, at) => from.getUint32(4 * at, true));
 }
 
-/** Whether a table of `size` cells has a row of runs at a place. */
-function isRow(words, border, runs, size) {
+/** Whether a table has a row of runs at a place. */
+function isRow(words, border, runs) {
     const from = words[border], upto = words[border + 1];
     if (from >= upto || upto > words.length - runs || words[runs + from] >= 8) return false;
     let before = 0;
@@ -35,79 +34,50 @@ function isRow(words, border, runs, size) {
         if (run <= before) return false;
         before = run;
     }
-    return before < size;
+    return true;
 }
 
-/** Judges the table of a component that is to begin at `begin`; where it ends, or why it is none. */
-function checkTable(words, component, begin) {
-    const width = words[4], height = words[5], start = words[HEAD + width * height + component];
-    const wrong = { status: Status.WRONG_TABLE, part: component, end: 0 };
-    if (start !== begin || start >= words.length) return wrong;
-    const size = words[start];
-    if (size < 1 || size > MOST_PASSABLE || words.length - start < 2 * size + 3) return wrong;
-    const borders = start + 2 + size, runs = borders + size + 1, terrain = words[start + 1], all = words[runs - 1];
-    if ((terrain !== 1 && terrain !== 2) || words[borders] !== 0 || all > words.length - runs) return wrong;
-    for (let at = start + 2; at < borders; at++) {
-        const x = words[at] & 0xFFFF, y = words[at] >>> 16;
-        if (x >= width || y >= height || words[HEAD + y * width + x] !== component * 65536 + at - start - 2)
-            return { status: Status.WRONG_CELL, part: at, end: 0 };
+/** Whether the table of a component begins there: its cells lie inside the sides, and its rows are rows. */
+function isTable(words, start) {
+    if (start >= words.length) return false;
+    const size = words[start], borders = start + 1 + size;
+    if (size > MOST_PASSABLE || words.length - start < 2 * size + 2) return false;
+    for (let at = start + 1; at < borders; at++) {
+        if ((words[at] & 0xFFFF) >= words[4] || words[at] >>> 16 >= words[5]) return false;
     }
     for (let border = borders; border < borders + size; border++) {
-        if (!isRow(words, border, runs, size)) return { status: Status.WRONG_ROW, part: border, end: 0 };
+        if (!isRow(words, border, borders + size + 1)) return false;
     }
-    return { status: Status.DONE, part: 0, end: runs + all };
+    return true;
 }
 
 /** Judges the words of all cells. */
 function checkHomes(words) {
-    const width = words[4], cells = width * words[5];
-    let passable = 0;
+    const cells = words[4] * words[5];
     for (let at = 0; at < cells; at++) {
-        const home = words[HEAD + at];
+        const home = words[HEAD + at], component = home >>> 16;
         if (home === BLOCKED) continue;
-        const component = home >>> 16, place = home & 0xFFFF, wrong = { status: Status.WRONG_HOME, part: at };
-        if (component >= words[9]) return wrong;
-        const start = words[HEAD + cells + component];
-        if (place >= words[start]) return wrong;
-        const cell = words[start + 2 + place];
-        if ((cell >>> 16) * width + (cell & 0xFFFF) !== at) return wrong;
-        passable++;
+        if (component >= words[9] || (home & 0xFFFF) >= words[words[HEAD + cells + component]])
+            return { status: Status.WRONG_HOME, part: at };
     }
-    const isCount = passable === words[8] && passable <= MOST_PASSABLE;
-    return { status: isCount ? Status.DONE : Status.WRONG_CELL_COUNT, part: 0 };
-}
-
-/** Whether the words have their sum (Fletcher 1982, over words). */
-function hasSum(words) {
-    let low = 0, high = 0;
-    for (let at = 0; at < words.length; at++) {
-        if (at !== SUM && at !== SUM + 1) low = (low + words[at]) | 0;
-        high = (high + low) | 0;
-    }
-    return words[SUM] === low >>> 0 && words[SUM + 1] === high >>> 0;
+    return { status: Status.DONE, part: 0 };
 }
 
 /** What pathdb_check says of words: the status, and the part that is wrong. */
 export function check(words) {
     const fault = (status) => ({ status, part: 0 });
     if (words.length < HEAD || words[0] !== 0x68746170 || words[1] !== 0x67616D69) return fault(Status.NO_IMAGE);
-    if (words[2] !== 2) return fault(Status.OTHER_FORM);
+    if (words[2] !== 1) return fault(Status.OTHER_FORM);
     if (words[3] !== words.length) return fault(Status.WRONG_LENGTH);
     const width = words[4], height = words[5], components = words[9];
     const areSides = width > 0 && width <= MOST_SIDE && height > 0 && height <= MOST_SIDE;
     if (!areSides || width * height > MOST_CELLS) return fault(Status.WRONG_SIDES);
-    if (words[7] > 1) return fault(Status.WRONG_ORDER);
-    let begin = HEAD + width * height + components;
-    if (begin > words.length) return fault(Status.WRONG_LISTS);
+    const starts = HEAD + width * height;
+    if (starts + components > words.length) return fault(Status.WRONG_LISTS);
     for (let component = 0; component < components; component++) {
-        const { status, part, end } = checkTable(words, component, begin);
-        if (status !== Status.DONE) return { status, part };
-        begin = end;
+        if (!isTable(words, words[starts + component])) return { status: Status.WRONG_TABLE, part: component };
     }
-    if (begin !== words.length) return fault(Status.EXTRA_WORDS);
-    const homes = checkHomes(words);
-    if (homes.status !== Status.DONE) return homes;
-    return fault(hasSum(words) ? Status.DONE : Status.WRONG_SUM);
+    return checkHomes(words);
 }
 
 /** The calls that read words which passed the check. */
@@ -120,8 +90,8 @@ export class Reader {
     }
 
     facts() {
-        const [, , , , width, height, prefix, order, cells, components] = this.#words.subarray(0, 10);
-        return { width, height, cells, components, prefix, order };
+        const [, , , , width, height, prefix, , cells, components] = this.#words;
+        return { width, height, cells, components, prefix };
     }
 
     /** The word of a cell; -1 where it lies outside. */
@@ -140,7 +110,7 @@ export class Reader {
 
     /** The move of the last run in the row of a place whose start is not above the goal's place. */
     #move(start, place, goal) {
-        const words = this.#words, borders = start + 2 + words[start], runs = borders + words[start] + 1;
+        const words = this.#words, borders = start + 1 + words[start], runs = borders + words[start] + 1;
         let low = runs + words[borders + place], high = runs + words[borders + place + 1];
         while (high - low > 1) {
             const middle = (low + high) >>> 1;
@@ -154,7 +124,7 @@ export class Reader {
     nextMove(at, goal) {
         const from = this.#home(at.x, at.y), to = this.#home(goal.x, goal.y), refused = this.#refusal(from, to);
         if (refused) return { status: refused, move: -1 };
-        if (from === to) return { status: Status.ARRIVED, move: -1 };
+        if (at.x === goal.x && at.y === goal.y) return { status: Status.ARRIVED, move: -1 };
         if (from >>> 16 !== to >>> 16) return { status: Status.UNREACHABLE, move: -1 };
         const start = this.#words[HEAD + this.#words[4] * this.#words[5] + (from >>> 16)];
         return { status: Status.DONE, move: this.#move(start, from & 0xFFFF, to & 0xFFFF) };

@@ -73,8 +73,8 @@ class WasmReader {
 
     facts() {
         this.#exports.pathdb_read_facts(...this.#words, this.#facts);
-        const [width, height, cells, components, prefix, order] = this.#numbers.subarray(FACTS / 4);
-        return { width, height, cells, components, prefix, order };
+        const [width, height, cells, components, prefix] = this.#numbers.subarray(FACTS / 4);
+        return { width, height, cells, components, prefix };
     }
 
     nextMove(at, goal) {
