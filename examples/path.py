@@ -4,10 +4,14 @@
     examples/path.py LIBRARY MAP SX SY GX GY
     examples/path.py release/pathdb/libpathdb.so maps/tutorial.map 2 2 37 17
 """
+
+from __future__ import annotations
+
 import ctypes
 import math
 import sys
 from ctypes import POINTER, byref, c_char_p, c_size_t, c_uint8, c_uint16, c_uint32
+from typing import Any, List, Optional, Tuple
 
 DONE, UNREACHABLE, TOO_SMALL = 0, 2, 7
 TEXT_ROOM, LONGEST = 64, 32767
@@ -33,9 +37,10 @@ class PathFailed(Exception):
 class Pathdb:
     """The library; each method raises `PathFailed` where a call ends with a fault."""
 
-    def __init__(self, name):
+    def __init__(self, name: str) -> None:
         self.calls = calls = ctypes.CDLL(name)
-        words = [POINTER(c_uint32), c_size_t]
+        self.moves = (c_uint8 * LONGEST)()  # where each path is written: no memory is taken for one
+        words: List[Any] = [POINTER(c_uint32), c_size_t]
         calls.pathdb_check.argtypes = words + [POINTER(c_uint32)]
         calls.pathdb_path_cost.argtypes = words + [Cell, Cell, POINTER(Cost)]
         calls.pathdb_path.argtypes = words + [Cell, Cell, POINTER(c_uint8), c_size_t, POINTER(c_uint32)]
@@ -45,45 +50,48 @@ class Pathdb:
         for name in ("check", "path_cost", "path", "bake_text"):
             getattr(calls, "pathdb_" + name).restype = c_uint32
 
-    def bake(self, text, order=0):
+    def bake(self, text: bytes, order: int = 0) -> ctypes.Array[c_uint32]:
         """The words of the image of a map that is given as bytes."""
         room, baked = 1 << 12, Baked()
         while True:
             words = (c_uint32 * room)()
             status = self.calls.pathdb_bake_text(text, len(text), order, words, room, byref(baked))
             if status == DONE:
-                return (c_uint32 * baked.words).from_buffer(words)
+                image: ctypes.Array[c_uint32] = (c_uint32 * baked.words).from_buffer(words)
+                return image
             if status != TOO_SMALL:
                 raise PathFailed(self.text(status))
             room = baked.words
 
-    def check(self, words):
+    def check(self, words: ctypes.Array[c_uint32]) -> None:
         """Raises where the words are no image."""
         part = c_uint32()
         status = self.calls.pathdb_check(words, len(words), byref(part))
         if status != DONE:
             raise PathFailed(f"{self.text(status)} ({part.value})")
 
-    def path(self, words, start, goal):
+    def path(
+        self, words: ctypes.Array[c_uint32], start: Tuple[int, int], goal: Tuple[int, int]
+    ) -> Optional[Tuple[Cost, bytes]]:
         """The cost and the moves of a shortest path; None where no path exists."""
-        cost, count, room = Cost(), c_uint32(), (c_uint8 * LONGEST)()
-        status = self.calls.pathdb_path_cost(words, len(words), Cell(*start), Cell(*goal), byref(cost))
+        cost, count, ends = Cost(), c_uint32(), (Cell(*start), Cell(*goal))
+        status = self.calls.pathdb_path_cost(words, len(words), *ends, byref(cost))
         if status == DONE:
-            status = self.calls.pathdb_path(words, len(words), Cell(*start), Cell(*goal), room, LONGEST, byref(count))
+            status = self.calls.pathdb_path(words, len(words), *ends, self.moves, LONGEST, byref(count))
         if status == UNREACHABLE:
             return None
         if status != DONE:
             raise PathFailed(self.text(status))
-        return cost, room[: count.value]
+        return cost, ctypes.string_at(self.moves, count.value)
 
-    def text(self, status):
+    def text(self, status: int) -> str:
         """What a status means."""
         room = ctypes.create_string_buffer(TEXT_ROOM)
         self.calls.pathdb_status_text(status, room, TEXT_ROOM)
         return room.value.decode("ascii")
 
 
-def main(words):
+def main(words: List[str]) -> int:
     if len(words) != 6:
         print(__doc__, file=sys.stderr)
         return 1

@@ -2,7 +2,7 @@
 """What other programs find wrong in the scripts of this repository: nothing.
 
     tests/linters.py shellcheck    over the shell scripts
-    tests/linters.py mypy          over clients/, tools/, deploy/ and demo, as mypy --strict
+    tests/linters.py mypy          over clients/, tools/, deploy/, demo, and the examples in Python, as mypy --strict
 """
 import os, shutil, subprocess, sys, tempfile
 
@@ -36,9 +36,22 @@ def mypy():
     os.environ["MYPYPATH"] = "clients/python:clients/pathdb:tools:deploy"
     clients = [f"clients/{name}" for name in ("python/make_wheel.py", "python/path_server", "python/tests",
                                               "pathdb/pathdb", "pathdb/tests")]
-    with tempfile.TemporaryDirectory() as cache:
-        return subprocess.call(["mypy", "--strict", "--scripts-are-modules", "--cache-dir", cache, "--no-error-summary",
-                                *tools, "tools/path_tools", "deploy/path_deploy", *clients])
+    with tempfile.TemporaryDirectory() as folder:
+        return subprocess.call([
+            "mypy", "--strict", "--scripts-are-modules", "--cache-dir", f"{folder}/cache", "--no-error-summary", *tools,
+            "tools/path_tools", "deploy/path_deploy", *clients, "examples/path.py", *examples(folder)])
+
+
+def examples(folder):
+    """Files with the examples of the two clients' READMEs. Those of the second are one program, one after the other."""
+    for client, joined in (("python", False), ("pathdb", True)):
+        with open(f"clients/{client}/README.md", encoding="utf-8") as page:
+            parts = [part.split("```")[0] for part in page.read().split("```python\n")[1:]]
+        for number, part in enumerate(["".join(parts)] if joined else parts):
+            name = f"{folder}/readme_{client}_{number}.py"
+            with open(name, "w", encoding="utf-8") as file:
+                file.write(part)
+            yield name
 
 
 def main(name):
