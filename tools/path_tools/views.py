@@ -33,6 +33,9 @@ from .searches import components, kept_and_changed, runs_by_row, stored_moves
 
 Ends = Tuple[Cell, Cell]
 
+BUILD_TIME = 600.0
+"""Seconds that the build of a database may take; the largest maps take a minute and more beside other work."""
+
 
 class ViewFault(Exception):
     """A view that cannot be drawn, and why."""
@@ -49,7 +52,7 @@ def map_view(grid: Grid) -> Picture:
 
 def path_view(name: str, grid: Grid, ends: Ends, order: str) -> Picture:
     """A path on it, as the program answers."""
-    with Client.talk(name, "--order", order, program=program_here()) as client:
+    with Client.talk(name, "--order", order, program=program_here(), start_timeout=BUILD_TIME) as client:
         answer = client.query(*ends)
     picture = Picture(grid)
     if isinstance(answer, Path):
@@ -123,7 +126,7 @@ def difference_view(name: str, old: Grid, new: Grid, ends: List[Ends], order: st
     rebuilt = [place for part in components(new) if frozenset(part) not in kept for place in part]
     picture.cells({place: REBUILT for place in rebuilt})
     picture.cells({place: ADDED if new.terrain[place] else REMOVED for place in changed})
-    with Client.talk(name, "--order", order, program=program_here()) as client:
+    with Client.talk(name, "--order", order, program=program_here(), start_timeout=BUILD_TIME) as client:
         client.hello()  # for water
         before = [client.query(*pair) for pair in ends]
         built = _publish(client, new, changed)
@@ -162,7 +165,7 @@ def _publish(client: Client, new: Grid, changed: List[int]) -> str:
             answer = client.change(new.cell(place), terrain)
             if not isinstance(answer, Accepted):
                 raise ViewFault("the program refuses the change of column %d and row %d" % new.cell(place))
-    built = client.build(timeout=600)
+    built = client.build(timeout=BUILD_TIME)
     if not isinstance(built, Published):
         return "nothing built"
     return "components of %d cells built, of %d kept" % (built.built, built.kept)

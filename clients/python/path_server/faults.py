@@ -37,7 +37,7 @@ class TimedOut(PathServerError):
     """What was waited for did not come in `seconds`."""
 
     def __init__(self, what: str, seconds: float) -> None:
-        super().__init__("%s did not come in %g seconds" % (what, seconds))
+        super().__init__("%s did not come in %g seconds" % (what, round(seconds, 2)))
         self.seconds = seconds
 
 
