@@ -511,8 +511,11 @@ function draw() {
   });
   if (state.answer && state.answer.kind === "path") drawPath();
   const radius = Math.max(0.6, 8 / side);
-  disc(state.start, radius, START, "A");
-  disc(state.goal, radius, GOAL, "B");
+  // whole also at the map's edge
+  const whole = (middle, length) => Math.max(1.2 * radius, Math.min(middle, length - 1.2 * radius));
+  const mark = ([column, row]) => [whole(column + 0.5, width) - 0.5, whole(row + 0.5, height) - 0.5];
+  disc(mark(state.start), radius, START, "A");
+  disc(mark(state.goal), radius, GOAL, "B");
   showKey();
 }
 
