@@ -59,7 +59,7 @@ class Trial(threading.Thread):
 
     def __init__(self, work, *arguments):
         super().__init__(daemon=True)
-        self.work, self.arguments, self.found = work, arguments, "nothing"
+        self.work, self.arguments, self.found = work, arguments, ("nothing yet", float("inf"))
         self.start()
 
     def run(self):

@@ -43,6 +43,9 @@ def judge_told(what, told, rows, took):
     judge(f"{what}: rows of how many", {line[1] for line in told} <= {rows}, True)
     judge(f"{what}: rows are built", all(0 < line[0] <= rows for line in told) and told == sorted(told), True)
     judge(f"{what}: time", all(line[2] <= took for line in told), True)
+    for built, _, gone, left in told:  # as fast as so far
+        least, most = gone * (rows - built) / built, (gone + 1) * (rows - built) / built + 1
+        judge(f"{what}: {left} s left of {rows - built} rows, after {built} in {gone} s", least <= left <= most, True)
 
 
 def judge_shown(what, shown, rows, took):
@@ -63,6 +66,8 @@ for words in (MADE, (*MADE, "--workers", "3")):
     out, shown, took = at_terminal(*words)
     judge("the answer is the same", out, answer)
     judge_shown(" ".join(words), shown, ROWS, took)
+out, shown, took = at_terminal(*MADE, PATH_SERVER_PROGRESS="1")
+judge_shown("a terminal that wants it", shown, ROWS, took)
 judge("a terminal that wants none", at_terminal(*MADE, PATH_SERVER_PROGRESS="0")[:2], (answer, ""))
 judge("what takes no time", at_terminal("check", row)[1], "")
 judge("what takes no time, in lines", in_pipe("check", row, PATH_SERVER_PROGRESS="1")[1], "")
