@@ -36,6 +36,7 @@ from path_server import (
 from path_server.frames import encoded
 
 PATIENCE = 60  # seconds that an answer may take
+SOON = 10  # and where nobody is in the way
 ASK_TIME = 10  # seconds in which an ask that was begun has to be whole
 MAX_EDITS = 1024  # in one message
 ROW = "type octile\nheight 1\nwidth 3\nmap\n...\n"
@@ -180,6 +181,16 @@ def try_feed(program, folder):
         if time.monotonic() - began > ASK_TIME + 5:
             raise Wrong("a silent follower held a stop up for %.1f seconds" % (time.monotonic() - began))
         same("who was silent", silent.link.recv(1), b"")
+
+
+def try_two(program, folder):
+    """A follower hangs up before its session: while that goes on a second one gets the one door of the feed."""
+    with Server(os.path.join(folder, "row.map"), feed=0, doors=1, program=program) as server:
+        with server.follow(0, program=program, timeout=PATIENCE) as first:
+            same("the first follower", first.status().accepted, 0)
+            with server.follow(0, program=program, timeout=SOON) as second:
+                same("a second follower", second.status().accepted, 0)
+            same("the first follower, later", first.status().accepted, 0)
 
 
 def try_follow(program):
@@ -453,6 +464,7 @@ def main():
         try:
             try_follow(program)
             try_feed(program, folder)
+            try_two(program, folder)
             counts = try_load(options, program, folder)
             if options.speed:
                 print("nodes.py: %s" % ", ".join("%d %s" % (count, what) for what, count in sorted(counts.items())))
