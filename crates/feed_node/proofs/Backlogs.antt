@@ -1,5 +1,5 @@
 -- What a feed has of the accepted edits, as others accept more.
-use Rattle.std.proofs.Common.{◌≡◌, ℕ, ◌<◌, ◌≤◌, List, [], ◌++◌, length, take, drop, refl, sym, subst, ap, ◌∙◌, length-append, arith}
+use Rattle.std.proofs.Common.{◌≡◌, ℕ, ◌^◌, ◌<◌, ◌≤◌, List, [], ◌++◌, length, take, drop, refl, sym, subst, ap, ◌∙◌, length-append, arith}
 use Rattle.std.proofs.lemmas.List.{append-nil, append_assoc, drop-append-le, drop-drop, length-drop, take-append-le}
 use Rattle.edit_log.specs.declared.edit.Edit.{Edit}
 use Rattle.path_core.specs.declared.entry.Entry.{Entry}
@@ -34,9 +34,9 @@ module _ (seen now : List Entry) (grows : BeginsWith now seen) (known : ℕ) (ed
       }
 
 -- the edits of a message that are in the backlog
-pub full_answers : (before now : List Entry) (from : ℕ) (edits : List Edit) (known place : ℕ) → BeginsWith now before → IsBacklog now from edits
+pub full_answers : (before now : List Entry) (from : ℕ) (edits : List Edit) (known place : ℕ) → known < 2 ^ 32 → BeginsWith now before → IsBacklog now from edits
     → HasFull from edits known place → Answers before (told_of known edits (found.Edits place)) now
-full_answers before now from edits known place grows p q =
+full_answers before now from edits known place low grows p q =
     let behind : drop known (edits_of now) ≡ drop place edits ++ p.rest =
     ap (λ n. drop n (edits_of now)) q.is ∙ sym (drop-drop place from (edits_of now)) ∙ ap (drop place) p.are
     ∙ drop-append-le place edits p.rest (omega (arith, q.full)) in
@@ -45,6 +45,7 @@ full_answers before now from edits known place grows p q =
     let rest = length-drop from (edits_of now) in
     let both = length-append edits p.rest in
     record {
+      low = low;
       point = now;
       goes = grows;
       on = begins_itself now;
@@ -56,16 +57,16 @@ full_answers before now from edits known place grows p q =
     }
 
 -- fewer edits were accepted
-pub ahead_answers : (before now : List Entry) (edits : List Edit) (known accepted : ℕ) → BeginsWith now before → accepted ≡ accepted_count now
+pub ahead_answers : (before now : List Entry) (edits : List Edit) (known accepted : ℕ) → known < 2 ^ 32 → BeginsWith now before → accepted ≡ accepted_count now
     → accepted < known → Answers before (told_of known edits (found.Ahead accepted)) now
-ahead_answers before now edits known accepted grows is less = record { point = now; goes = grows; on = begins_itself now; says = (is, less) }
+ahead_answers before now edits known accepted low grows is less = record { low = low; point = now; goes = grows; on = begins_itself now; says = (is, less) }
 
 -- not fewer were, and all that are not known were given
-pub job_answers : (before point now : List Entry) (edits : List Edit) (known : ℕ) → BeginsWith point before → BeginsWith now point
+pub job_answers : (before point now : List Entry) (edits : List Edit) (known : ℕ) → known < 2 ^ 32 → BeginsWith point before → BeginsWith now point
     → known ≤ accepted_count point → edits ≡ drop known (edits_of now) → Answers before (told_of known edits (found.Edits 0)) now
-job_answers before point now edits known goes on within is = record { point = point; goes = goes; on = on; says = (within, refl, ap (take MAX_SENT) is) }
+job_answers before point now edits known low goes on within is = record { low = low; point = point; goes = goes; on = on; says = (within, refl, ap (take MAX_SENT) is) }
 
 -- or there was no memory for them
-pub none_answers : (before point now : List Entry) (edits : List Edit) (known : ℕ) → BeginsWith point before → BeginsWith now point
+pub none_answers : (before point now : List Entry) (edits : List Edit) (known : ℕ) → known < 2 ^ 32 → BeginsWith point before → BeginsWith now point
     → known ≤ accepted_count point → Answers before (told_of known edits found.NoMemory) now
-none_answers before point now edits known goes on within = record { point = point; goes = goes; on = on; says = within }
+none_answers before point now edits known low goes on within = record { low = low; point = point; goes = goes; on = on; says = within }

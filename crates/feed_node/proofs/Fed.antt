@@ -24,13 +24,13 @@ use Rattle.feed_node.proofs.Passing.{part_behind, passes_none, passes_part, pass
 answers_more : (before mid after : List Entry) (tolds : List Told) (told : Told) → AnswersAll before tolds mid → Answers mid told after
     → AnswersAll before (tolds ++ told ∷ []) after
 answers_more before mid after [] told p q =
-    (after, record { point = q.point; goes = begins_then before mid q.point p q.goes; on = q.on; says = q.says }, begins_itself after)
+    (after, record { low = q.low; point = q.point; goes = begins_then before mid q.point p q.goes; on = q.on; says = q.says }, begins_itself after)
 answers_more before mid after (first ∷ tolds) told (next, a, rest) q = (next, a, answers_more next mid after tolds told rest q)
 
 pub feeds_begin_anywhere : FeedsBeginAnywhere
 feeds_begin_anywhere point history [] p = record { rest = history; is = refl }
 feeds_begin_anywhere point history (told ∷ tolds) (after, a, rest) =
-    (after, record { point = a.point; goes = record { rest = a.point; is = refl }; on = a.on; says = a.says }, rest)
+    (after, record { low = a.low; point = a.point; goes = record { rest = a.point; is = refl }; on = a.on; says = a.says }, rest)
 
 asked_more : (tolds : List Told) (told : Told) → asked_bytes (tolds ++ told ∷ []) ≡ asked_bytes tolds ++ ask_bytes told.known
 asked_more tolds told =

@@ -2,7 +2,7 @@
 --
 -- Others use the board while a feed goes on, so each message has two points of the history: at the first one it is seen
 -- whether so many edits were accepted as the follower knows, and at the second one the edits are taken.
-use Rattle.std.specs.Prelude.{◌≡◌, ℕ, ◌+◌, ◌<◌, ◌≤◌, ⊤, List, [], ◌∷◌, ◌++◌, length, take, drop}
+use Rattle.std.specs.Prelude.{◌≡◌, ℕ, ◌+◌, ◌^◌, ◌<◌, ◌≤◌, ⊤, List, [], ◌∷◌, ◌++◌, length, take, drop}
 use Rattle.std.specs.List.{flat_map}
 use Rattle.moves.specs.Maps.{Map}
 use Rattle.edit_log.specs.declared.edit.CellChange.{CellChange}
@@ -27,8 +27,9 @@ MaySay one two known (Edits from edits) =
     (known ≤ accepted_count one) × (from ≡ known) × (edits ≡ take MAX_SENT (drop known (edits_of two)))
 MaySay one two known NoMemory = known ≤ accepted_count one
 
--- at some two points, of which each goes on from the one before
+-- at some two points, of which each goes on from the one before; an ask has its number in four bytes
 pub record Answers (before : List Entry) (told : Told) (after : List Entry) : Type 0 where
+  pub low : told.known < 2 ^ 32
   pub point : List Entry
   pub goes : BeginsWith point before
   pub on : BeginsWith after point

@@ -11,6 +11,7 @@ returns-clause-behind c = record {
   answers = (
     one_accepted,
     record {
+      low = omega arith;
       point = one_accepted;
       goes = record { rest = one_accepted; is = refl };
       on = begins_itself one_accepted;
@@ -28,6 +29,7 @@ returns-clause-ahead c = record {
   answers = (
     one_accepted,
     record {
+      low = omega arith;
       point = one_accepted;
       goes = record { rest = one_accepted; is = refl };
       on = begins_itself one_accepted;
