@@ -120,7 +120,7 @@ fn walk_among(
         if is_reached(trail.at, route.goal) {
             return Ok(trail.moves);
         }
-        let by = next_move(alloc, grid, cells, &near, &mut bench, trail.at, to)?;
+        let by = next_move(grid, cells, &near, &mut bench, trail.at, to)?;
         bench.learn(trail.at, by);
         trail.take(grid, by)?;
         go_on(grid, search, route, &mut trail)?;

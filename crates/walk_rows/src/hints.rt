@@ -61,30 +61,33 @@ impl<'a> Hints<'a> {
     }
 
     /// Marks the place of a cell and those of cells to which a best path may lead from there and where it may go on by
-    /// several moves, as many as a tile has sources, and no others.
-    pub(crate) fn mark_from(&self, from: Cell, place: usize, wanted: &mut [bool])
+    /// several moves, as many as a tile has sources, and no others. Tells whether they are most cells of that path: only
+    /// then do they lie so near one another that a tile costs less than a search from each.
+    pub(crate) fn mark_from(&self, from: Cell, place: usize, wanted: &mut [bool]) -> bool
         requires { place < length wanted.old }
         ensures size { length wanted.new ≡ length wanted.old }
         ensures place { slice_index_or wanted.new place false ≡ true }
     {
         wanted.fill(false);
-        self.mark_ahead(from, wanted);
+        let most = self.mark_ahead(from, wanted);
         wanted[place] = true;
+        most
     }
 
-    /// Marks the places of cells to which a best path may lead from a cell on.
-    fn mark_ahead(&self, from: Cell, wanted: &mut [bool])
+    /// Marks the places of cells to which a best path may lead from a cell on, and tells whether they are most of those
+    /// that it passes.
+    fn mark_ahead(&self, from: Cell, wanted: &mut [bool]) -> bool
         ensures { length wanted.new ≡ length wanted.old }
     {
         let mut at = from;
         let mut left = LANES;
-        for _ in 0..AHEAD {
+        for passed in 0..AHEAD {
             match self.onward(at) {
-                Onward::Nowhere => return,
+                Onward::Nowhere => return are_most(left, passed),
                 Onward::Forced(next) => at = next,
                 Onward::Guessed(_, next) => {
                     if left == 0 {
-                        return;
+                        return are_most(left, passed);
                     }
                     left -= 1;
                     mark(&self.places, place(self.grid.width(), at), wanted);
@@ -92,6 +95,7 @@ impl<'a> Hints<'a> {
                 }
             }
         }
+        false
     }
 
     /// The walk went on by a move: from now on it comes before the one that was guessed.
@@ -152,4 +156,9 @@ fn mark(places: &[u16], at: usize, wanted: &mut [bool])
             wanted[place] = true;
         }
     }
+}
+
+/// Whether the cells that were marked, of which so many are left, are most of those that were passed.
+fn are_most(left: usize, passed: usize) -> bool {
+    LANES.saturating_sub(left).saturating_mul(2) > passed
 }

@@ -1,6 +1,6 @@
 //! The move that is kept for a place in the row of a cell.
 
-ghost use Rattle.std.specs.Prelude.{◌<◌, Contains, IfOk, OnOk, length};
+ghost use Rattle.std.specs.Prelude.{◌≡◌, ◌*◌, ◌<◌, ◌≤◌, Contains, IfOk, OnOk, length};
 ghost use Rattle.moves.specs.Maps.{IsSearchable};
 ghost use Rattle.moves.specs.FirstSetLists.{cell_of};
 ghost use Rattle.row_store.specs.Comps.{IsPlaceOf};
@@ -8,16 +8,14 @@ ghost use Rattle.build_pool.specs.Places.{AreSources, AreWithNear};
 ghost use Rattle.walk_rows.specs.Walks.{AreWordsFrom, CanBeWalked, IsKeptOver, IsReady};
 
 use crate::bench::Workbench;
-use build_pool::PlainSearch;
 use lane_rows::Near;
 use moves::{Cell, Grid, Move};
-use run_pack::{append_words, find_word_move};
-use std::alloc::{AllocError, Global};
+use run_pack::find_word_move;
+use std::alloc::AllocError;
 
-/// The move that is kept for the goal in the row of a cell: the row is at hand, or it is built with those of cells that
-/// may come after it.
+/// The move that is kept for the goal in the row of a cell: the row is at hand, or it is built, with those of cells that
+/// may come after it or alone.
 pub(crate) fn next_move(
-    alloc: Global,
     grid: &Grid,
     cells: &[Cell],
     near: &Near,
@@ -29,9 +27,11 @@ pub(crate) fn next_move(
     requires cells { CanBeWalked grid.now cells.now }
     requires table { AreWithNear cells.now near.now }
     requires ready { IsReady cells.now bench.old }
+    requires room { grid.now.width * grid.now.height ≤ bench.old.plain.room }
     requires at { Contains cells.now at }
     requires to { to < length cells.now }
     ensures ready { OnOk result (IsReady cells.now bench.new) }
+    ensures room { OnOk result (bench.new.plain.room ≡ bench.old.plain.room) }
     ensures kept { IfOk result (IsKeptOver cells.now at (cell_of cells.now to)) }
 {
     if let Some(lane) = bench.lane_of(cells, at) {
@@ -39,10 +39,11 @@ pub(crate) fn next_move(
     }
     let place = place_of(cells, at);
     bench.solve(cells, near, place)?;
-    match bench.lane_of(cells, at) {
-        Some(lane) => Ok(move_in(cells, at, bench.words(lane), to)),
-        None => plain_move(alloc, grid, cells, place, to),
+    if let Some(lane) = bench.lane_of(cells, at) {
+        return Ok(move_in(cells, at, bench.words(lane), to));
     }
+    bench.build_alone(grid, cells, place)?;
+    Ok(move_in(cells, at, bench.row(), to))
 }
 
 /// The place of one of the cells.
@@ -65,25 +66,4 @@ fn move_in(cells: &[Cell], at: Cell, words: &[u32], to: usize) -> Move
     let _ = at;
     let number = find_word_move(words, to as u32);
     Move::of(number).unwrap_or_default()
-}
-
-/// The move that is kept for a place in the row of a cell, by a plain search from there.
-fn plain_move(
-    alloc: Global,
-    grid: &Grid,
-    cells: &[Cell],
-    place: usize,
-    to: usize,
-) -> Result<Move, AllocError>
-    requires searchable { IsSearchable grid.now }
-    requires cells { CanBeWalked grid.now cells.now }
-    requires place { place < length cells.now }
-    requires to { to < length cells.now }
-    ensures { IfOk result (IsKeptOver cells.now (cell_of cells.now place) (cell_of cells.now to)) }
-{
-    let mut plain = PlainSearch::over(alloc, grid, cells.len())?;
-    plain.find(grid, cells, place)?;
-    let mut words = Vec::new(alloc);
-    append_words(&mut words, plain.sets())?;
-    Ok(move_in(cells, cells[place], &words, to))
 }

@@ -1,4 +1,4 @@
-use Rattle.std.proofs.Common.{◌≡◌, ◌≢◌, sym, ◌∙◌, arith}
+use Rattle.std.proofs.Common.{◌≡◌, ◌≢◌, ap, sym, ◌∙◌, arith}
 use Rattle.std.proofs.lemmas.Bool.{false≢true}
 use Rattle.std.proofs.lemmas.List.{length_push}
 use Rattle.walk_rows.proofs.Descending.{kept_leads_on}
@@ -13,6 +13,7 @@ pub loop-init : goal.loop-init
 loop-init c = record {
   way = c.requires.way;
   ready = ready_none _ _ c.in_ok-bench.ensures.count c.in_ok-bench.ensures.marks c.in_ok-bench.ensures.none;
+  room = rw c.in_ok-bench.ensures.room (omega arith);
   long = omega arith;
 }
 
@@ -41,6 +42,7 @@ pub loop-preserved : goal.loop-preserved
 loop-preserved c = record {
   way = c.in_ok-go_on.ensures.way;
   ready = ready_kept _ _ _ c.in_ok-by.ensures.ready c.learn.ensures.tiles c.learn.ensures.rows c.learn.ensures.wanted;
+  room = rw (ap (λ plain. plain.room) c.learn.ensures.plain, c.in_ok-by.ensures.room) c.loop.invariant.room;
   long =
       (let before = c.loop.invariant.long in
       let more = rw c.in_ok-take.ensures.moves at c.in_ok-go_on.ensures.long in
