@@ -10,3 +10,4 @@ pub mod Passing
 pub mod Sizes
 pub mod Putting
 pub mod Labelling
+pub mod Striding

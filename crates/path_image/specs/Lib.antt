@@ -3,5 +3,6 @@ pub mod Reading
 pub mod Faults
 pub mod Answers
 pub mod Walks
+pub mod Strides
 pub mod Writing
 pub mod Examples

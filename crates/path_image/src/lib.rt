@@ -10,12 +10,14 @@
 mod checking;
 pub mod laws;
 mod reading;
+mod strides;
 mod walking;
 mod writing;
 
 pub use checking::ImageFault;
-pub use reading::Image;
-pub use walking::{PathFault, WalkFault};
+pub use reading::{Home, Image};
+pub use strides::ImageWalk;
+pub use walking::{PathFault, Step, WalkFault};
 pub use writing::{image_words, write_image};
 
 /// The first word of each image: the bytes `path`.

@@ -25,7 +25,7 @@ use versions::{End, Next, QueryRefusal};
 /// the look of [`Image::over`] and are no version's image each call returns too, and reads nothing outside of them.
 #[derive(Drop)]
 pub struct Image<'a> {
-    words: &'a [u32],
+    pub(crate) words: &'a [u32],
 }
 
 impl<'a> Model for Image<'a> {
@@ -154,12 +154,12 @@ impl<'a> Image<'a> {
 }
 
 /// Where a cell stands.
-#[derive(Clone, Copy)]
-pub(crate) struct Home {
+#[derive(Clone, Copy, Debug, PartialEq, Eq)]
+pub struct Home {
     /// The number of its component.
-    pub(crate) label: u32,
+    pub label: u32,
     /// Its place in the order of the component.
-    pub(crate) place: u32,
+    pub place: u32,
 }
 
 /// How many columns the map has.

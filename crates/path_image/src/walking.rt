@@ -5,6 +5,7 @@ ghost use Rattle.moves.specs.Moves.{IsTarget};
 ghost use Rattle.path_image.specs.Answers.{AreEndsIn, IsLeastCostIn, IsPathFaultIn, IsPathIn, IsRefusalIn, IsWalkFaultIn};
 ghost use Rattle.path_image.specs.Reading.{IsCellIn, LeadsInside, StandsIn};
 ghost use Rattle.path_image.specs.Walks.{Advances, CostsAhead, Enters, HasNorth, HasTarget, HasWest, IsBegunIn, IsNoCellBehind, IsUnderWay, LeadsBelow, PutsAhead, goes_north, goes_west};
+ghost use Rattle.path_image.specs.Strides.{GoesTo};
 
 use crate::reading::{Home, ends_of, has, home_at, move_for, row_len, size_of};
 use moves::{Cell, Move};
@@ -81,17 +82,18 @@ impl From<QueryRefusal> for WalkFault {
 #[derive(Clone, Copy)]
 pub(crate) struct Walk {
     /// The cell that was reached.
-    at: Cell,
+    pub(crate) at: Cell,
     /// Where it stands.
-    home: Home,
+    pub(crate) home: Home,
     /// The place of the goal in the same component.
-    goal: u32,
+    pub(crate) goal: u32,
     /// The run in which the goal was found last: in the row of a cell beside, it lies near.
-    run: usize,
+    pub(crate) run: usize,
 }
 
 /// What a step of a walk was.
-pub(crate) enum Step {
+#[derive(Clone, Copy, Debug, PartialEq, Eq)]
+pub enum Step {
     /// None: the goal is reached.
     Arrived,
     /// This move.
@@ -125,7 +127,7 @@ fn walk_from(words: &[u32], start: Cell, goal: Cell) -> Result<Option<Walk>, Que
 }
 
 /// Where in the row of a place the run lies that covers another, if all runs are of one length.
-fn first_guess(words: &[u32], home: Home, goal: u32) -> usize
+pub(crate) fn first_guess(words: &[u32], home: Home, goal: u32) -> usize
     requires inside { LeadsInside words.now }
     requires home { StandsIn words.now home.label home.place }
 {
@@ -136,12 +138,13 @@ fn first_guess(words: &[u32], home: Home, goal: u32) -> usize
 
 /// The next step of the walk.
 #[inline(always)]
-fn go_on(words: &[u32], walk: &mut Walk) -> Step
+pub(crate) fn go_on(words: &[u32], walk: &mut Walk) -> Step
     requires inside { LeadsInside words.now }
     requires walk { IsUnderWay words.now walk.old }
     ensures walk { IsUnderWay words.now walk.new }
     ensures size { walk.new.home.label ≡ walk.old.home.label }
     ensures step { Advances words.now walk.old walk.new result }
+    ensures target { GoesTo walk.old walk.new result }
 {
     if walk.home.place == walk.goal {
         return Step::Arrived;
@@ -175,7 +178,7 @@ fn enter(words: &[u32], walk: &mut Walk, by: Move, to: Cell) -> Step
 
 /// The cell inside that the move leads to; `None` exactly where there is none.
 #[inline(always)]
-fn cell_behind(words: &[u32], at: Cell, by: Move) -> Option<Cell>
+pub(crate) fn cell_behind(words: &[u32], at: Cell, by: Move) -> Option<Cell>
     requires inside { LeadsInside words.now }
     requires at { IsCellIn words.now at }
     ensures target { IfSome result (IsTarget at by) }
