@@ -1,0 +1,5 @@
+pub mod Blocking
+pub mod Free
+pub mod Along
+pub mod Refusing
+pub mod Onward

@@ -1,0 +1,4 @@
+pub mod Live
+pub mod Laws
+pub mod Told
+pub mod Telling
