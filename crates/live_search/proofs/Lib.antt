@@ -1,0 +1,9 @@
+pub mod Growing
+pub mod Keeping
+pub mod Bounding
+pub mod Linking
+pub mod Stepwise
+pub mod Rounds
+pub mod Reaching
+pub mod Chains
+pub mod Turning
