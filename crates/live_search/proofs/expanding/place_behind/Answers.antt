@@ -1,8 +1,9 @@
 use Rattle.std.proofs.Common.{◌<◌, sym, subst, ◌∙◌, arith}
+use Rattle.std.proofs.lemmas.Bool.{false≢true}
 use Rattle.path_image.specs.Answers.{IsBlockedIn, IsHomeIn}
 use Rattle.path_image.specs.Reading.{StandsIn, size_at, start_in}
 use Rattle.path_image.specs.Walks.{IsNoCellBehind}
-use Rattle.live_search.proofs.Reaching.{nowhere_apart, nowhere_blocked, nowhere_outside, place_there}
+use Rattle.live_search.proofs.Reaching.{nowhere_apart, nowhere_blocked, nowhere_marked, nowhere_outside, place_there}
 use Rattle.live_search.proofs.expanding.place_behind.Goals as goal
 
 pub returns-in-None : goal.returns-in-None
@@ -22,6 +23,12 @@ returns-then-home-seek c =
     let few = c.requires.sought.few in
     nowhere_apart c.args.live.now c.args.seek c.args.cell c.args.by 4294967295 (omega arith) c.in-Some.to c.in-Some-home.home c.in-Some.ensures.target
     (subst (λ w. IsHomeIn w c.in-Some.to c.in-Some-home.home) c.image-image.ensures.image c.in-Some-home.ensures.home) c.if-home-seek.true
+
+pub returns-then-is_marked : goal.returns-then-is_marked
+returns-then-is_marked c =
+    let few = c.requires.sought.few in
+    nowhere_marked c.args.live.now c.args.seek c.args.cell c.args.by 4294967295 (omega arith) c.in-Some.to c.in-Some.ensures.target
+    (λ clear. false≢true (sym clear ∙ sym c.is_marked.ensures ∙ c.if-is_marked.true))
 
 pub returns-else-is_marked : goal.returns-else-is_marked
 returns-else-is_marked c =
