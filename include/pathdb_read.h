@@ -10,7 +10,7 @@
  *
  * Each call is the one of pathdb.h that has `pathdb_` where this has `pathdb_read_`, with the same arguments, statuses
  * and answers; pathdb.h says what they mean. Both headers may be included in one file. libpathdb or path_bake makes the
- * image on a machine of yours, and the game ships it as a file. Images of form 1 are read (docs/FORMATS.md, "The
+ * image on a machine of yours, and the game ships it as a file. Images of form 1 are read (docs/reference/formats.md, "The
  * image").
  *
  * Byte order. The words are those of the file, each with its lowest byte first, on every processor: load or map the

@@ -1,4 +1,4 @@
-"""A plain model of database files (docs/FORMATS.md), which shares nothing with the program: the file of a map, and the first
+"""A plain model of database files (docs/reference/formats.md), which shares nothing with the program: the file of a map, and the first
 fault of a file. `db.py` judges by it.
 """
 import struct

@@ -3,7 +3,7 @@
 
     tests/edge.py [--long]
 
-The times that docs/FORMATS.md states, who is refused after a stop, words for the operator, and deploy/serve. It takes
+The times that docs/reference/formats.md states, who is refused after a stop, words for the operator, and deploy/serve. It takes
 some 45 seconds, and two minutes more with --long.
 """
 import os, re, resource, select, signal, socket, subprocess, sys, tempfile, threading, time
@@ -15,7 +15,7 @@ from path_server.frames import encoded
 program, row, serve = program_here(), ROW_MAP, f"{TOP}/deploy/serve"
 judge = Judge()
 STATUS, BYE, STOP, DONE = encoded(AskStatus()), encoded(Bye()), encoded(Stop()), b"\0\0\0\1\x8a"
-FRAME_TIME, REPLY_TIME, CLOSING_TIME, ANSWER_TIME = 10, 30, 10, 120  # as docs/FORMATS.md states them, in seconds
+FRAME_TIME, REPLY_TIME, CLOSING_TIME, ANSWER_TIME = 10, 30, 10, 120  # as docs/reference/formats.md states them, in seconds
 LEEWAY = 5  # seconds that a loaded machine may take beyond them
 FILL_TIME = 60  # seconds in which megabytes of replies are made, until the system holds no more of them
 

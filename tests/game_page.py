@@ -1,5 +1,5 @@
 #!/usr/bin/env python3
-"""docs/IN_YOUR_GAME.md: its pieces of C are one program, which is compiled and does what the page says; its commands
+"""docs/guide/games.md: its pieces of C are one program, which is compiled and does what the page says; its commands
 link that program in each way, and its lines of CMake too; and what it links to is there.
 
 What needs a tool that is not here is skipped.
@@ -12,7 +12,7 @@ judge = Judge()
 needs_new_library()
 if not shutil.which("gcc"):
     skip("there is no gcc")
-PAGE = os.path.join(TOP, "docs/IN_YOUR_GAME.md")
+PAGE = os.path.join(TOP, "docs/guide/games.md")
 with open(PAGE, encoding="utf-8") as page:
     BLOCKS = re.findall(r"^```(\w+)\n(.*?)^```$", page.read(), re.S | re.M)
 MAIN = r"""

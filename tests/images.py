@@ -1,4 +1,4 @@
-"""Images of databases, by their format alone (docs/FORMATS.md): the words of an image, and paths read from it.
+"""Images of databases, by their format alone (docs/reference/formats.md): the words of an image, and paths read from it.
 """
 import math
 import struct

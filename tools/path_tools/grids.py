@@ -1,4 +1,4 @@
-"""Maps: their cells, how a file is read, and which moves are legal. docs/FORMATS.md, "Maps", is the rule."""
+"""Maps: their cells, how a file is read, and which moves are legal. docs/reference/formats.md, "Maps", is the rule."""
 
 from __future__ import annotations
 

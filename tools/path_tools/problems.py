@@ -1,4 +1,4 @@
-"""Lists of scenarios: how a file is read, and whether a path is as long as one says. docs/FORMATS.md, "Scenarios"."""
+"""Lists of scenarios: how a file is read, and whether a path is as long as one says. docs/reference/formats.md, "Scenarios"."""
 
 from __future__ import annotations
 

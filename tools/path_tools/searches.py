@@ -1,4 +1,4 @@
-"""An exact search of the tools' own: least costs, first moves, components, and runs a row (docs/DEFINITIONS.md).
+"""An exact search of the tools' own: least costs, first moves, components, and runs a row (docs/reference/definitions.md).
 
 Costs are whole numbers. A path of `a` straight and `b` diagonal moves costs a·STRAIGHT + b·DIAGONAL units, where
 DIAGONAL is √2·STRAIGHT without its fraction. Two costs of at most 32,767 moves that differ, differ by p - q√2 with both

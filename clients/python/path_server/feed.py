@@ -7,7 +7,7 @@
         for edit in feed.ask(known=0):  # a Change, or an Edit of several
             print(edit)
 
-docs/FORMATS.md, "Feeds", is the rule. What is here is enough for a follower of your own, and for a feed of your own.
+docs/reference/formats.md, "Feeds", is the rule. What is here is enough for a follower of your own, and for a feed of your own.
 """
 
 from __future__ import annotations

@@ -1,6 +1,6 @@
 """The frames of a session: what a client may ask, what a server may answer, and how both are spelled in bytes.
 
-docs/FORMATS.md, "Frames", is the rule. In every number the highest byte comes first. A request is a length in 2 bytes
+docs/reference/formats.md, "Frames", is the rule. In every number the highest byte comes first. A request is a length in 2 bytes
 and so many bytes of frame, a reply a length in 4 bytes and so many bytes of frame; a frame's first byte is its kind.
 Each request and each reply has one spelling. Only this module and `feed` pack or unpack bytes.
 """

@@ -564,7 +564,7 @@ class Readme(unittest.TestCase):
 
 
 class Frames(unittest.TestCase):
-    """docs/FORMATS.md, "Frames": its examples, and what it refuses."""
+    """docs/reference/formats.md, "Frames": its examples, and what it refuses."""
 
     def test_requests(self) -> None:
         self.assertEqual(frames.encoded(Query((0, 0), (2, 0))).hex(" "), "00 09 01 00 00 00 00 00 02 00 00")

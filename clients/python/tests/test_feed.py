@@ -1,5 +1,5 @@
 #!/usr/bin/env python3
-"""Feeds: of a leader, of stand-ins that send other bytes, and the bytes of docs/FORMATS.md.
+"""Feeds: of a leader, of stand-ins that send other bytes, and the bytes of docs/reference/formats.md.
 
     PATH_SERVER=FILE clients/python/tests/test_feed.py
 """

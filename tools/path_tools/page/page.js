@@ -1,6 +1,6 @@
 "use strict";
 // The page of ./demo. Paths, costs, versions and edits are the server's answers; components, first moves and runs are
-// computed here from the version's map, by the rules of docs/DEFINITIONS.md.
+// computed here from the version's map, by the rules of docs/reference/definitions.md.
 
 // ---- moves and costs
 
