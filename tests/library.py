@@ -186,8 +186,8 @@ def try_installed():
         listed = file.read().split("\n")[:-1]
     there = [os.path.relpath(os.path.join(at, name), prefix) for at, _, names in os.walk(prefix) for name in names]
     judge("what is installed", sorted(there), sorted(listed))
-    for name in ("lib/libpathdb.so.1", "include/pathdb_read.h", "share/doc/path_server/FORMATS.md",
-                 "share/doc/path_server/examples/path.c", "share/doc/path_server/IN_YOUR_GAME.md"):
+    for name in ("lib/libpathdb.so.1", "include/pathdb_read.h", "share/doc/path_server/formats.md",
+                 "share/doc/path_server/examples/path.c", "share/doc/path_server/games.md"):
         judge(f"{name} is installed", name in listed, True)
     judge("the link's name", os.readlink(f"{prefix}/lib/libpathdb.so"), "libpathdb.so.1")
     if is_here("pkg-config") and is_here("gcc"):
