@@ -465,11 +465,12 @@ def judge_views(folder):
             ["components"],
             ["runs"],
             ["moves", "0", "0"],
+            ["classes", "0", "0"],
             ["path", "0", "0", "0", "0"],
             ["difference", other],
         ):
             status, text, said = tool("draw", words[0], map_name, *words[1:])
-            wanted = 1 if name == "none" and words[0] in ("moves", "path") else 0
+            wanted = 1 if name == "none" and words[0] in ("moves", "classes", "path") else 0
             judge(f"{name}: {words[0]}: {said}", status, wanted)
             if status == 0:
                 ElementTree.fromstring(text)

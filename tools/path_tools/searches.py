@@ -113,6 +113,23 @@ def runs_by_row(grid: Grid, order: str) -> Iterator[Tuple[int, int]]:
             yield source, len(packed(search(grid, source)[1], places))
 
 
+def nearest(grid: Grid, source: int, count: int) -> List[int]:
+    """So many places, or all that a path reaches, by how near they are to a place; of equally near ones the first."""
+    costs = search(grid, source)[0]
+    return sorted(costs, key=lambda place: (costs[place], place))[:count]
+
+
+def classes(grid: Grid, sources: List[int]) -> Dict[int, int]:
+    """Of each place that the sources reach its class, 0 for the largest, 1 for the next: where places have one class,
+    each source's costs differ from the first source's by the same amount, and its sets of first moves are the same."""
+    found = [search(grid, source) for source in sources]
+    told: Dict[Tuple[Tuple[int, int], ...], List[int]] = {}
+    for place, cost in found[0][0].items():
+        told.setdefault(tuple((costs[place] - cost, sets[place]) for costs, sets in found), []).append(place)
+    largest = sorted(told.values(), key=len, reverse=True)
+    return {place: number for number, places in enumerate(largest) for place in places}
+
+
 def kept_and_changed(old: Grid, new: Grid) -> Tuple[List[int], List[int]]:
     """The places that are passable in both maps: those whose sets of first moves to all such places are the same in
     both, and the others."""

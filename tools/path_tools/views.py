@@ -1,5 +1,5 @@
 """The views that `tools/draw` makes: a map, a path on it, components, first moves, runs a row, two versions, what one edit
-leaves as it is."""
+leaves as it is, and which places see near sources alike."""
 
 from __future__ import annotations
 
@@ -29,12 +29,15 @@ from .pictures import (
     Picture,
     heat,
 )
-from .searches import components, kept_and_changed, runs_by_row, stored_moves
+from .searches import classes, components, kept_and_changed, nearest, runs_by_row, stored_moves
 
 Ends = Tuple[Cell, Cell]
 
 BUILD_TIME = 600.0
 """Seconds that the build of a database may take; the largest maps take a minute and more beside other work."""
+
+SOURCES = 16
+"""How many rows are built at once."""
 
 
 class ViewFault(Exception):
@@ -155,6 +158,28 @@ def stays_view(grid: Grid, cell: Cell) -> Picture:
     picture.key([(KEPT, "all first moves stay"), (CHANGED, "some change")])
     done = "freed" if is_blocked else "blocked"
     picture.caption("C is %s: of %d cells %d keep all their first moves" % (done, len(kept) + len(changed), len(kept)))
+    return picture
+
+
+def classes_view(grid: Grid, cell: Cell) -> Picture:
+    """The places that see the sixteen sources nearest to a cell alike: each class in a colour, and pale where a
+    neighbour is of another class.
+
+    ViewFault: the cell lies outside the map or is blocked.
+    """
+    if not grid.is_free(cell):
+        raise ViewFault("the cell, column %d and row %d, is outside or blocked" % cell)
+    sources = nearest(grid, grid.place(cell), SOURCES)
+    found = classes(grid, sources)
+    inside = {place for place in found if all(found[near] == found[place] for _, near in grid.neighbours[place])}
+    inside.difference_update(sources)
+    picture = Picture(grid)
+    picture.cells({place: COMPONENTS[number % len(COMPONENTS)] for place, number in found.items() if place in inside})
+    picture.cells({place: START for place in sources})
+    named = [(COMPONENTS[0], "one class"), (COMPONENTS[1], "another"), (LAND, "where classes meet")]
+    picture.key([(START, "%d sources" % len(sources)), *named])
+    count = max(found.values()) + 1
+    picture.caption("%d classes; of %d cells %d are inside one" % (count, len(found), len(inside)))
     return picture
 
 

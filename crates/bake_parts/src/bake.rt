@@ -121,7 +121,7 @@ impl Bake {
     }
 
     /// Writes the part of the sources at the front of a room, and says how many words it has; those behind it stay as
-    /// they were. It takes 92 bytes for each cell of the component, once, and gives them back.
+    /// they were. It takes 108 bytes for each cell of the component, once, and gives them back.
     ///
     /// # Errors
     ///

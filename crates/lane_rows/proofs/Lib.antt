@@ -3,6 +3,7 @@ pub mod Keys
 pub mod Sets
 pub mod Visiting
 pub mod Sweeping
+pub mod Alike
 pub mod Solving
 pub mod Indexing
 pub mod Nearness

@@ -7,3 +7,4 @@ pub mod Laws
 pub mod Rows
 pub mod Packed
 pub mod Completed
+pub mod Classes

@@ -33,11 +33,13 @@ pub record IsRowOf (tile : Tile) (lane : ℕ) (row : List ℕ) : Type 0 where
   pub others : (place : ℕ) → place < tile.count → place ≢ slice_index tile.sources lane
       → slice_index row place ≡ lane_of tile.sets lane place
 
--- a row for each place and one behind the last, of keys, of sets, of who waits, and of who was met, and each source has one
-pub record HasRoom (count : ℕ) (sources : List ℕ) (keys sets : List (List ℕ)) (waits : List ℕ) (met : List Bool) : Type 0 where
+-- a row for each place and one behind the last, of keys, of sets, of who waits, and of who was met, room for as many classes'
+-- codes, and each source has a row
+pub record HasRoom (count : ℕ) (sources : List ℕ) (keys sets : List (List ℕ)) (waits : List ℕ) (met : List Bool) (draft : ℕ) : Type 0 where
   pub few : count ≤ MAX_PLACES
   pub key_rows : length keys ≡ count + 1
   pub set_rows : length sets ≡ count + 1
   pub wait_rows : length waits ≡ count + 1
   pub met_rows : length met ≡ count + 1
+  pub draft_rows : draft ≡ count
   pub inside : All (λ source. source < length met) sources

@@ -18,7 +18,7 @@ pub(crate) const FULL: u8 = 255;
 
 /// The lesser of two keys, in each lane.
 #[inline(always)]
-fn lesser(a: u32x16, b: u32x16) -> u32x16
+pub(crate) fn lesser(a: u32x16, b: u32x16) -> u32x16
     ensures lanes { length result ≡ 16 }
     ensures least { (lane : ℕ) → lane < 16
         → slice_index result lane ≡ min (slice_index a lane) (slice_index b lane) }
@@ -28,7 +28,7 @@ fn lesser(a: u32x16, b: u32x16) -> u32x16
 
 /// The keys, one step further. They wrap round at 2^32.
 #[inline(always)]
-fn raised(a: u32x16, step: u32) -> u32x16
+pub(crate) fn raised(a: u32x16, step: u32) -> u32x16
     ensures lanes { length result ≡ 16 }
     ensures sum { (lane : ℕ) → lane < 16
         → slice_index result lane ≡ (slice_index a lane + step) % 2 ^ 32 }
@@ -38,7 +38,7 @@ fn raised(a: u32x16, step: u32) -> u32x16
 
 /// The keys, one step back. They wrap round at 0.
 #[inline(always)]
-fn lowered(a: u32x16, step: u32) -> u32x16
+pub(crate) fn lowered(a: u32x16, step: u32) -> u32x16
     ensures lanes { length result ≡ 16 }
     ensures rest { (lane : ℕ) → lane < 16
         → slice_index result lane ≡ (slice_index a lane + (2 ^ 32 - step)) % 2 ^ 32 }
@@ -48,7 +48,7 @@ fn lowered(a: u32x16, step: u32) -> u32x16
 
 /// 255 in each lane where the two are equal, and 0 elsewhere.
 #[inline(always)]
-fn equal_lanes(a: u32x16, b: u32x16) -> u8x16
+pub(crate) fn equal_lanes(a: u32x16, b: u32x16) -> u8x16
     ensures lanes { length result ≡ 16 }
     ensures equal { (lane : ℕ) → lane < 16
         → slice_index result lane ≡ (if slice_index a lane == slice_index b lane then 255 else 0) }
@@ -60,7 +60,7 @@ fn equal_lanes(a: u32x16, b: u32x16) -> u8x16
 
 /// 0 in the lane of which the place is the source, and far elsewhere.
 #[inline(always)]
-fn cap(sources: u32x16, place: u32) -> u32x16
+pub(crate) fn cap(sources: u32x16, place: u32) -> u32x16
     ensures lanes { length result ≡ 16 }
     ensures cap { (lane : ℕ) → lane < 16
         → slice_index result lane ≡ (if slice_index sources lane == place then 0 else far) }
@@ -106,7 +106,7 @@ pub(crate) fn sets_differ(old: u8x16, new: u8x16) -> bool
 
 /// What stands in each lane at a place.
 #[inline(always)]
-fn row(keys: &[u32x16], place: u16) -> u32x16
+pub(crate) fn row(keys: &[u32x16], place: u16) -> u32x16
     requires { place < length keys.now }
     ensures { (lane : ℕ) → slice_index result lane ≡ lane_of keys.now lane place }
 {
@@ -161,7 +161,7 @@ pub(crate) fn key_at(keys: &[u32x16], edges: &[u16; 8], sources: u32x16, place: 
 
 /// The sets in each lane at a place.
 #[inline(always)]
-fn set_row(sets: &[u8x16], place: u16) -> u8x16
+pub(crate) fn set_row(sets: &[u8x16], place: u16) -> u8x16
     requires { place < length sets.now }
     ensures { (lane : ℕ) → slice_index result lane ≡ lane_of sets.now lane place }
 {
@@ -170,7 +170,7 @@ fn set_row(sets: &[u8x16], place: u16) -> u8x16
 
 /// The moves that are in either set, in each lane.
 #[inline(always)]
-fn joined(a: u8x16, b: u8x16) -> u8x16
+pub(crate) fn joined(a: u8x16, b: u8x16) -> u8x16
     ensures { (lane : ℕ) (first : Move) → lane < 16
         → Has (slice_index result lane) first
         ↔ (Has (slice_index a lane) first ⊎ Has (slice_index b lane) first) }
@@ -180,7 +180,7 @@ fn joined(a: u8x16, b: u8x16) -> u8x16
 
 /// The moves that are in both sets, in each lane.
 #[inline(always)]
-fn shared(a: u8x16, b: u8x16) -> u8x16
+pub(crate) fn shared(a: u8x16, b: u8x16) -> u8x16
     ensures { (lane : ℕ) (first : Move) → lane < 16
         → Has (slice_index result lane) first
         ↔ (Has (slice_index a lane) first × Has (slice_index b lane) first) }
@@ -251,7 +251,7 @@ fn first_from(sources: u32x16, place: u16, first: Move) -> u8x16
 }
 
 /// The moves that lead to a place from the sources themselves.
-fn first_moves(edges: &[u16; 8], sources: u32x16) -> u8x16
+pub(crate) fn first_moves(edges: &[u16; 8], sources: u32x16) -> u8x16
     ensures { (lane : ℕ) (first : Move) → lane < 16
         → Has (slice_index result lane) first ↔ IsStart edges.now (slice_index sources lane) first }
 {

@@ -9,7 +9,10 @@
 //! were found ([`laws`]). (Botea 2011; Strasser, Harabor and Botea 2014.)
 #![tactic(auto)]
 
+mod classes;
+mod draft;
 mod edges;
+mod inside;
 mod kernels;
 mod lane_words;
 pub mod laws;
@@ -17,6 +20,7 @@ mod near;
 mod order;
 mod packing;
 mod places;
+mod reference;
 mod solve;
 mod sweeps;
 mod tiles;

@@ -2,16 +2,18 @@
 
 ghost use Rattle.std.specs.Prelude.{◌≡◌, ℕ, ◌+◌, ◌<◌, IsTrue, length, slice_index};
 ghost use Rattle.lane_rows.specs.Tables.{IsMutual};
-ghost use Rattle.lane_rows.specs.Equations.{lane_of, AreInRange};
-ghost use Rattle.lane_rows.specs.Visits.{AreSolved, HasRows, IsSwept, lanes_at};
+ghost use Rattle.lane_rows.specs.Equations.{far, lane_of, AreInRange};
+ghost use Rattle.lane_rows.specs.Visits.{AreSettled, AreSolved, HasRows, IsSwept, lane_in, lanes_at};
 
+use crate::classes::{Classes, Scene, guess};
+use crate::inside::{are_costs, expand, mark_borders, wake};
 use crate::kernels::{FAR, FULL, has_beyond};
 use crate::sweeps::{lower, lower_back, sweep, sweep_back};
 use root_cost::GREATEST_KEY;
 use std::simd::prelude::*;
 
 /// How many of the nearest places at least come before the others. It is more where the sources reach over more.
-const NEAREST: usize = 120;
+pub(crate) const NEAREST: usize = 120;
 
 /// How often their keys are lowered, forth and back, before all others.
 const ROUNDS: u32 = 3;
@@ -74,6 +76,103 @@ pub(crate) fn solve(
     find_sets(near, sources, plan, keys, sets, waits);
     repair(near, sources, plan, keys, sets, waits);
     none_waits(&waits[..near.len()]) && are_all_below(&keys[..near.len()], GREATEST_KEY)
+}
+
+/// Finds the keys and sets by classes of places; `true` only where all places meet their equations.
+pub(crate) fn solve_by_classes(
+    scene: &Scene,
+    classes: &mut Classes,
+    codes: &mut [u32],
+    keys: &mut [u32x16],
+    sets: &mut [u8x16],
+    waits: &mut [u8],
+) -> bool
+    requires near { IsMutual scene.now.near.now }
+    requires rows { HasRows scene.now.near.now (lanes_at keys.old sets.old waits.old) }
+    requires costs { length scene.now.costs.now ≡ length scene.now.near.now + 1 }
+    requires codes { length codes.old ≡ length scene.now.near.now + 1 }
+    requires sources { (lane : ℕ) → lane < 16
+        → slice_index scene.now.sources lane < length scene.now.near.now + 1 }
+    ensures { IsTrue result → (lane : ℕ) → lane < 16
+        → AreSolved scene.now.near.now (slice_index scene.now.sources lane) (lane_of keys.new lane)
+        (lane_of sets.new lane) }
+{
+    keys.fill(u32x16::splat(FAR));
+    sets.fill(u8x16::splat(FULL));
+    waits.fill(1);
+    settle_nearest(scene, keys, sets, waits);
+    guess(scene, classes, codes, keys, sets, waits);
+    if !take_classes(scene, classes, codes, keys, sets, waits) {
+        return false;
+    }
+    let (near, sources) = (scene.near, u32x16::from_array(scene.sources));
+    let plan = Plan {
+        order: scene.sorted,
+        nearest: 0,
+        sweeps: scene.sweeps,
+    };
+    sweep(near, sources, plan.order, keys, sets, waits);
+    repair(near, sources, plan, keys, sets, waits);
+    if !none_waits(&waits[..near.len()]) {
+        return false;
+    }
+    are_all_below(&keys[..near.len()], GREATEST_KEY)
+}
+
+/// Settles the keys and the sets of the nearest places among themselves.
+fn settle_nearest(scene: &Scene, keys: &mut [u32x16], sets: &mut [u8x16], waits: &mut [u8])
+    requires near { IsMutual scene.now.near.now }
+    requires rows { HasRows scene.now.near.now (lanes_at keys.old sets.old waits.old) }
+    requires range { AreInRange keys.old }
+{
+    let (near, nearest) = (scene.near, scene.nearest);
+    let sources = u32x16::from_array(scene.sources);
+    for _ in 0..ROUNDS {
+        lower(near, sources, nearest, keys);
+        lower_back(near, sources, nearest, keys);
+    }
+    settle(near, sources, nearest, keys, sets, waits);
+}
+
+/// Writes the keys and sets that the classes say, and lets all places wait but those inside their classes, which are
+/// settled. `false` where there were too many classes, or the reference's costs or the keys are beyond all that a path has.
+fn take_classes(
+    scene: &Scene,
+    classes: &mut Classes,
+    codes: &[u32],
+    keys: &mut [u32x16],
+    sets: &mut [u8x16],
+    waits: &mut [u8],
+) -> bool
+    requires near { IsMutual scene.now.near.now }
+    requires rows { HasRows scene.now.near.now (lanes_at keys.old sets.old waits.old) }
+    requires costs { length scene.now.costs.now ≡ length scene.now.near.now + 1 }
+    requires codes { length codes.now ≡ length scene.now.near.now + 1 }
+    requires sources { (lane : ℕ) → lane < 16
+        → slice_index scene.now.sources lane < length scene.now.near.now + 1 }
+    ensures range { IsTrue result → AreInRange keys.new }
+    ensures last { (lane : ℕ) → lane < 16
+        → lane_of keys.new lane (length scene.now.near.now) ≡ far }
+    ensures settled { IsTrue result → (lane : ℕ) → lane < 16
+        → AreSettled scene.now.near.now (slice_index scene.now.sources lane)
+        (lane_in (lanes_at keys.new sets.new waits.new) lane) }
+{
+    let is_in_range = expand(
+        scene.costs,
+        codes,
+        classes.offsets(),
+        classes.sets(),
+        keys,
+        sets,
+    );
+    if !is_in_range || classes.is_full() || !are_costs(scene.costs) {
+        classes.judge(scene.near.len(), scene.near.len());
+        return false;
+    }
+    let borders = mark_borders(scene.near, scene.costs, codes, sets, waits);
+    wake(waits, scene.sources);
+    classes.judge(borders, scene.near.len());
+    true
 }
 
 /// Lowers the keys of the nearest places forth and back, and then all keys along the order.

@@ -12,19 +12,26 @@ ghost use Rattle.lane_rows.specs.Packed.{HavePackedRows, words_in};
 ghost use Rattle.lane_rows.specs.Completed.{AreCompleted};
 
 use crate::Near;
-use crate::kernels::FULL;
+use crate::classes::FEWEST_PLACES;
+use crate::draft::{Draft, Task};
+use crate::kernels::{FAR, FULL};
 use crate::lane_words::LaneWords;
 use crate::order::{Levels, search, search_for};
 use crate::packing::pack_lanes;
-use crate::solve::{Plan, solve};
+use crate::reference::least_lane;
+use crate::solve::{NEAREST, Plan, solve};
+use root_cost::STRAIGHT_KEY;
 use std::alloc::{AllocError, Global};
 use std::marker::Model;
 use std::simd::prelude::*;
 
+/// A lane of the tile before is the reference if its source is at most this far from the first source.
+const FARTHEST: u32 = 6 * STRAIGHT_KEY;
+
 /// How many sources a tile has.
 pub const LANES: usize = 16;
 
-/// A worker's memory for one tile after the other: 92 bytes a cell, taken once.
+/// A worker's memory for one tile after the other: 108 bytes a cell, taken once.
 #[derive(Drop)]
 pub struct Tiles {
     sources: [u16; 16],
@@ -37,6 +44,11 @@ pub struct Tiles {
     reach: usize,
     words: LaneWords,
     count: usize,
+    draft: Draft,
+    /// Whether the sources lie as near to one another as `choose` takes them.
+    is_chosen: bool,
+    /// Whether the keys are those of a tile that was solved.
+    is_solved: bool,
 }
 
 impl Model for Tiles {
@@ -48,7 +60,7 @@ impl Model for Tiles {
         record { count = t.count; sources = t.sources; keys = t.keys.items; sets = t.sets.items; words = t.words } };
 
     ghost invariant = { λ t.
-        HasRoom t.count t.sources t.keys.items t.sets.items t.waits.items t.met.items };
+        HasRoom t.count t.sources t.keys.items t.sets.items t.waits.items t.met.items t.draft };
 }
 
 impl Tiles {
@@ -72,6 +84,9 @@ impl Tiles {
             reach: 0,
             words: LaneWords::new(alloc)?,
             count,
+            draft: Draft::new(alloc, count)?,
+            is_chosen: false,
+            is_solved: false,
         })
     }
 
@@ -99,6 +114,7 @@ impl Tiles {
         let (sources, count) = take_nearest(first, &self.order, wanted);
         self.reach = reach_of(&self.order, sources[count - 1]);
         self.sources = sources;
+        self.is_chosen = true;
         count
     }
 
@@ -110,6 +126,7 @@ impl Tiles {
     {
         self.reach = 0;
         self.sources = sources;
+        self.is_chosen = false;
     }
 
     /// The source of a lane.
@@ -123,6 +140,68 @@ impl Tiles {
     /// Finds keys and sets for the chosen sources; `true` only where all places meet their equations. Where they do not
     /// after so many sweeps back and forth, the rows have to be found in another way.
     pub fn run(&mut self, near: &Near, sweeps: u32) -> bool
+        requires near { length near.now ≡ self.old.count }
+        ensures count { self.new.count ≡ self.old.count }
+        ensures sources { self.new.sources ≡ self.old.sources }
+        ensures solved { IsTrue result → IsSolved near.now self.new }
+    {
+        let is_solved = self.run_by_classes(near, sweeps) || self.run_without(near, sweeps);
+        self.is_solved = is_solved;
+        is_solved
+    }
+
+    /// `run`, by classes of places. `false` where the tile has to be solved without them.
+    fn run_by_classes(&mut self, near: &Near, sweeps: u32) -> bool
+        requires near { length near.now ≡ self.old.count }
+        ensures count { self.new.count ≡ self.old.count }
+        ensures sources { self.new.sources ≡ self.old.sources }
+        ensures solved { IsTrue result → IsSolved near.now self.new }
+    {
+        if !self.is_chosen || self.count < FEWEST_PLACES || !self.draft.is_wanted() {
+            return false;
+        }
+        self.refer(near);
+        let nearest = self
+            .order
+            .len()
+            .min(NEAREST.max(self.reach.wrapping_add(1)));
+        let task = Task {
+            near: near.table(),
+            sources: words_of(self.sources),
+            nearest: &self.order.as_slice()[..nearest],
+            sweeps,
+        };
+        self.draft.solve(
+            &task,
+            self.keys.as_mut_slice(),
+            self.sets.as_mut_slice(),
+            self.waits.as_mut_slice(),
+        )
+    }
+
+    /// Finds the costs of the reference, and the order of places by them: the keys of that lane of the tile before whose
+    /// source lies nearest, or a search where none is near.
+    fn refer(&mut self, near: &Near)
+        requires near { length near.now ≡ self.old.count }
+        ensures count { self.new.count ≡ self.old.count }
+        ensures sources { self.new.sources ≡ self.old.sources }
+    {
+        let first = self.sources[0];
+        let (lane, key) = least_lane(&self.keys, first);
+        if self.is_solved && key <= FARTHEST {
+            self.draft.copy(&self.keys, lane);
+        } else {
+            self.draft.search(
+                near.table(),
+                first,
+                self.met.as_mut_slice(),
+                &mut self.levels,
+            );
+        }
+    }
+
+    /// `run`, without classes.
+    fn run_without(&mut self, near: &Near, sweeps: u32) -> bool
         requires near { length near.now ≡ self.old.count }
         ensures count { self.new.count ≡ self.old.count }
         ensures sources { self.new.sources ≡ self.old.sources }
@@ -226,11 +305,18 @@ impl Tiles {
 fn lanes_of(sources: [u16; 16]) -> u32x16
     ensures { (lane : ℕ) → lane < 16 → slice_index result lane ≡ slice_index sources lane }
 {
+    u32x16::from_array(words_of(sources))
+}
+
+/// The sources as words.
+fn words_of(sources: [u16; 16]) -> [u32; 16]
+    ensures { (lane : ℕ) → lane < 16 → slice_index result lane ≡ slice_index sources lane }
+{
     let mut lanes = [0; 16];
     for lane in 0..LANES {
         lanes[lane] = u32::from(sources[lane]);
     }
-    u32x16::from_array(lanes)
+    lanes
 }
 
 /// How many places of an order come before the last source that was taken.

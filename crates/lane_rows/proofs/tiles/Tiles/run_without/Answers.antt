@@ -1,7 +1,7 @@
 use Rattle.std.proofs.Common.{arith}
 use Rattle.std.proofs.lemmas.List.{with_items_is}
 use Rattle.lane_rows.proofs.Solving.{tile_solved}
-use Rattle.lane_rows.proofs.tiles.Tiles.run.Goals as goal
+use Rattle.lane_rows.proofs.tiles.Tiles.run_without.Goals as goal
 
 pub returns-clause-solved : goal.returns-clause-solved
 returns-clause-solved c = λ all.

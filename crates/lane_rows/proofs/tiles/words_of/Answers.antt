@@ -1,6 +1,6 @@
 use Rattle.std.proofs.Common.{◌<◌, length, ◌∙◌, arith, get_or-set_other, get_or-set_same, below_more}
 use Rattle.std.proofs.Math.ListN.{length-set}
-use Rattle.lane_rows.proofs.tiles.lanes_of.Goals as goal
+use Rattle.lane_rows.proofs.tiles.words_of.Goals as goal
 
 pub loop-lane-preserved : goal.loop-lane-preserved
 loop-lane-preserved c =
