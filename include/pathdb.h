@@ -104,7 +104,13 @@ typedef enum pathdb_status {
 
     /* of a bake in parts */
     PATHDB_NO_SOURCES = 27,    /* the map has no such sources */
-    PATHDB_BROKEN_PART = 28    /* a part is not the next one, or ends too early: `found` parts have begun there */
+    PATHDB_BROKEN_PART = 28,   /* a part is not the next one, or ends too early: `found` parts have begun there */
+
+    /* of a query on a live map; 29 to 40 are left for later calls */
+    PATHDB_STALE = 41,         /* the path that the image tells is not free now; another may be */
+    PATHDB_MORE = 42,          /* the search has taken as many cells as it may, and waits in its scratch */
+    PATHDB_WRONG_BITS = 43,    /* there is not a bit for each cell of the map, or there are more words */
+    PATHDB_FEW_WORDS = 44      /* the search wants a scratch of more words */
 } pathdb_status;
 
 /* A cell: its column and its row, from 0. */
@@ -146,6 +152,12 @@ pathdb_status pathdb_check(const uint32_t *words, size_t count, uint32_t *part);
 /* What an image says of its map. The words passed the check. */
 void pathdb_read_facts(const uint32_t *words, size_t count, pathdb_facts *facts);
 
+/* In which component a cell lies. A path leads from one passable cell to another exactly where both lie in the same
+ * one. The words passed the check.
+ *   PATHDB_DONE: the cell is passable, and *component is its number, from 0.
+ *   PATHDB_OUTSIDE_START, PATHDB_BLOCKED_START: *component is as it was. */
+pathdb_status pathdb_component(const uint32_t *words, size_t count, pathdb_cell cell, uint32_t *component);
+
 /* Where the path from a cell to a goal goes on: the number of the move, which begins a shortest path. A unit that
  * asks again from each cell it comes to walks the path that pathdb_path tells. The words passed the check.
  *   PATHDB_DONE: *move is written.
@@ -158,6 +170,16 @@ pathdb_status pathdb_next_move(const uint32_t *words, size_t count, pathdb_cell 
 pathdb_status pathdb_path_cost(const uint32_t *words, size_t count, pathdb_cell start, pathdb_cell goal,
                                pathdb_cost *cost);
 
+/* Both numbers of a cost where there is none. */
+#define PATHDB_NO_COST UINT32_MAX
+
+/* What shortest paths from a cell to each of many goals cost. The words passed the check. Answers how many costs it has
+ * written: as many as there are goals, or fewer where the room has places for fewer. costs[k] is that of goals[k]; both
+ * of its numbers are PATHDB_NO_COST where no path exists, or where an end lies outside the map or is blocked. From the
+ * goal to the start a path costs the same. */
+size_t pathdb_costs(const uint32_t *words, size_t count, pathdb_cell start, const pathdb_cell *goals,
+                    size_t goal_count, pathdb_cost *costs, size_t room);
+
 /* The moves of a shortest path, a byte a move, into a room of so many bytes. The words passed the check.
  *   PATHDB_DONE: *length moves stand in the room, at most `room`. From a cell to itself there are none.
  *   PATHDB_TOO_SMALL: the room has the first moves of the path, and *length is how many there are.
@@ -165,6 +187,103 @@ pathdb_status pathdb_path_cost(const uint32_t *words, size_t count, pathdb_cell 
  *   PATHDB_BROKEN: the room may have anything, and *length is 0. */
 pathdb_status pathdb_path(const uint32_t *words, size_t count, pathdb_cell start, pathdb_cell goal, uint8_t *moves,
                           size_t room, uint32_t *length);
+
+/* ---- live maps ---- */
+
+/* Doors that close while the image stays as it is. Bake the map with every door open and every wall that may fall
+ * already down. From then on cells are only blocked, by a bit of yours for each, and freed again:
+ *
+ *   uint32_t blocked[PATHDB_BIT_WORDS(WIDTH, HEIGHT)] = {0};
+ *   pathdb_blocked_set(blocked, WIDTH, door, true);                                    the door closes
+ *   ended = pathdb_path_live(words, count, blocked, n, from, to, moves, sizeof moves, &length);
+ *   if (ended == PATHDB_STALE) {                                                       the told path is not free
+ *       pathdb_search search = {from, to, UINT32_MAX};
+ *       ended = pathdb_search_live(words, count, blocked, n, search, scratch, size, moves, sizeof moves, &length);
+ *   }
+ *
+ * The live map has the cells of the baked map whose bits are not set. Each of its paths is a path of the baked map too,
+ * so a path that the image tells is a shortest one now wherever it is free, and look-ups alone are enough. Where it is
+ * not, a search finds a shortest path; the costs in the image lead it round what is closed. A cell that the image has
+ * as blocked stays so, whatever its bit: to free one, bake anew.
+ *
+ * The calls keep nothing. Bits, scratch and rooms are yours. Any number of threads may read the same bits, each with a
+ * scratch of its own, while nobody writes them: change bits between two ticks, say. */
+
+/* How many words have a bit for each cell of a map with these sides. The bit of a cell is bit place % 32 of word
+ * place / 32, where place is y * width + x. */
+#define PATHDB_BIT_WORDS(width, height) (((size_t)(width) * (height) + 31) / 32)
+
+/* Blocks a cell inside the map, or frees it. Nothing is tested. */
+static inline void pathdb_blocked_set(uint32_t *blocked, uint32_t width, pathdb_cell cell, bool is_blocked)
+{
+    const uint32_t place = cell.y * width + cell.x, bit = (uint32_t)1 << place % 32;
+    blocked[place / 32] = is_blocked ? blocked[place / 32] | bit : blocked[place / 32] & ~bit;
+}
+
+/* Whether the bit of a cell inside the map is set. */
+static inline bool pathdb_blocked_at(const uint32_t *blocked, uint32_t width, pathdb_cell cell)
+{
+    const uint32_t place = cell.y * width + cell.x;
+    return (blocked[place / 32] >> place % 32 & 1) != 0;
+}
+
+/* Where the path that the image tells goes on, and whether that one move is free now. `bits` is how many words of bits
+ * there are. The words passed the check.
+ *   PATHDB_DONE: *move is written, and may be made now.
+ *   PATHDB_STALE: *move is written, and may not be made now: where it leads is blocked, or beside it.
+ *   PATHDB_UNREACHABLE: no path exists, also where every cell is free.
+ *   PATHDB_ARRIVED, PATHDB_OUTSIDE_START .. PATHDB_BLOCKED_GOAL, PATHDB_WRONG_BITS, PATHDB_BROKEN: *move is as it was.
+ * A unit that makes moves as they are told may come to a closed door that pathdb_path_live had seen from afar. To get
+ * round it, it follows a path of pathdb_search_live to the end, or until a bit changes: told moves lead back there. */
+pathdb_status pathdb_next_move_live(const uint32_t *words, size_t count, const uint32_t *blocked, size_t bits,
+                                    pathdb_cell at, pathdb_cell goal, uint8_t *move);
+
+/* The moves of the path that the image tells, as far as they are free now. The words passed the check.
+ *   PATHDB_DONE: all are free: *length moves stand in the room, and no path of the live map is shorter.
+ *   PATHDB_STALE: the first *length moves are free and the next is not. They stand in the room as far as it reaches.
+ *   PATHDB_TOO_SMALL: all are free, the room has the first of them, and *length is how many there are.
+ *   PATHDB_UNREACHABLE: no path exists, also where every cell is free. The room is as it was, and *length is 0.
+ *   PATHDB_OUTSIDE_START .. PATHDB_BLOCKED_GOAL: by the live map. The room is as it was, and *length is 0.
+ *   PATHDB_WRONG_BITS: `bits` is not PATHDB_BIT_WORDS of the map. The room is as it was, and *length is 0.
+ *   PATHDB_BROKEN: the room may have anything, and *length is 0. */
+pathdb_status pathdb_path_live(const uint32_t *words, size_t count, const uint32_t *blocked, size_t bits,
+                               pathdb_cell start, pathdb_cell goal, uint8_t *moves, size_t room, uint32_t *length);
+
+/* What a search is for, and how far one call goes with it. */
+typedef struct pathdb_search {
+    pathdb_cell start;
+    pathdb_cell goal;
+    uint32_t limit; /* how many cells a call takes at most; UINT32_MAX for a search in one call */
+} pathdb_search;
+
+/* How many words of scratch are enough for each search on a map with so many passable cells (pathdb_facts.cells). */
+uint64_t pathdb_search_words(uint32_t cells);
+
+/* The moves of a shortest path of the live map, by a search. The words passed the check. The scratch may hold anything,
+ * is used again without being cleared, and overlaps nothing else; with pathdb_search_words it is of the right size for
+ * each two cells.
+ *   PATHDB_DONE: *length moves stand in the room, and no path of the live map is shorter.
+ *   PATHDB_UNREACHABLE: no path of the live map. The room is as it was, and *length is 0.
+ *   PATHDB_MORE: the limit was reached. The scratch has the search, for pathdb_search_on; *length is 0.
+ *   PATHDB_TOO_SMALL: there is a shortest path, which has *length moves. Begin anew with a room for them; one of
+ *     PATHDB_LONGEST is always enough.
+ *   PATHDB_FEW_WORDS: the scratch has fewer words than 8 for each cell that can be reached, and one. *length is 0.
+ *   PATHDB_OUTSIDE_START .. PATHDB_BLOCKED_GOAL, PATHDB_WRONG_BITS: as pathdb_path_live.
+ *   PATHDB_BROKEN: the room may have anything, and *length is 0.
+ * Over words that are no image of a map a search may take very long. Where players can change your images, set a limit
+ * and give up after some calls. */
+pathdb_status pathdb_search_live(const uint32_t *words, size_t count, const uint32_t *blocked, size_t bits,
+                                 pathdb_search search, uint32_t *scratch, size_t size, uint8_t *moves, size_t room,
+                                 uint32_t *length);
+
+/* Goes on with a search that ended with PATHDB_MORE: for the same two cells, in the scratch as it was left, with the
+ * bits as they were then. Where a bit has changed, begin anew. The limit may be another. It ends as pathdb_search_live,
+ * and with a path of the same length however the search was cut. */
+pathdb_status pathdb_search_on(const uint32_t *words, size_t count, const uint32_t *blocked, size_t bits,
+                               pathdb_search search, uint32_t *scratch, size_t size, uint8_t *moves, size_t room,
+                               uint32_t *length);
+
+/* ---- statuses in words ---- */
 
 /* What a status means, in English and ASCII: writes the text and a byte 0 at its end into a room of so many bytes, as
  * far as it reaches, and answers how long the text is without that byte, fewer than PATHDB_TEXT_ROOM. A number that
@@ -229,9 +348,9 @@ pathdb_status pathdb_bake_cells(uint32_t width, uint32_t height, const uint8_t *
  * all of a small component. For pathdb_join lay the words of all parts one behind the other, by component and then by
  * first source.
  *
- * Memory. A part takes 92 bytes for each cell of its
- * component, and each call some 20 for each passable cell and 12 for each cell of the map; all is given back. A
- * part has at most 3 + count * (1 + cells of its component) words, and mostly far fewer.
+ * Memory. A part takes 108 bytes for each cell of its component, and each call some 20 for each passable cell and 12
+ * for each cell of the map; all is given back. A part has at most 3 + count * (1 + cells of its component) words, and
+ * mostly far fewer.
  *
  * The maps, the orders and the refusals are those of pathdb_bake_cells; what is refused of cells and order is told by
  * the same statuses and numbers. With a status for which nothing else is said, what the room has is of no use. */

@@ -74,7 +74,11 @@ enum class PATHDB_NODISCARD status : std::uint32_t {
     wrong_count = PATHDB_WRONG_COUNT,
     no_memory = PATHDB_NO_MEMORY,
     no_sources = PATHDB_NO_SOURCES,
-    broken_part = PATHDB_BROKEN_PART
+    broken_part = PATHDB_BROKEN_PART,
+    stale = PATHDB_STALE,
+    more = PATHDB_MORE,
+    wrong_bits = PATHDB_WRONG_BITS,
+    few_words = PATHDB_FEW_WORDS
 };
 
 // what a status means
@@ -111,6 +115,20 @@ public:
         return told;
     }
 
+    // the component of a cell; two passable cells are joined exactly where theirs is the same
+    status component(cell of, std::uint32_t &number) const noexcept
+    {
+        if (count_ == 0) return status::no_image;
+        return static_cast<status>(pathdb_component(words_, count_, of, &number));
+    }
+
+    // whether the image has the cell as passable
+    bool is_passable(cell of) const noexcept
+    {
+        std::uint32_t number;
+        return component(of, number) == status::done;
+    }
+
     status next(cell at, cell goal, std::uint8_t &move) const noexcept
     {
         if (count_ == 0) return status::no_image;
@@ -121,6 +139,15 @@ public:
     {
         if (count_ == 0) return status::no_image;
         return static_cast<status>(pathdb_path_cost(words_, count_, start, goal, &told));
+    }
+
+    // what the paths from a cell to each of these goals cost; both numbers are PATHDB_NO_COST where there is none
+    std::vector<pathdb::cost> costs(cell start, const std::vector<cell> &goals) const
+    {
+        const pathdb::cost none = {PATHDB_NO_COST, PATHDB_NO_COST};
+        std::vector<pathdb::cost> told(goals.size(), none);
+        if (count_ > 0) pathdb_costs(words_, count_, start, goals.data(), goals.size(), told.data(), told.size());
+        return told;
     }
 
     // the moves of the path in a room of the caller's, as pathdb_path
@@ -157,7 +184,7 @@ public:
     std::size_t size() const noexcept { return count_; }
 
 private:
-    // what a call writes into all the room that a vector has, and again with as many places as it wants
+    // what a call writes into all the room that a vector has, and again with as many places as it needs
     template <typename Item, typename Call>
     status fill(std::vector<Item> &items, std::size_t least, Call call) const
     {
@@ -173,6 +200,91 @@ private:
 
     const std::uint32_t *words_;
     std::size_t count_;
+};
+
+// A live map: a view of an image, whose words stay as they are while it is used, and a bit for each cell that says
+// whether it is blocked now. Any number of threads may ask it while none blocks or frees a cell.
+class live {
+public:
+    // every cell is free that the image has as passable
+    explicit live(pathdb::view map) : map_(map), width_(map.facts().width)
+    {
+        bits_.resize(PATHDB_BIT_WORDS(width_, map.facts().height));
+    }
+
+    // blocks a cell inside the map, or frees it
+    void set(cell at, bool is_blocked) noexcept { pathdb_blocked_set(bits_.data(), width_, at, is_blocked); }
+
+    // whether the cell is blocked by its bit; one that the image has as blocked stays so either way
+    bool is_set(cell at) const noexcept { return pathdb_blocked_at(bits_.data(), width_, at); }
+
+    // where the told path goes on; `stale` where that move is not free
+    status next(cell at, cell goal, std::uint8_t &move) const noexcept
+    {
+        if (!map_) return status::no_image;
+        return static_cast<status>(
+            pathdb_next_move_live(map_.data(), map_.size(), bits_.data(), bits_.size(), at, goal, &move));
+    }
+
+    // the told path by look-ups alone, as pathdb_path_live
+    status path(cell start, cell goal, std::uint8_t *moves, std::size_t room, std::uint32_t &length) const noexcept
+    {
+        length = 0;
+        if (!map_) return status::no_image;
+        return static_cast<status>(pathdb_path_live(map_.data(), map_.size(), bits_.data(), bits_.size(), start, goal,
+                                                    moves, room, &length));
+    }
+
+    // how many words of scratch each search has enough of
+    std::size_t search_words() const noexcept
+    {
+        return static_cast<std::size_t>(pathdb_search_words(map_.facts().cells));
+    }
+
+    // a shortest path by a search, as pathdb_search_live
+    status search(const pathdb_search &of, std::vector<std::uint32_t> &scratch, std::uint8_t *moves, std::size_t room,
+                  std::uint32_t &length) const noexcept
+    {
+        length = 0;
+        if (!map_) return status::no_image;
+        return static_cast<status>(pathdb_search_live(map_.data(), map_.size(), bits_.data(), bits_.size(), of,
+                                                      scratch.data(), scratch.size(), moves, room, &length));
+    }
+
+    // goes on with a search that told `more`, as pathdb_search_on
+    status go_on(const pathdb_search &of, std::vector<std::uint32_t> &scratch, std::uint8_t *moves, std::size_t room,
+                 std::uint32_t &length) const noexcept
+    {
+        length = 0;
+        if (!map_) return status::no_image;
+        return static_cast<status>(pathdb_search_on(map_.data(), map_.size(), bits_.data(), bits_.size(), of,
+                                                    scratch.data(), scratch.size(), moves, room, &length));
+    }
+
+    // A shortest path now: told where that is free, and searched where it is not. Both vectors grow where they have to;
+    // `moves` is empty where there is no path.
+    status find(cell start, cell goal, std::vector<std::uint32_t> &scratch, std::vector<std::uint8_t> &moves) const
+    {
+        moves.resize(PATHDB_LONGEST);
+        std::uint32_t length = 0;
+        status ended = path(start, goal, moves.data(), moves.size(), length);
+        if (ended == status::stale) {
+            if (scratch.size() < search_words()) scratch.resize(search_words());
+            const pathdb_search whole = {start, goal, UINT32_MAX};
+            ended = search(whole, scratch, moves.data(), moves.size(), length);
+            while (ended == status::more) ended = go_on(whole, scratch, moves.data(), moves.size(), length);
+        }
+        moves.resize(ended == status::done ? length : 0);
+        return ended;
+    }
+
+    // the bits, for the calls of pathdb.h
+    const std::vector<std::uint32_t> &bits() const noexcept { return bits_; }
+
+private:
+    pathdb::view map_;
+    std::uint32_t width_;
+    std::vector<std::uint32_t> bits_;
 };
 
 // The words of an image. It moves and is never copied.
@@ -299,7 +411,7 @@ private:
         return parts;
     }
 
-    // the words that a call writes, with as many as it wants where there are too few
+    // the words that a call writes, with as many as it needs if there were too few
     template <typename Bake> static status fill(std::vector<std::uint32_t> &words, const baked &told, Bake call)
     {
         for (;;) {

@@ -68,6 +68,18 @@ int main(void)
     if (pathdb_join(SIDE, SIDE, cells, sizeof cells, PATHDB_DFS, parts, all, joined, 1 << 20, &baked) != PATHDB_DONE ||
         baked.words != count || memcmp(joined, words, 4 * count) != 0)
         fail("another image in parts");
+    static uint32_t blocked[PATHDB_BIT_WORDS(SIDE, SIDE)], scratch[10 * SIDE * SIDE + 2];
+    static uint8_t now[PATHDB_LONGEST];
+    const size_t bits = sizeof blocked / 4, size = sizeof scratch / 4;
+    const pathdb_cell door = {0, 20}, above = {0, 19}, below = {0, 21}; /* the one gap of row 20 */
+    uint32_t length = 9;
+    for (int closed = 0; closed < 3; closed++) {
+        const pathdb_status wanted[3] = {PATHDB_DONE, PATHDB_UNREACHABLE, PATHDB_DONE};
+        pathdb_blocked_set(blocked, SIDE, door, closed == 1);
+        if (find_now(words, count, blocked, bits, above, below, scratch, size, now, sizeof now, &length) !=
+                wanted[closed] || length != (closed == 1 ? 0 : 2))
+            fail("another way through the door");
+    }
     at.x = at.y = 2;
     print_way(words, count, at, (pathdb_cell){5, 4});
     free(words);
@@ -127,7 +139,7 @@ def try_links():
     with open(PAGE, encoding="utf-8") as page:
         for name in re.findall(r"\]\(([^)#]+)\)", page.read()):
             if not name.startswith("http"):
-                judge(f"{name} is there", os.path.exists(os.path.join(TOP, "docs", name)), True)
+                judge(f"{name} is there", os.path.exists(os.path.join(os.path.dirname(PAGE), name)), True)
 
 
 with tempfile.TemporaryDirectory() as scratch:

@@ -82,6 +82,33 @@ void try_bakes()
     judge("moved", moved && pathdb::text(pathdb::status::unreachable) == "unreachable");
 }
 
+void try_live()
+{
+    const std::vector<std::uint8_t> ring = {1, 1, 1, 1, 0, 1, 1, 1, 1};
+    std::vector<std::uint32_t> scratch;
+    std::vector<std::uint8_t> moves;
+    std::uint8_t move = 9;
+    pathdb::baked told;
+    pathdb::image image;
+    judge("a live map of nothing", pathdb::live(pathdb::view()).next({0, 0}, {1, 0}, move) == pathdb::status::no_image);
+    judge("a ring", image.bake(3, 3, ring, pathdb::order::rows, told) == pathdb::status::done);
+    pathdb::live live(image.view());
+    judge("a free path", live.find({0, 0}, {2, 0}, scratch, moves) == pathdb::status::done && moves.size() == 2);
+    judge("without a search", scratch.empty());
+    live.set({1, 0}, true);
+    judge("a closed door", live.is_set({1, 0}) && live.next({0, 0}, {2, 0}, move) == pathdb::status::stale && move == 2);
+    judge("the way round", live.find({0, 0}, {2, 0}, scratch, moves) == pathdb::status::done && moves.size() == 6);
+    live.set({1, 2}, true);
+    judge("both closed", live.find({0, 0}, {2, 0}, scratch, moves) == pathdb::status::unreachable && moves.empty());
+    live.set({1, 0}, false);
+    judge("open again", live.find({0, 0}, {2, 0}, scratch, moves) == pathdb::status::done && moves.size() == 2);
+    judge("what is closed", live.find({1, 2}, {2, 0}, scratch, moves) == pathdb::status::blocked_start);
+    const std::vector<pathdb::cost> costs = image.view().costs({0, 0}, {{2, 0}, {1, 1}, {2, 2}});
+    judge("costs", costs.size() == 3 && costs[0].straight == 2 && costs[1].straight == PATHDB_NO_COST &&
+                       costs[2].straight == 4 && costs[2].diagonal == 0);
+    judge("cells", image.view().is_passable({2, 2}) && !image.view().is_passable({1, 1}));
+}
+
 } // namespace
 
 static_assert(!std::is_convertible<pathdb::image, bool>::value, "an image is no number");
@@ -91,5 +118,6 @@ int main()
 {
     try_empty();
     try_bakes();
+    try_live();
     return failed;
 }

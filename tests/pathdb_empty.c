@@ -19,7 +19,9 @@ int main(void)
     static const uint8_t blocked[2] = {0, 0};
     static uint32_t words[64];
     const pathdb_sources first = {0, 0, 1};
+    static const uint32_t bits[1] = {0};
     const pathdb_cell here = {0, 0}, there = {2, 0};
+    const pathdb_search search = {here, there, 9};
     pathdb_baked baked;
     uint32_t part = 7, length = 7;
     judge("a check", pathdb_check(NULL, 0, &part), PATHDB_NO_IMAGE);
@@ -35,5 +37,10 @@ int main(void)
     if (length != 2) failed = 1;
     judge("no moves from here to here", pathdb_path(words, baked.words, here, here, NULL, 0, &length), PATHDB_DONE);
     if (length != 0 || pathdb_status_text(0, NULL, 0) != 4) failed = 1;
+    if (pathdb_costs(words, baked.words, here, NULL, 0, NULL, 0) != 0) failed = 1;
+    judge("no bits", pathdb_path_live(words, baked.words, NULL, 0, here, there, NULL, 0, &length), PATHDB_WRONG_BITS);
+    judge("no room", pathdb_path_live(words, baked.words, bits, 1, here, there, NULL, 0, &length), PATHDB_TOO_SMALL);
+    judge("no scratch", pathdb_search_live(words, baked.words, bits, 1, search, NULL, 0, NULL, 0, &length),
+          PATHDB_FEW_WORDS);
     return failed;
 }

@@ -8,7 +8,23 @@
         print(path.cost.length, path.corners())
 """
 
-from .image import NO_MOVE, BadCell, BadMap, Cell, Cost, Facts, Image, Move, NotAnImage, Order, Path, PathdbError
+from .image import (
+    NO_MOVE,
+    BadCell,
+    BadMap,
+    Cell,
+    Cost,
+    Facts,
+    Image,
+    LiveMap,
+    Move,
+    NextMove,
+    NotAnImage,
+    Order,
+    Path,
+    PathdbError,
+    Told,
+)
 
 __all__ = [
     "NO_MOVE",
@@ -18,9 +34,12 @@ __all__ = [
     "Cost",
     "Facts",
     "Image",
+    "LiveMap",
     "Move",
+    "NextMove",
     "NotAnImage",
     "Order",
     "Path",
     "PathdbError",
+    "Told",
 ]

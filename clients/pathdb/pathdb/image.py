@@ -136,6 +136,23 @@ class Path:
         return [cells[0], *turns, *cells[len(cells) - 1 : 0 : -len(cells)]]
 
 
+class Told(NamedTuple):
+    """What the image tells of a path while cells are blocked."""
+
+    path: Path
+    """The path, up to the first move that is not free."""
+    is_free: bool
+    """Whether that is the whole path: then no path is shorter now."""
+
+
+class NextMove(NamedTuple):
+    """The next move that the image tells while cells are blocked."""
+
+    move: Move
+    is_free: bool
+    """Whether it may be made now."""
+
+
 class _Room(threading.local):
     """Where a thread's calls write their answers, used again by the next call."""
 
@@ -143,6 +160,17 @@ class _Room(threading.local):
         self.moves = (c_uint8 * lib.LONGEST)()
         self.move, self.length = c_uint8(), c_uint32()
         self.cost = lib.CostOfC()
+        self.scratch: lib.Words = (c_uint32 * 0)()
+
+    def path(self, start: Cell) -> Path:
+        """The path whose moves a call has written."""
+        return Path(start, ctypes.string_at(self.moves, self.length.value))
+
+    def scratch_of(self, words: int) -> lib.Words:
+        """A scratch of at least so many words."""
+        if len(self.scratch) < words:
+            self.scratch = (c_uint32 * words)()
+        return self.scratch
 
 
 _room = _Room()
@@ -216,7 +244,7 @@ class Image:
         room, ends = _room, (self._cell("start", start), self._cell("goal", goal))
         status = lib.CALLS.pathdb_path(self._words, self._count, *ends, room.moves, lib.LONGEST, byref(room.length))
         if status == lib.DONE:
-            return Path(start, ctypes.string_at(room.moves, room.length.value))
+            return room.path(start)
         self._judged(status, start, goal)
         return None
 
@@ -268,24 +296,28 @@ class Image:
         array of numpy with a row for each row of the map; without numpy, an `array` of floats."""
         to = self._cell("goal", goal)
         self._judged(lib.CALLS.pathdb_path_cost(self._words, self._count, to, to, byref(_room.cost)), goal, goal)
-        cells = (lib.CellOfC(x, y) for y in range(self.facts.height) for x in range(self.facts.width))
-        lengths = array("d", (self._length(at, to) for at in cells))
-        return _shaped("d", lengths.tobytes(), (self.facts.height, self.facts.width))
+        height, width = self.facts.height, self.facts.width
+        return self._lengths([to], [lib.CellOfC(x, y) for y in range(height) for x in range(width)], (height, width))
 
     def costs_between(self, starts: Iterable[Cell], goals: Iterable[Cell]) -> Numbers:
         """The lengths of the shortest paths from each start to each goal, a row a start; infinite where no path exists or an
         end is blocked. An array of numpy; without numpy, an `array` of floats. Raises `BadCell` for an end outside."""
         froms = [self._inside("start", cell) for cell in starts]
         tos = [self._inside("goal", cell) for cell in goals]
-        lengths = array("d", (self._length(start, goal) for start in froms for goal in tos))
-        return _shaped("d", lengths.tobytes(), (len(froms), len(tos)))
+        return self._lengths(froms, tos, (len(froms), len(tos)))
 
-    def _length(self, start: lib.CellOfC, goal: lib.CellOfC) -> float:
-        """The length of a shortest path; infinite where there is none."""
-        cost = _room.cost
-        if lib.CALLS.pathdb_path_cost(self._words, self._count, start, goal, byref(cost)) != lib.DONE:
-            return float("inf")
-        return float(cost.straight + cost.diagonal * ROOT)
+    def live(self, blocked: Iterable[Cell] = ()) -> LiveMap:
+        """The map while these cells are blocked. Raises `BadCell` for a cell outside."""
+        return LiveMap(self, blocked)
+
+    def _lengths(self, starts: List[lib.CellOfC], goals: List[lib.CellOfC], shape: Tuple[int, int]) -> Numbers:
+        """The lengths of the shortest paths from each start to each goal, by one call a start."""
+        to, count = (lib.CellOfC * len(goals))(*goals), len(goals)
+        costs = (lib.CostOfC * (len(starts) * count))()
+        for number, start in enumerate(starts):
+            row = ctypes.cast(byref(costs, number * count * ctypes.sizeof(lib.CostOfC)), ctypes.POINTER(lib.CostOfC))
+            _costs(self._words, self._count, start, to, count, row, count)
+        return _summed(costs, shape)
 
     def _inside(self, name: str, cell: Cell) -> lib.CellOfC:
         """A cell of the map."""
@@ -316,6 +348,106 @@ class Image:
             raise NotAnImage(lib.meaning(status))
         self._inside(name, cell)
         raise BadCell(f"{name} {cell} is blocked", cell)
+
+
+def _costs_one_by_one(
+    words: lib.Words, count: int, start: lib.CellOfC, goals: Any, goal_count: int, costs: Any, room: int
+) -> int:
+    """`pathdb_costs` of a library that has it not yet."""
+    for number in range(goal_count):
+        status = lib.CALLS.pathdb_path_cost(words, count, start, goals[number], byref(costs[number]))
+        if status != lib.DONE:
+            costs[number] = lib.CostOfC(lib.NO_COST, lib.NO_COST)
+    return goal_count
+
+
+_costs: Callable[..., int] = getattr(lib.CALLS, "pathdb_costs", _costs_one_by_one)
+
+
+class LiveMap:
+    """A map of which some cells are blocked for now, as by doors that close, over the image of the map with all of them
+    free. Each path is a shortest one now.
+
+    Any number of threads may ask one live map while none blocks or frees a cell. Make one by `Image.live`.
+    """
+
+    def __init__(self, image: Image, blocked: Iterable[Cell] = ()) -> None:
+        if not hasattr(lib.CALLS, "pathdb_path_live"):
+            raise PathdbError("live maps need libpathdb 0.22 or later")
+        self.image = image
+        self._bits = (c_uint32 * ((image.facts.width * image.facts.height + 31) // 32))()
+        self._live = image._words, image._count, self._bits, len(self._bits)
+        for cell in blocked:
+            self.block(cell)
+
+    def block(self, cell: Cell) -> None:
+        """Blocks a cell until it is freed. Raises `BadCell` for a cell outside."""
+        word, bit = self._place(cell)
+        self._bits[word] |= bit
+
+    def free(self, cell: Cell) -> None:
+        """Frees a cell that was blocked by `block`; no other is freed. Raises `BadCell` for a cell outside."""
+        word, bit = self._place(cell)
+        self._bits[word] &= ~bit
+
+    def is_blocked(self, cell: Cell) -> bool:
+        """Whether the cell was blocked by `block`. Raises `BadCell` for a cell outside."""
+        word, bit = self._place(cell)
+        return bool(self._bits[word] & bit)
+
+    def told(self, start: Cell, goal: Cell) -> Optional[Told]:
+        """The path that the image tells, as far as it is free, by look-ups alone; `None` where no path exists, even with
+        every cell free. Raises `BadCell`."""
+        status, path = self._told(start, goal)
+        if status == lib.STALE:
+            return Told(path(), False)
+        found = self._judged(status, path, start, goal)
+        return None if found is None else Told(found, True)
+
+    def path(self, start: Cell, goal: Cell) -> Optional[Path]:
+        """A shortest path now, by look-ups, or by a search if the told path is not free; `None` where no path exists. Raises
+        `BadCell`."""
+        status, path = self._told(start, goal)
+        return self.search(start, goal) if status == lib.STALE else self._judged(status, path, start, goal)
+
+    def search(self, start: Cell, goal: Cell) -> Optional[Path]:
+        """A shortest path now, by a search that the image leads; `None` where no path exists. Raises `BadCell`."""
+        room, scratch = _room, _room.scratch_of(lib.CALLS.pathdb_search_words(self.image.facts.cells))
+        sought = lib.SearchOfC(self.image._cell("start", start), self.image._cell("goal", goal), 0xFFFFFFFF)
+        told = sought, scratch, len(scratch), room.moves, lib.LONGEST, byref(room.length)
+        status = lib.CALLS.pathdb_search_live(*self._live, *told)
+        while status == lib.MORE:
+            status = lib.CALLS.pathdb_search_on(*self._live, *told)
+        return self._judged(status, lambda: room.path(start), start, goal)
+
+    def next_move(self, at: Cell, goal: Cell) -> Optional[NextMove]:
+        """The move that the image tells, and whether it is free; `None` at the goal, and where no path exists, even with
+        every cell free. A unit that meets a move which is not free follows a `path` from there. Raises `BadCell`."""
+        move, ends = _room.move, (self.image._cell("at", at), self.image._cell("goal", goal))
+        status = lib.CALLS.pathdb_next_move_live(*self._live, *ends, byref(move))
+        if status in (lib.DONE, lib.STALE):
+            return NextMove(Move(move.value), status == lib.DONE)
+        self.image._judged(status, at, goal, "at")
+        return None
+
+    def _told(self, start: Cell, goal: Cell) -> Tuple[int, Callable[[], Path]]:
+        """How the call that looks a path up ends, and what makes the path that it wrote."""
+        room, ends = _room, (self.image._cell("start", start), self.image._cell("goal", goal))
+        status = lib.CALLS.pathdb_path_live(*self._live, *ends, room.moves, lib.LONGEST, byref(room.length))
+        return status, lambda: room.path(start)
+
+    def _judged(self, status: int, path: Callable[[], Path], start: Cell, goal: Cell) -> Optional[Path]:
+        """The path that a call wrote, or what its status means."""
+        if status == lib.DONE:
+            return path()
+        self.image._judged(status, start, goal)
+        return None
+
+    def _place(self, cell: Cell) -> Tuple[int, int]:
+        """The word and the bit of a cell."""
+        found = self.image._inside("cell", cell)
+        place = found.y * self.image.facts.width + found.x
+        return place // 32, 1 << place % 32
 
 
 def _cells_of(rows: Any) -> Tuple[int, int, bytes]:
@@ -360,6 +492,19 @@ def _why(status: int, told: lib.BakedOfC) -> str:
         lib.TOO_MANY_CELLS: f"the first too many is ({told.x}, {told.y})",
     }.get(status)
     return f"{lib.meaning(status)}: {where}" if where else lib.meaning(status)
+
+
+def _summed(costs: Any, shape: Tuple[int, int]) -> Numbers:
+    """The lengths that costs stand for, as `_shaped`."""
+    try:
+        numpy = importlib.import_module("numpy")
+    except ImportError:
+        infinite = float("inf")
+        return array("d", (infinite if c.straight == lib.NO_COST else c.straight + c.diagonal * ROOT for c in costs))
+    numbers = numpy.frombuffer(costs, dtype="uint32").reshape(*shape, 2)
+    lengths = numbers[..., 0] + numbers[..., 1] * ROOT
+    lengths[numbers[..., 0] == lib.NO_COST] = float("inf")
+    return lengths
 
 
 def _shaped(kind: str, data: bytes, shape: Tuple[int, int]) -> Numbers:

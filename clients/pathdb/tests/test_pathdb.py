@@ -24,7 +24,7 @@ TOP = os.path.join(HERE, "../../..")
 os.environ.setdefault("PATHDB_LIBRARY", os.path.join(TOP, "release/pathdb/libpathdb.so"))
 sys.path.insert(0, os.path.dirname(HERE))
 
-from pathdb import NO_MOVE, BadCell, BadMap, Cell, Cost, Image, Move, NotAnImage, Order
+from pathdb import NO_MOVE, BadCell, BadMap, Cell, Cost, Image, Move, NotAnImage, Order, Path, _library
 
 Rows = List[bytes]
 INFINITE = float("inf")
@@ -117,6 +117,82 @@ class Answers(unittest.TestCase):
         self.assertEqual(Image.bake([[1]]).corners((0, 0), (0, 0)), [(0, 0)])
 
 
+HAS_LIVE = hasattr(_library.CALLS, "pathdb_path_live")
+
+
+@unittest.skipUnless(HAS_LIVE, "the library is older than include/pathdb.h: release/lib makes it")
+class LiveMaps(unittest.TestCase):
+    def test_beside_a_plain_search(self) -> None:
+        told = searched = 0
+        for seed in range(12):
+            rows, numbers = made(11, 8, seed), random.Random(seed)
+            image = Image.bake(rows, Order(seed % 2))
+            blocked = [(numbers.randrange(11), numbers.randrange(8)) for _ in range(6)]
+            live = image.live(blocked)
+            now = [bytes(0 if (x, y) in blocked else cell for x, cell in enumerate(row)) for y, row in enumerate(rows)]
+            passable = [(x, y) for y in range(8) for x in range(11) if now[y][x]]
+            for start in passable[:: 1 + len(passable) // 12]:
+                lengths = lengths_from(now, start)
+                for goal in passable:
+                    self.judge(now, live.path(start, goal), start, goal, lengths.get(goal))
+                    self.judge(now, live.search(start, goal), start, goal, lengths.get(goal))
+                    found = live.told(start, goal)
+                    if found is not None and found.is_free:
+                        told += 1
+                        self.judge(now, found.path, start, goal, lengths.get(goal))
+                    elif found is not None:
+                        searched += 1
+                        baked = image.path(start, goal)
+                        assert baked is not None
+                        self.assertEqual(found.path.moves, baked.moves[: len(found.path)])
+        self.assertGreater(min(told, searched), 50)
+
+    def judge(self, now: Rows, path: Optional[Path], start: Cell, goal: Cell, length: Optional[float]) -> None:
+        self.assertEqual(path is None, length is None)
+        if path is not None and length is not None:
+            cells = path.cells()
+            self.assertEqual((cells[0], cells[-1]), (start, goal))
+            self.assertTrue(all(to in steps(now, at) for at, to in zip(cells, cells[1:])))
+            self.assertAlmostEqual(path.cost.length, length)
+
+    def test_a_door(self) -> None:
+        live = Image.bake([[1, 1, 1], [1, 0, 1], [1, 1, 1]]).live()
+        self.assertEqual(live.next_move((0, 0), (2, 0)), (Move.E, True))
+        live.block((1, 0))
+        self.assertEqual(live.next_move((0, 0), (2, 0)), (Move.E, False))
+        self.assertEqual(live.told((0, 0), (2, 0)), (Path((0, 0), b""), False))
+        path = live.path((0, 0), (2, 0))
+        self.assertEqual(path and len(path), 6)
+        live.block((1, 2))
+        self.assertIsNone(live.path((0, 0), (2, 0)))
+        with self.assertRaisesRegex(BadCell, r"^goal \(1, 2\) is blocked$"):
+            live.path((0, 0), (1, 2))
+        live.free((1, 0))
+        self.assertEqual((live.is_blocked((1, 0)), live.is_blocked((1, 2))), (False, True))
+        path = live.path((0, 0), (2, 0))
+        self.assertEqual(path and path.moves, bytes([Move.E, Move.E]))
+        self.assertIsNone(live.next_move((0, 0), (0, 0)))
+        for call in (live.block, live.free, live.is_blocked):
+            self.assertRaisesRegex(BadCell, r"^cell \(3, 0\) lies outside", call, (3, 0))
+
+    def test_threads(self) -> None:
+        live = Image.bake([[1] * 20 for _ in range(20)]).live((x, 10) for x in range(19))
+        wrong: List[int] = []
+
+        def ask(column: int) -> None:
+            for _ in range(20):
+                path = live.path((column, 0), (column, 19))
+                if path is None or path.cells()[-1] != (column, 19) or (19, 10) not in path.cells():
+                    wrong.append(column)
+
+        threads = [threading.Thread(target=ask, args=(column,)) for column in range(16)]
+        for thread in threads:
+            thread.start()
+        for thread in threads:
+            thread.join()
+        self.assertEqual(wrong, [])
+
+
 class Faults(unittest.TestCase):
     def test_ends(self) -> None:
         image = Image.bake([[1, 0, 1]])
@@ -196,7 +272,8 @@ class Package(unittest.TestCase):
             with contextlib.redirect_stdout(io.StringIO()) as out:
                 names: Dict[str, object] = {}
                 for code in examples:
-                    exec(code, names)
+                    if HAS_LIVE or "image.live" not in code:
+                        exec(code, names)
         finally:
             os.chdir(place)
         self.assertTrue(out.getvalue().startswith("42.97"), out.getvalue())

@@ -267,9 +267,22 @@ fn take_turn(live: &LiveImage, seek: Seek, state: &mut [u32], queue: &mut [u32])
     match open_below(seek, state, key) {
         None => Turn::Last(place),
         Some(other) => {
-            push(queue, key as u32, place);
+            put_back(seek, state, queue, (key as u32, place), other);
             close_at(live, seek, state, queue, other)
         }
+    }
+}
+
+/// Puts a place back that was taken before a cheaper one, or the goal in its place if that is the cheaper one: so no
+/// place is taken again and again before a goal that the queue has lost.
+fn put_back(seek: Seek, state: &[u32], queue: &mut [u32], taken: (u32, u32), other: u32)
+    requires room { HasState state.now seek.size }
+    requires other { other < seek.size }
+{
+    if other == seek.goal.place {
+        push(queue, cost_at(state, seek.size, other), other);
+    } else {
+        push(queue, taken.0, taken.1);
     }
 }
 

@@ -1,3 +1,4 @@
 mod Rooms
 mod Sizes
 mod Joined
+mod ManyCosts

@@ -5,6 +5,7 @@ use Rattle.moves.specs.declared.Cell.{Cell}
 use Rattle.moves.specs.declared.Move.{Move}
 use Rattle.moves.specs.Maps.{passable_count}
 use Rattle.moves.specs.Moves.{number_of}
+use Rattle.versions.specs.declared.query.End.{End}
 use Rattle.versions.specs.declared.query.QueryRefusal.{QueryRefusal}
 use Rattle.versions.specs.declared.version.Next.{Next}
 use Rattle.versions.specs.Databases.{Versioned}
@@ -12,7 +13,8 @@ use Rattle.path_image.specs.declared.walking.WalkFault.{WalkFault}
 use Rattle.path_image.specs.declared.walking.PathFault.{PathFault}
 use Rattle.path_image.specs.Reading.{LeadsInside}
 use Rattle.path_image.specs.Faults.{IsFaultOf}
-use Rattle.path_image.specs.Answers.{AreEndsIn, IsLeastCostIn, IsNextIn, IsPathFaultIn, IsPathIn, IsRefusalIn, IsWalkFaultIn}
+use Rattle.path_image.specs.declared.reading.Home.{Home}
+use Rattle.path_image.specs.Answers.{AreEndsIn, IsEndRefusalIn, IsHomeIn, IsLeastCostIn, IsNextIn, IsPathFaultIn, IsPathIn, IsRefusalIn, IsWalkFaultIn}
 use Rattle.pathdb.specs.declared.status.Status.{Status}
 use Rattle.pathdb.specs.declared.status.Status.TheVariants.{Done, Arrived, Unreachable, TooSmall, Broken}
 use Rattle.pathdb.specs.declared.checks.PathdbFacts.{PathdbFacts}
@@ -52,6 +54,22 @@ HasPassed words _ = ⊥
 -- of the look at words: they passed, or that part is wrong
 abbrev pub SaysCheck : List ℕ → ℕ → Status → Type 0
 SaysCheck words part status = MatchOption (fault_of status part) (HasPassed words status) (IsFaultOf words)
+
+-- the cell is passable, and lies in the component with that number
+pub record IsInComponent (words : List ℕ) (cell : Cell) (component : ℕ) : Type 0 where
+  pub home : Home
+  pub is : component ≡ home.label
+  pub stands : IsHomeIn words cell home
+
+-- in which component a cell lies that is passable
+abbrev pub SaysWhere : List ℕ → Cell → ℕ → ℕ → Status → Type 0
+SaysWhere words cell old new Done = IsInComponent words cell new
+SaysWhere words cell old new _ = ⊥
+
+-- of a cell: the component in which it lies, or why it lies in none, and then nothing is written
+abbrev pub SaysComponent : List ℕ → Cell → ℕ → ℕ → Status → Type 0
+SaysComponent words cell old new status =
+    MatchOption (refusal_of status) (SaysWhere words cell old new status) (λ why. IsEndRefusalIn words cell End.Start why × (new ≡ old))
 
 -- the path goes on by the move with that number
 pub record GoesBy (words : List ℕ) (at goal : Cell) (number : ℕ) : Type 0 where

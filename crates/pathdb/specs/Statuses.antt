@@ -1,18 +1,18 @@
 -- How calls end: each status with its number for C, and what of the libraries' answers it stands for.
-use Rattle.std.specs.Prelude.{◌≡◌, ℕ, ◌-◌, ◌<◌, List, [], ◌∷◌, ◌++◌, codes, length, take, Option, Some, None, MatchOption}
+use Rattle.std.specs.Prelude.{◌≡◌, ℕ, ◌-◌, List, [], ◌∷◌, ◌++◌, codes, length, take, Option, Some, None, MatchOption}
 use Rattle.versions.specs.declared.query.End.TheVariants.{Start, Goal}
 use Rattle.versions.specs.declared.query.QueryRefusal.{QueryRefusal}
 use Rattle.versions.specs.declared.query.QueryRefusal.TheVariants.{Outside, Blocked}
 use Rattle.path_image.specs.declared.checking.ImageFault.{ImageFault}
 use Rattle.path_image.specs.declared.checking.ImageFault.TheVariants.{Magic, Form, Length, Sides, Lists, Table, Home}
 use Rattle.path_image.specs.Answers.{overwritten}
-use Rattle.pathdb.specs.declared.TheConstants.{LAST_STATUS}
 use Rattle.pathdb.specs.declared.status.Status.{Status}
 use Rattle.pathdb.specs.declared.status.Status.TheVariants.{Done, Arrived, Unreachable, OutsideStart, BlockedStart, OutsideGoal, BlockedGoal, TooSmall, Broken}
 use Rattle.pathdb.specs.declared.status.Status.TheVariants.{NoImage, OtherForm, WrongLength, WrongSides, WrongLists, WrongTable, WrongHome}
 use Rattle.pathdb.specs.declared.status.Status.TheVariants.{NoOrder, TextTooLong, BadHeader, BadSize, BadRow, BadByte, MissingRows, ExtraLine, TooManyCells, WrongCount, NoMemory, NoSources, BrokenPart}
+use Rattle.pathdb.specs.declared.status.Status.TheVariants.{Stale, More, WrongBits, FewWords}
 
--- the number of a status
+-- the number of a status; those from 29 to 40 are kept for later calls
 abbrev pub status_number : Status → ℕ
 status_number Done = 0
 status_number Arrived = 1
@@ -43,6 +43,14 @@ status_number WrongCount = 25
 status_number NoMemory = 26
 status_number NoSources = 27
 status_number BrokenPart = 28
+status_number Stale = 41
+status_number More = 42
+status_number WrongBits = 43
+status_number FewWords = 44
+
+-- no status has the number
+abbrev pub IsNoNumber : ℕ → Type 0
+IsNoNumber number = (status : Status) → status_number status ≡ number → ⊥
 
 -- no two statuses have one number
 abbrev pub NumbersAreApart : Type 0
@@ -79,6 +87,10 @@ status_text WrongCount = codes "more cells or fewer than the sides say"
 status_text NoMemory = codes "out of memory"
 status_text NoSources = codes "no such sources"
 status_text BrokenPart = codes "broken part"
+status_text Stale = codes "the told path is not free"
+status_text More = codes "the search goes on"
+status_text WrongBits = codes "not a bit for each cell"
+status_text FewWords = codes "too few words for a search"
 
 -- the refusal of a query that a status stands for
 abbrev pub refusal_of : Status → Option QueryRefusal
@@ -107,7 +119,7 @@ text_or_none None = codes "no status"
 -- what a number means in words: the text of the status that has it, or that none has
 pub record Means (number : ℕ) (text : List ℕ) : Type 0 where
   pub found : Option Status
-  pub is : MatchOption found (LAST_STATUS < number) (λ status. status_number status ≡ number)
+  pub is : MatchOption found (IsNoNumber number) (λ status. status_number status ≡ number)
   pub says : text ≡ text_or_none found
 
 -- a text and a byte 0 behind it stand in a room, as far as it reaches, and the text is so long

@@ -2,12 +2,12 @@
 
 ghost use Rattle.std.specs.Prelude.{◌≡◌, ◌≤◌, length};
 ghost use Rattle.path_image.specs.Reading.{LeadsInside};
-ghost use Rattle.pathdb.specs.Calls.{SaysCost, SaysNext, SaysPath, Tells, cell_of};
+ghost use Rattle.pathdb.specs.Calls.{SaysComponent, SaysCost, SaysNext, SaysPath, Tells, cell_of};
 
 use crate::Status;
 use moves::Cell;
 use path_image::{Image, PathFault, WalkFault};
-use versions::Next;
+use versions::{End, Next};
 
 /// A cell by its column and row, from 0 at the upper left.
 #[repr(C)]
@@ -21,7 +21,7 @@ pub struct PathdbCell {
 
 impl PathdbCell {
     /// The same cell.
-    fn cell(self) -> Cell
+    pub(crate) fn cell(self) -> Cell
         ensures { result ≡ cell_of self }
     {
         Cell {
@@ -39,6 +39,15 @@ pub struct PathdbCost {
     pub straight: u32,
     /// Moves of length √2.
     pub diagonal: u32,
+}
+
+/// In which component a cell lies: a path leads from one cell to another exactly inside of one.
+#[unsafe(no_mangle)]
+pub extern "C" fn pathdb_component(words: &[u32], cell: PathdbCell, component: &mut u32) -> u32
+    requires { LeadsInside words.now }
+    ensures told { Tells result (SaysComponent words.now (cell_of cell) component.old component.new) }
+{
+    component_of(words, cell.cell(), component).number()
 }
 
 /// Where the path from a cell to a goal goes on: the number of the move.
@@ -87,6 +96,20 @@ pub extern "C" fn pathdb_path(
     path(words, start.cell(), goal.cell(), room, count).number()
 }
 
+/// `pathdb_component` as a status.
+fn component_of(words: &[u32], cell: Cell, component: &mut u32) -> Status
+    requires { LeadsInside words.now }
+    ensures { SaysComponent words.now cell component.old component.new result }
+{
+    match Image::known(words).home_of(cell, End::Start) {
+        Ok(home) => {
+            *component = home.label;
+            Status::Done
+        }
+        Err(why) => Status::of_refusal(why),
+    }
+}
+
 /// `pathdb_next_move` as a status.
 fn next(words: &[u32], at: Cell, goal: Cell, by: &mut u8) -> Status
     requires { LeadsInside words.now }
@@ -104,7 +127,7 @@ fn next(words: &[u32], at: Cell, goal: Cell, by: &mut u8) -> Status
 }
 
 /// `pathdb_path_cost` as a status.
-fn path_cost(words: &[u32], start: Cell, goal: Cell, cost: &mut PathdbCost) -> Status
+pub(crate) fn path_cost(words: &[u32], start: Cell, goal: Cell, cost: &mut PathdbCost) -> Status
     requires { LeadsInside words.now }
     ensures { SaysCost words.now start goal cost.old cost.new result }
 {

@@ -2,7 +2,7 @@
 
 ghost use Rattle.std.specs.Prelude.{◌≡◌, ◌<◌, ◌≤◌, Some, MatchOption, length};
 ghost use Rattle.pathdb.specs.declared.TheConstants.{LAST_STATUS, TEXT_ROOM};
-ghost use Rattle.pathdb.specs.Statuses.{fault_of, refusal_of, status_number, status_text};
+ghost use Rattle.pathdb.specs.Statuses.{IsNoNumber, fault_of, refusal_of, status_number, status_text};
 
 use path_image::ImageFault;
 use versions::{End, QueryRefusal};
@@ -68,6 +68,14 @@ pub enum Status {
     NoSources,
     /// A part is not the one that is next, or ends too early.
     BrokenPart,
+    /// The path that the image tells is not free now.
+    Stale,
+    /// The search has taken as many cells as it may, and waits.
+    More,
+    /// There is not a bit for each cell of the map, or there are more words of bits.
+    WrongBits,
+    /// The search wants a scratch of more words.
+    FewWords,
 }
 
 impl Status {
@@ -106,12 +114,16 @@ impl Status {
             Status::NoMemory => 26,
             Status::NoSources => 27,
             Status::BrokenPart => 28,
+            Status::Stale => 41,
+            Status::More => 42,
+            Status::WrongBits => 43,
+            Status::FewWords => 44,
         }
     }
 
-    /// The status with that number; `None` exactly where the number is above [`LAST_STATUS`](crate::LAST_STATUS).
+    /// The status with that number; `None` exactly where no status has it.
     pub fn of(number: u32) -> Option<Status>
-        ensures { MatchOption result (LAST_STATUS < number) (λ status. status_number status ≡ number) }
+        ensures { MatchOption result (IsNoNumber number) (λ status. status_number status ≡ number) }
     {
         match number {
             0 => Some(Status::Done),
@@ -143,6 +155,10 @@ impl Status {
             26 => Some(Status::NoMemory),
             27 => Some(Status::NoSources),
             28 => Some(Status::BrokenPart),
+            41 => Some(Status::Stale),
+            42 => Some(Status::More),
+            43 => Some(Status::WrongBits),
+            44 => Some(Status::FewWords),
             _ => None,
         }
     }
@@ -182,6 +198,10 @@ impl Status {
             Status::NoMemory => "out of memory",
             Status::NoSources => "no such sources",
             Status::BrokenPart => "broken part",
+            Status::Stale => "the told path is not free",
+            Status::More => "the search goes on",
+            Status::WrongBits => "not a bit for each cell",
+            Status::FewWords => "too few words for a search",
         }
     }
 
