@@ -28,6 +28,31 @@ def is_room_or_door(column, row):
     return down == door if across == ROOM else down != ROOM or across == door
 
 
+def is_corridor(column, row, side):
+    """Whether a cell is in a way of one cell that goes back and forth through the map, all but its last column."""
+    turn = side - 2 if row % 4 == 1 else 0
+    return column == turn if row % 2 else column < side - 1
+
+
+def maze(side):
+    """The rows of a maze: every second cell of every second row is a room, and one way joins any two. Its ways are one
+    cell wide."""
+    rows = [[False] * side for _ in range(side)]
+    rows[0][0], trail = True, [(0, 0)]
+    while trail:
+        x, y = trail[-1]
+        ways = [(across, down) for across, down in ((0, -1), (1, 0), (0, 1), (-1, 0))
+                if 0 <= x + 2 * across < side and 0 <= y + 2 * down < side and not rows[y + 2 * down][x + 2 * across]]
+        if not ways:
+            trail.pop()
+            continue
+        across, down = ways[mixed(x + len(trail) * side, y) % len(ways)]
+        for steps in 1, 2:
+            rows[y + steps * down][x + steps * across] = True
+        trail.append((x + 2 * across, y + 2 * down))
+    return rows
+
+
 def smoothed(rows, side):
     """Each cell made like most of the nine that it is the middle of; outside all is blocked."""
     near = range(-1, 2)
@@ -64,15 +89,16 @@ def largest_alone(rows, side):
 
 
 def drawn(kind, side):
-    """The rows of the map of a kind, `open`, `blockedN` with so many cells in a hundred blocked, `rooms` or `caves`, as
-    text: `.` for a passable cell and `@` for a blocked one."""
+    """The rows of the map of a kind, `open`, `blockedN` with so many cells in a hundred blocked, `rooms`, `caves`,
+    `corridor` or `maze`, as text: `.` for a passable cell and `@` for a blocked one."""
     percent = {"open": 0, "caves": 45}.get(kind)
     if kind.startswith("blocked"):
         percent = int(kind[len("blocked"):])
-    if percent is None and kind != "rooms":
+    shapes = {"rooms": is_room_or_door, "corridor": lambda column, row: is_corridor(column, row, side)}
+    if percent is None and kind not in (*shapes, "maze"):
         raise SystemExit("maps.py: no kind of map is named %s" % kind)
-    rows = [[is_room_or_door(column, row) if kind == "rooms" else is_left(column, row, percent)
-             for column in range(side)] for row in range(side)]
+    is_passable = shapes.get(kind, lambda column, row: is_left(column, row, percent))
+    rows = maze(side) if kind == "maze" else [[is_passable(column, row) for column in range(side)] for row in range(side)]
     for _ in range(4 if kind == "caves" else 0):
         rows = smoothed(rows, side)
     return ["".join(".@"[not cell] for cell in row) for row in largest_alone(rows, side)]

@@ -100,6 +100,7 @@ class Browser:
 
     def picture(self, folder, name):
         if folder:
+            os.makedirs(folder, exist_ok=True)
             with open(os.path.join(folder, name + ".png"), "wb") as file:
                 file.write(base64.b64decode(self.ask("/screenshot")))
 

@@ -3,7 +3,8 @@
 
 Of README.md and docs/guide, blocks marked `sh` are run from the top of the repository, one page in one folder; a `text`
 block after one is what it has to print. A `serve` or `lead` alone runs in the background until the page ends. `python`
-blocks are run too, and `c` blocks are compiled. README.md has at most 1,200 words."""
+blocks are run too, and `c` blocks are compiled. README.md has at most 1,200 words, and the pages that are written by hand
+have at most 25,000: README.md, docs/, those of deploy/ and clients/, without what tools/reference and tools/manual make."""
 import os
 import re
 import signal
@@ -17,6 +18,8 @@ from judging import Judge, program_here
 
 TOP = Path(__file__).resolve().parent.parent
 MOST_WORDS = 1200
+MOST_BY_HAND = 25_000
+MADE = re.compile(r"<!-- made by .*?<!-- until here -->", re.S)
 BLOCK = re.compile(r"^```(\w*)\n(.*?)^```$", re.M | re.S)
 LINK = re.compile(r"\]\(([^)\s]+)\)")
 C_PRELUDE = """
@@ -38,7 +41,7 @@ judge = Judge()
 def pages():
     """Returns the pages of the repository."""
     listed = subprocess.run(["git", "ls-files", "*.md"], cwd=TOP, capture_output=True, text=True, check=False).stdout
-    found = [TOP / name for name in listed.split()] or list(TOP.glob("**/*.md"))
+    found = [TOP / name for name in dict.fromkeys(listed.split())] or list(TOP.glob("**/*.md"))
     return [page for page in found if page.is_file()]
 
 
@@ -68,6 +71,13 @@ def free_ports(count):
     for each in sockets:
         each.close()
     return ports
+
+
+def words_by_hand():
+    """Returns how many words, of at least a letter, stand in the pages that nothing makes."""
+    found = [page for page in pages() if re.match(r"README|docs/|deploy/|clients/", str(page.relative_to(TOP)))]
+    texts = [MADE.sub("", page.read_text(encoding="utf-8")) for page in found]
+    return sum(len(re.findall(r"\S*[A-Za-z]\S*", text)) for text in texts if "Made by `tools/" not in text)
 
 
 class Shell:
@@ -141,6 +151,8 @@ def main():
         judge_links(page)
     words = len((TOP / "README.md").read_text(encoding="utf-8").split())
     judge("README.md has few words", words <= MOST_WORDS, True)
+    by_hand = words_by_hand()
+    judge(f"the {by_hand} words by hand are few", by_hand <= MOST_BY_HAND, True)
     judge("tools/reference --check", subprocess.run([TOP / "tools/reference", "--check"], check=False).returncode, 0)
     for page in [TOP / "README.md", *sorted((TOP / "docs/guide").glob("*.md"))]:
         if page.name != "games.md":  # tests/game_page.py runs that one

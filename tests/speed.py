@@ -82,6 +82,8 @@ def figures(program, folder):
     yield "four_versions", versions(program, rooms)
     yield "talk_queries", queries(program, opened, drawn["open"])
     yield "path", instructions(program, "path", rooms, "0", "0", "49", "49")
+    # on a diagonal of open ground each cell leaves one move, so no row is built
+    yield "path_without_rows", instructions(program, "path", opened, "0", "0", "31", "31")
     yield "near", instructions(program, "near", blocked)
     yield "verify", instructions(program, "verify", database(program, blocked, folder))
     yield "image_paths", instructions(programs.queries(folder), opened, "rows", "10000", "1", within="read_paths")
