@@ -67,7 +67,7 @@ public static unsafe class Pathdb
         }
     }
 
-    // Throws where the words are no image.
+    // Throws if the words are not an image.
     public static void Check(uint[] words)
     {
         uint part;

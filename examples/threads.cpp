@@ -17,7 +17,7 @@
 
 namespace {
 
-// The image that all threads ask. Who has taken it may go on reading it after another was swapped in.
+// The image that all threads ask. A thread that has taken it may go on reading it after another was swapped in.
 class shelf {
 public:
     std::shared_ptr<const pathdb::image> take() const

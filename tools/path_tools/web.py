@@ -319,11 +319,11 @@ def read_words(about: str) -> argparse.Namespace:
     head, end = about.split("\n\n")
     parser = argparse.ArgumentParser(prog="demo", description=head, epilog=end)
     parser.add_argument(
-        "map", metavar="MAP", nargs="?", default=os.path.join(TOP, "maps/tutorial.map"), help="maps/tutorial.map"
+        "map", metavar="MAP", nargs="?", default=os.path.join(TOP, "maps/tutorial.map"), help="the map (the tutorial)"
     )
-    parser.add_argument("--port", type=int, default=0, help="where the page is; a free one where it is not given")
+    parser.add_argument("--port", type=int, default=0, help="the port of the page (a free one)")
     parser.add_argument("--order", choices=ORDERS, default="rows", help="the order of the cells in the database")
-    parser.add_argument("--workers", type=int, default=1, help="how many threads build (1)")
+    parser.add_argument("--workers", type=int, default=1, help="the number of threads that build (1)")
     parser.add_argument("--no-browser", action="store_true", help="only print the page's address")
     return parser.parse_args()
 
