@@ -1,5 +1,5 @@
--- What a run of `path_bake` is about, and how it may end. Its words stand behind the program's own name: a map's file, and how the
--- map's database is built.
+-- What a run of `path_bake` is about, and how it may end. Its words follow the program's own name: a map's file, and
+-- how the map's database is built.
 use Rattle.std.specs.Prelude.{◌≡◌, ◌⊎◌, ℕ, List, ◌∷◌, Option, None, Some, codes}
 use Rattle.std.specs.Io.KnownBytes.{Appends}
 use Rattle.wire.specs.Contents.{PutsPrefix}
@@ -19,7 +19,7 @@ use Rattle.path_commands.specs.Statuses.{status_text}
 abbrev pub export_words : List Text → List Text
 export_words words = codes "export" ∷ words
 
--- what the words ask for, or None where they ask for nothing
+-- what the words ask for, or None if they ask for nothing
 abbrev pub asked_of : List Text → Option Asked
 asked_of words = request_of (export_words words)
 
@@ -43,17 +43,17 @@ pub record FailsByMap (run : Run) (cause : Status) : Type 0 where
   pub asks : AsksFor run name build
   pub fails : IsMapFileCause (run.file name) cause
 
--- the cause of each status but `Done`, and but a fault of the output. Want of memory alone is free
+-- the cause of each status except `Done` and a fault of the output; `NoMemory` needs none
 abbrev pub IsCause : Run → Status → Type 0
 IsCause run status.Usage = asked_of run.words ≡ None
 IsCause run status.NoMemory = Unit {0}
 IsCause run cause = FailsByMap run cause
 
--- how the program is called, as a line
+-- the usage line
 abbrev pub usage_text : List ℕ
 usage_text = codes "usage: path_bake MAP [--order rows|dfs] [--workers N]\n"
 
--- the line of a status: that of the main program, but for words that ask for nothing
+-- the line of a status: that of the main program, except for words that ask for nothing
 abbrev pub refusal_text : Status → List ℕ
 refusal_text status.Usage = usage_text
 refusal_text cause = status_text cause

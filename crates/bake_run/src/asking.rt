@@ -1,4 +1,4 @@
-//! What the words of a command line ask for.
+//! The request that the words of a command line spell.
 ghost use Rattle.std.specs.Prelude.{◌≡◌, IfErr, IfOk, Some, string_bytes};
 ghost use Rattle.path_commands.specs.declared.commands.Verb.{Verb};
 ghost use Rattle.path_commands.specs.Commands.{verb_of};
@@ -10,7 +10,7 @@ ghost use Rattle.bake_run.specs.Baking.{export_words};
 use path_commands::{BuildOptions, MapAsked, MapSource, Request, Status, read_request};
 use std::alloc::{AllocError, Global};
 
-/// What the words ask for: the image of a map.
+/// The request for the image of a map.
 #[derive(Clone, Copy)]
 pub(crate) struct Baking<'a> {
     /// The name of the map's file, which is not empty.
@@ -19,7 +19,8 @@ pub(crate) struct Baking<'a> {
     pub(crate) build: BuildOptions,
 }
 
-/// The words of the main program that ask for a database of the same map, built in the same way.
+/// Returns the words of the main program that ask for a database of the same map, built in the same
+/// way.
 pub(crate) fn ask_words(alloc: Global, words: &[String]) -> Result<Vec<String>, AllocError>
     ensures { IfOk result (λ all. texts_of all.items ≡ export_words (texts_of words.now)) }
 {
@@ -33,14 +34,14 @@ pub(crate) fn ask_words(alloc: Global, words: &[String]) -> Result<Vec<String>, 
     Ok(all)
 }
 
-/// The same text once more.
+/// Returns a copy of the text.
 fn copy_of(alloc: Global, text: &String) -> Result<String, AllocError>
     ensures { IfOk result (λ copy. string_bytes copy ≡ string_bytes text.now) }
 {
     String::from_str(alloc, text.as_str())
 }
 
-/// What these words of the main program ask for, of which the first is `export`.
+/// Returns the request of these words of the main program, of which the first is `export`.
 pub(crate) fn read_words<'a>(alloc: Global, words: &'a [String]) -> Result<Baking<'a>, Status>
     requires { verb_of (texts_of words.now) ≡ Some Verb.Export }
     ensures asked { IfOk result (λ asked.
@@ -56,7 +57,7 @@ pub(crate) fn read_words<'a>(alloc: Global, words: &'a [String]) -> Result<Bakin
     }
 }
 
-/// What is asked for by `export`, whose map lies in a file.
+/// Returns what is asked for by `export`, whose map lies in a file.
 fn baking_of<'a>(asked: MapAsked<'a>) -> Baking<'a>
     requires verb { aim_verb (aim_of asked.aim) ≡ Verb.Export }
     requires fits { Fits (source_of asked.source) (aim_of asked.aim) }

@@ -1,5 +1,5 @@
-//! All that the program `path_bake` does, over the files and the output that are handed in: it puts the image of a
-//! map's database, in the manners of the main program.
+//! The whole program `path_bake`, over given files and a given output: it writes the image of a map's database, in the
+//! same way as the main program.
 #![tactic(auto)]
 
 ghost use Rattle.std.specs.Prelude.{◌≡◌, ◌≢◌, IfErr, IfOk};
@@ -23,11 +23,11 @@ pub use telling::{advice, in_own_name};
 use versions::Version;
 use wire::{Bell, Files, Sink, StillBell};
 
-/// Does what the words of a command line ask for, which are those behind the program's own name, and says how it ended.
-/// Each piece of the build passes the gate, which is told how far it is.
+/// Does what the words of a command line ask for, and returns how it ended. The words are those after the program's own
+/// name. Each piece of the build passes the gate, which is told how far it is.
 ///
-/// With `Done` the image was put, and with any other status its line. Only with `WriteFault` it is less than a whole
-/// image or line, and the output has failed.
+/// With `Done` the image was printed, and with any other status its line. Only with `WriteFault` is the image or line
+/// incomplete, and the output has failed.
 pub fn run<F: Files, O: Sink, G: Watch, R: Threads + Sync>(
     rt: &R,
     alloc: Global,
@@ -60,7 +60,7 @@ pub fn run<F: Files, O: Sink, G: Watch, R: Threads + Sync>(
     }
 }
 
-/// The version whose image is asked for, or the status with which the run ends without it.
+/// Returns the version whose image is asked for, or the status with which the run ends without it.
 fn version_asked<F: Files, B: Bell, G: Watch, R: Threads + Sync>(
     means: &Means<R, B, G>,
     words: &[String],

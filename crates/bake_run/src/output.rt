@@ -1,4 +1,4 @@
-//! What a run says on its output: the image, or the line of the status with which it ends.
+//! The output of a run: the image, or the line of its status.
 ghost use Rattle.std.specs.Prelude.{◌≡◌, ◌≢◌, ◌⊎◌};
 ghost use Rattle.std.specs.Io.KnownBytes.{Appends};
 ghost use Rattle.wire.specs.Causes.{Rose};
@@ -15,7 +15,7 @@ use std::alloc::Global;
 use versions::Version;
 use wire::Sink;
 
-/// Puts the image of a version, piece by piece.
+/// Prints the image of a version, piece by piece.
 pub(crate) fn put_image<O: Sink>(out: &mut O, version: &Version) -> Status
     ensures whole { result ≢ Status.WriteFault → (result ≡ Status.Done)
         × Appends (O.bytes out.old) (O.bytes out.new) (bytes_of (image_of version.now)) }
@@ -29,7 +29,7 @@ pub(crate) fn put_image<O: Sink>(out: &mut O, version: &Version) -> Status
     }
 }
 
-/// Puts the line of a status; where there is no memory for it, that of want of memory.
+/// Prints the line of a status, or that of `NoMemory` if memory runs out.
 pub fn refuse<O: Sink>(alloc: Global, out: &mut O, status: Status) -> Status
     requires done { status ≢ Status.Done }
     requires write { status ≢ Status.WriteFault }

@@ -1,5 +1,5 @@
-//! What a person is told on standard error, beside the line on standard output: how the program is used, and otherwise
-//! what the main program tells of its command `export` with the same words.
+//! The advice on standard error that goes with the line on standard output: the usage of the program, and otherwise the
+//! main program's advice for its command `export` with the same words.
 ghost use Rattle.std.specs.Prelude.{◌≡◌, [], IfOk, string_bytes};
 ghost use Rattle.bake_run.specs.Baking.{usage_text};
 
@@ -13,40 +13,40 @@ const NAME: &str = "path_bake";
 /// The name of the main program.
 const MAIN_NAME: &str = "path_server";
 
-/// What stands behind that name where its command `export` is meant.
+/// What follows that name in advice on its command `export`.
 const MAIN_COMMAND: &str = " export";
 
-/// What stands behind the first line on the page of help.
+/// The help page after its first line.
 const BEHIND_USAGE: &str = "    \
-puts the image of the map's database on standard output: a file from which paths are read
+writes an image of the map's database, from which paths are read, to standard output
 
-  MAP       the map, in the format of MovingAI: the name of a file
-  --order   the order of the cells in the database: rows or dfs; rows where it is not given
-  --workers how many threads build it: a number from 1 to 64; 1 where it is not given
+  MAP       the map, in MovingAI format: a file name
+  --order   the order of the cells in the database: rows or dfs (default: rows)
+  --workers how many threads build it: a number from 1 to 64 (default: 1)
 
 example:
     path_bake maps/tutorial.map --workers 4 > tutorial.image
 
 environment:
-  PATH_SERVER_PROGRESS=1   how far the build is, on standard error every few seconds; a terminal
-                           shows it anyway, but not where the variable has another value
+  PATH_SERVER_PROGRESS=1   print the progress of the build on standard error every few seconds;
+                           on at a terminal unless the variable has another value
 
 exit status:
   0  done                                  6  the output failed
-  1  faulty command line                   7  out of memory
-  2  the map is refused                    8  the file is too long
+  1  invalid command line                  7  out of memory
+  2  invalid map                           8  the file is too long
   5  the file was not read
 ";
 
-/// How the program is called, as a line.
+/// Returns the usage line.
 pub(crate) fn usage() -> &'static str
     ensures { result.now ≡ usage_text }
 {
     "usage: path_bake MAP [--order rows|dfs] [--workers N]\n"
 }
 
-/// What to tell of a run over these words that ended so, by what was seen outside. The text is empty where the work was
-/// done, and ends with a line feed where it is not.
+/// Returns the advice for a run with these words and this status, using what was seen of its files and ports. The text
+/// is empty if the run succeeded, and otherwise ends with a line feed.
 pub fn advice(
     alloc: Global,
     words: &[String],
@@ -58,13 +58,13 @@ pub fn advice(
     match status {
         Status::Done => Ok(String::new(alloc)),
         Status::Usage => usage_advice(alloc, words),
-        // These texts begin with the name of the map's file.
+        // These texts begin with the name of the map file.
         Status::Map(_) | Status::TooLong { .. } => told_by_main(alloc, words, status, seen),
         _ => in_own_name(alloc, told_by_main(alloc, words, status, seen)?.as_str()),
     }
 }
 
-/// A text of the main program, with the name of this one where it begins with that of the main program.
+/// Returns a text of the main program, with this program's name in place of the main one's at its start.
 pub fn in_own_name(alloc: Global, told: &str) -> Result<String, AllocError> {
     match told.strip_prefix(MAIN_NAME) {
         Some(rest) => joined(alloc, NAME, rest.strip_prefix(MAIN_COMMAND).unwrap_or(rest)),
@@ -72,7 +72,7 @@ pub fn in_own_name(alloc: Global, told: &str) -> Result<String, AllocError> {
     }
 }
 
-/// What to tell where the words ask for nothing: which of them is wrong. Who asks for help gets a page.
+/// Returns the advice for words that are refused: which of them is wrong. A request for help gets the help page.
 fn usage_advice(alloc: Global, words: &[String]) -> Result<String, AllocError> {
     if asks_for_help(words) {
         return joined(alloc, usage(), BEHIND_USAGE);
@@ -88,7 +88,7 @@ fn usage_advice(alloc: Global, words: &[String]) -> Result<String, AllocError> {
     Ok(text)
 }
 
-/// What the main program tells of its command `export` with these words behind it.
+/// Returns the main program's advice for its command `export` with these words.
 fn told_by_main(
     alloc: Global,
     words: &[String],
@@ -99,7 +99,7 @@ fn told_by_main(
     path_commands::advice(alloc, words.as_slice(), status, seen)
 }
 
-/// Whether there are no words, or one of them asks for help.
+/// Returns whether there are no words, or one of them asks for help.
 fn asks_for_help(words: &[String]) -> bool {
     words.is_empty()
         || words
@@ -107,7 +107,7 @@ fn asks_for_help(words: &[String]) -> bool {
             .any(|word| matches!(word.as_str(), "--help" | "-h"))
 }
 
-/// Whether the first word asks which version of the program this is.
+/// Returns whether the first word asks which version of the program this is.
 fn asks_for_version(words: &[String]) -> bool {
     match words.first() {
         Some(word) => matches!(word.as_str(), "--version" | "-V"),
@@ -115,7 +115,7 @@ fn asks_for_version(words: &[String]) -> bool {
     }
 }
 
-/// One text and another behind it.
+/// Returns the first text followed by the second.
 fn joined(alloc: Global, first: &str, second: &str) -> Result<String, AllocError> {
     let mut text = String::from_str(alloc, first)?;
     text.push_str(second)?;

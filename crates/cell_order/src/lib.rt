@@ -1,4 +1,4 @@
-//! Orders of the cells of a component, by which its rows are packed.
+//! Orders of the cells of a component. Its rows are packed in one of them.
 #![tactic(auto)]
 
 ghost use Rattle.std.specs.Prelude.{◌≡◌, ◌+◌, ◌<◌, ◌≤◌, ◌++◌, All, AllPairs, length, reverse, IfOk, IsPermutation};
@@ -16,15 +16,15 @@ use unseen::Unseen;
 /// How the cells of a component are ordered.
 #[derive(Clone, Copy, Debug, PartialEq, Eq)]
 pub enum OrderKind {
-    /// Row by row, and in each row from left to right.
+    /// Row by row, each row from left to right.
     Rows,
-    /// As they are first visited from the first cell, depth first: at each cell to the north, the east, the south and
-    /// the west of it, past cells that were visited before.
+    /// As a depth-first search from the first cell visits them. It tries the cells to the north,
+    /// east, south and west in turn, and skips those already visited.
     Dfs,
 }
 
 impl OrderKind {
-    /// The order's number: 0 for row by row and 1 for depth first.
+    /// Returns the order's number: 0 for row by row, 1 for depth first.
     pub fn number(self) -> u8
         ensures { result ≡ kind_of self }
     {
@@ -35,12 +35,12 @@ impl OrderKind {
     }
 }
 
-/// The cells of a component in the named order. They are from 1 to 32,768 cells in row-major order, connected by
-/// straight moves among themselves.
+/// Returns the cells of a component in the given order. `cells` must hold 1 to 32,768 cells in
+/// row-major order, connected to one another by straight moves.
 ///
 /// # Errors
 ///
-/// `AllocError` where memory runs out.
+/// `AllocError` if memory runs out.
 pub fn order_of(alloc: Global, kind: OrderKind, cells: &[Cell]) -> Result<Vec<Cell>, AllocError>
     requires some { 0 < length cells.now }
     requires few { length cells.now ≤ MAX_PASSABLE }
@@ -56,17 +56,17 @@ pub fn order_of(alloc: Global, kind: OrderKind, cells: &[Cell]) -> Result<Vec<Ce
     }
 }
 
-/// The law of depth-first visits: the bound on their depth, by which they are defined, never shows.
+/// The law of depth-first visits: the bound on depth in their definition makes no difference.
 pub fn visits_have_no_bound()
     ensures { VisitsHaveNoBound }
 {}
 
-/// The law of orders: the order of connected cells has each of them once.
+/// The law of orders: an order of connected cells contains each of them exactly once.
 pub fn orders_are_permutations()
     ensures { OrdersArePermutations }
 {}
 
-/// The cells as they are first visited from the first of them, depth first.
+/// Returns the cells as a depth-first search from the first of them visits them.
 fn depth_first(alloc: Global, cells: &[Cell]) -> Result<Vec<Cell>, AllocError>
     requires some { 0 < length cells.now }
     requires few { length cells.now ≤ MAX_PASSABLE }
@@ -90,7 +90,7 @@ fn depth_first(alloc: Global, cells: &[Cell]) -> Result<Vec<Cell>, AllocError>
     Ok(order)
 }
 
-/// Puts the four cells beside a cell on the stack, the northern one on top, then east, south and west.
+/// Pushes the cells beside a cell on the stack: north on top, then east, south and west.
 fn push_beside(pending: &mut Vec<Cell>, cell: Cell) -> Result<(), AllocError>
     requires column { cell.x < MAX_SIDE }
     requires row { cell.y < MAX_SIDE }

@@ -1,4 +1,4 @@
-//! The cells that were not seen yet.
+//! The cells that a search has not seen yet.
 
 ghost use Rattle.std.specs.Prelude.{◌≡◌, ◌*◌, ◌<◌, ◌↔◌, true, false, All, length, IsTrue, IfOk};
 ghost use Rattle.moves.specs.Rectangles.{IsOnMap, IsWithin};
@@ -8,11 +8,11 @@ use moves::{Bounds, Cell};
 use std::alloc::{AllocError, Global};
 use std::marker::Model;
 
-/// The cells that were not seen yet, by marks over the smallest rectangle that has all cells.
+/// The cells not seen yet, as marks over the smallest rectangle that contains all cells.
 #[derive(Drop)]
 pub(crate) struct Unseen {
     bounds: Bounds,
-    /// For each cell of the bounds, row by row, whether it is there to be seen.
+    /// For each cell of the bounds, row by row, whether it is still to be seen.
     marks: Vec<bool>,
 }
 
@@ -28,7 +28,7 @@ impl Model for Unseen {
 }
 
 impl Unseen {
-    /// The cells, none of which was seen yet.
+    /// Returns these cells, none of them seen yet.
     pub(crate) fn of(alloc: Global, cells: &[Cell]) -> Result<Unseen, AllocError>
         requires some { 0 < length cells.now }
         requires limits { All IsOnMap cells.now }
@@ -42,7 +42,7 @@ impl Unseen {
         Ok(unseen)
     }
 
-    /// The smallest rectangle that has all cells, with no marks.
+    /// Returns the smallest rectangle that contains all cells, with no marks.
     fn around(alloc: Global, cells: &[Cell]) -> Result<Unseen, AllocError>
         requires some { 0 < length cells.now }
         requires limits { All IsOnMap cells.now }
@@ -63,14 +63,14 @@ impl Unseen {
         self.marks[place] = true;
     }
 
-    /// Whether the cell was not seen yet.
+    /// Returns whether the cell is still to be seen.
     pub(crate) fn has(&self, cell: Cell) -> bool
         ensures { IsTrue result ↔ IsMarked self.now cell }
     {
         self.bounds.has(cell) && self.marks[self.bounds.place(cell)]
     }
 
-    /// Takes the cell out.
+    /// Removes the cell.
     pub(crate) fn remove(&mut self, cell: Cell)
         requires { IsWithin self.old.area cell }
         ensures { self.new ≡ with_mark self.old cell false }

@@ -1,4 +1,4 @@
--- What an edit of a map leaves of its components, and the cells from which the others are flooded again.
+-- What an edit of a map leaves of its components, and the cells from which the rest is flooded again.
 use Rattle.std.specs.Prelude.{◌≡◌, ℕ, ◌+◌, ◌*◌, ◌<◌, ◌≤◌, ◌⊎◌, Bool, false, true, IsFalse, List, [], length, slice_index, slice_index_or, All, AllPairs, Contains}
 use Rattle.moves.specs.declared.Cell.{Cell}
 use Rattle.moves.specs.declared.Move.{Move}
@@ -13,7 +13,7 @@ pub record HaveSameSides (a b : Map) : Type 0 where
   pub width : a.width ≡ b.width
   pub height : a.height ≡ b.height
 
--- each cell inside is in the list, or the same stands there in both maps
+-- each cell inside is in the list or has the same terrain in both maps
 abbrev pub AreChanged : Map → Map → List Cell → Type 0
 AreChanged old new changed =
     (cell : Cell) → IsInside old cell → Contains changed cell ⊎ (terrain_of new cell ≡ terrain_of old cell)
@@ -28,7 +28,7 @@ pub record Plan : Type 0 where
 abbrev pub IsTouched : List Bool → ℕ → Type 0
 IsTouched touched label = slice_index_or touched label false ≡ true
 
--- what was touched is touched still
+-- what was touched stays touched
 abbrev pub KeepsTouched : List Bool → List Bool → Type 0
 KeepsTouched old new = (label : ℕ) → IsTouched old label → IsTouched new label
 
@@ -36,7 +36,7 @@ KeepsTouched old new = (label : ℕ) → IsTouched old label → IsTouched new l
 abbrev pub TouchesAt : List (List Cell) → Cell → List Bool → Type 0
 TouchesAt components cell touched = (label : ℕ) → IsLabelOf components cell label → IsTouched touched label
 
--- the component of the cell to which the move leads is touched
+-- the component of the cell that the move leads to is touched
 abbrev pub TouchesBeside : Map → List (List Cell) → Cell → Move → List Bool → Type 0
 TouchesBeside map components cell by touched =
     (next : Cell) (label : ℕ) → IsTarget cell by next → IsInside map next → IsLabelOf components next label → IsTouched touched label
@@ -55,8 +55,8 @@ pub record AreTouched (map : Map) (components : List (List Cell)) (changed : Lis
 abbrev pub IsLoose : Plan → Cell → Type 0
 IsLoose plan cell = (label : ℕ) → IsLabelOf plan.components cell label → IsTouched plan.touched label
 
--- Untouched components are still components. Each passable cell is reached from a seed that is not after it, and what a
--- loose seed reaches are seeds.
+-- Untouched components are still components. Each passable cell is reached from a seed that does not come after it, and
+-- every cell that a loose seed reaches is a seed.
 pub record IsPlan (map : Map) (plan : Plan) : Type 0 where
   pub size : length plan.touched ≡ length plan.components
   pub kept : (label : ℕ) → label < length plan.components → slice_index_or plan.touched label false ≡ false
@@ -67,7 +67,7 @@ pub record IsPlan (map : Map) (plan : Plan) : Type 0 where
       → (seed : Cell) × Contains plan.seeds seed × Reaches map seed cell × (place_of map.width seed ≤ place_of map.width cell)
   pub whole : (seed cell : Cell) → Contains plan.seeds seed → IsLoose plan seed → Reaches map seed cell → Contains plan.seeds cell
 
--- the component of the cell before the edit, which the edit does not touch
+-- these cells are the cell's component before the edit, and the edit does not touch it
 pub record IsKept (plan : Plan) (cell : Cell) (cells : List Cell) : Type 0 where
   pub label : ℕ
   pub labels : IsLabelOf plan.components cell label
@@ -82,7 +82,7 @@ rank_of cell = 65536 * cell.y + cell.x
 abbrev pub AreRanks : Map → List ℕ → Type 0
 AreRanks map ranks = All (λ rank. (cell : Cell) × IsInside map cell × (rank ≡ rank_of cell)) ranks
 
--- no component is without cells
+-- no component is empty
 abbrev pub HaveCells : List (List Cell) → Type 0
 HaveCells components = (label : ℕ) → label < length components → 0 < length (slice_index_or components label [])
 
@@ -90,20 +90,20 @@ HaveCells components = (label : ℕ) → label < length components → 0 < lengt
 abbrev pub KeepsRanks : List ℕ → List ℕ → Type 0
 KeepsRanks old new = (rank : ℕ) → Contains old rank → Contains new rank
 
--- the ranks of those of the cells that are passable are there
+-- the ranks of the passable ones among the cells are in the list
 abbrev pub HasPassableOf : Map → List Cell → List ℕ → Type 0
 HasPassableOf map cells ranks =
     (cell : Cell) → Contains cells cell → IsPassable map cell → Contains ranks (rank_of cell)
 
--- the number at a place of the list is greater than those before it
+-- the number at a place of the list is greater than all those before it
 abbrev pub IsAboveAllBefore : List ℕ → ℕ → Type 0
 IsAboveAllBefore ranks i = (j : ℕ) → j < i → slice_index ranks j < slice_index ranks i
 
--- the number at a place of the list stands before that place too
+-- the number at a place of the list is also at a place before it
 abbrev pub StandsBefore : List ℕ → ℕ → Type 0
 StandsBefore ranks i = (j : ℕ) × (j < i) × (slice_index ranks j ≡ slice_index ranks i)
 
--- ranks of the first cells of untouched components and of all cells of the touched ones, up to a number
+-- ranks of the first cells of untouched components and of all cells of the touched ones, for the labels below a number
 pub record AreFormerRanks (components : List (List Cell)) (touched : List Bool) (number : ℕ) (ranks : List ℕ) : Type 0 where
   pub of_kept : (label : ℕ) → label < number → slice_index_or touched label false ≡ false
       → Contains ranks (rank_of (first_of (slice_index_or components label [])))

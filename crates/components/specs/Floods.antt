@@ -1,4 +1,4 @@
--- A flood by straight moves: each component gets its label from the first of its cells that is met.
+-- A flood by straight moves: each component gets its label from the first of its cells that the scan meets.
 use Rattle.std.specs.Prelude.{◌≡◌, ℕ, ◌+◌, ◌*◌, ◌==◌, ◌<◌, ◌≤◌, ◌⊎◌, true, false, IsFalse, List, filter, length, slice_index, slice_index_or}
 use Rattle.components.specs.declared.TheConstants.{UNLABELLED}
 use Rattle.moves.specs.declared.Cell.{Cell}
@@ -14,12 +14,12 @@ pub record IsFresh (map : Map) (marks : Marks) (cell : Cell) : Type 0 where
   pub passable : IsPassable map cell
   pub unlabelled : label_at map.width marks cell ≡ UNLABELLED
 
--- that terrain is the cell's, and it has no label yet
+-- the cell has that terrain and no label yet
 pub record IsFreshOf (map : Map) (class : Terrain) (marks : Marks) (cell : Cell) : Type 0 where
   pub terrain : terrain_of map cell ≡ class
   pub unlabelled : label_at map.width marks cell ≡ UNLABELLED
 
--- there is room for each passable cell, passable cells alone have labels, and the count is theirs
+-- there is room for each passable cell, only passable cells have labels, and `count` is their number
 pub record IsBalanced (map : Map) (marks : Marks) : Type 0 where
   pub places : length marks.labels ≡ map.width * map.height
   pub whole : length map.terrain ≡ map.width * map.height
@@ -29,7 +29,8 @@ pub record IsBalanced (map : Map) (marks : Marks) : Type 0 where
   pub passable : (place : ℕ) → place < length marks.labels → slice_index marks.labels place < UNLABELLED
       → slice_index_or (passable_of map) place false ≡ true
 
--- a cell that has the label and whose move was tried: its target got the label if it was fresh, and else all stayed
+-- the move was tried from a cell that has the label: its target got the label if it was fresh, and otherwise nothing
+-- changed
 abbrev pub Claimed : Map → ℕ → Cell → Move → Marks → Marks → Type 0
 Claimed map label from by old new =
     ((new ≡ old) × ((to : Cell) → IsLegal map from by to → label_at map.width old to < UNLABELLED))
@@ -40,8 +41,8 @@ abbrev pub IsSurrounded : Map → Marks → Cell → Type 0
 IsSurrounded map marks cell =
     (by : Move) (to : Cell) → IsFalse (is_diagonal by) → IsLegal map cell by to → label_at map.width marks to < UNLABELLED
 
--- The marks have grown from earlier ones by one component's label: the cells that got it are reached from its root,
--- and they stand in the queue from the earlier count on.
+-- The marks have grown from earlier ones by the label of one component: the cells that got it are reached from its
+-- root, and they are in the queue from the earlier count on.
 pub record IsSpread (map : Map) (label : ℕ) (root : Cell) (old new : Marks) : Type 0 where
   pub balanced : IsBalanced map new
   pub begun : label_at map.width new root ≡ label
@@ -54,7 +55,7 @@ pub record IsSpread (map : Map) (label : ℕ) (root : Cell) (old new : Marks) : 
   pub queue : (place : ℕ) (cell : Cell) → old.count ≤ place → place < new.count
       → IsInside map (slice_index_or new.found place cell) × (label_at map.width new (slice_index_or new.found place cell) ≡ label)
 
--- all labels are below the number; straight moves keep the label, and cells of one label are reached from each other
+-- all labels are below the number; straight moves keep the label, and cells with the same label reach each other
 pub record IsFlooded (map : Map) (number : ℕ) (marks : Marks) : Type 0 where
   pub balanced : IsBalanced map marks
   pub known : (place : ℕ) → place < length marks.labels
@@ -65,8 +66,8 @@ pub record IsFlooded (map : Map) (number : ℕ) (marks : Marks) : Type 0 where
   pub joined : (a b : Cell) → IsInside map a → IsInside map b → label_at map.width marks a < UNLABELLED
       → label_at map.width marks b ≡ label_at map.width marks a → Reaches map a b
 
--- All cells before a place have been tried: the passable ones have labels, each label below the number has a cell
--- among them, and before each labelled cell stands one of each smaller label.
+-- All cells before a place have been tried: the passable ones have labels, each label below the number has a cell among
+-- them, and a cell of each smaller label comes before each labelled cell.
 pub record IsScanned (map : Map) (place number : ℕ) (marks : Marks) : Type 0 where
   pub flooded : IsFlooded map number marks
   pub passed : (cell : Cell) → IsPassable map cell → place_of map.width cell < place → label_at map.width marks cell < UNLABELLED
@@ -82,7 +83,7 @@ pub record IsScanned (map : Map) (place number : ℕ) (marks : Marks) : Type 0 w
 abbrev pub labelled_among : ℕ → Marks → ℕ → List Cell → List Cell
 labelled_among width marks label cells = filter (λ c. label_at width marks c == label) cells
 
--- where each label's cells begin, one place to the right, and 0 before them
+-- where the cells of each label begin, one place to the right, with 0 in front
 pub record AreStarts (number : ℕ) (labels starts : List ℕ) : Type 0 where
   pub size : length starts ≡ number + 1
   pub first : slice_index starts 0 ≡ 0

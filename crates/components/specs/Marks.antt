@@ -3,7 +3,7 @@ use Rattle.std.specs.Prelude.{ℕ, ◌+◌, nat_lt, List, slice_index, slice_set
 use Rattle.moves.specs.declared.Cell.{Cell}
 use Rattle.moves.specs.Maps.{place_of}
 
--- the label of each place, and the cells that have one in the order in which they were found, as many as `count` says
+-- the label of each place, and the first `count` cells found, in that order, which are those with a label
 pub record Marks : Type 0 where
   pub labels : List ℕ
   pub found : List Cell
@@ -13,7 +13,7 @@ pub record Marks : Type 0 where
 abbrev pub label_at : ℕ → Marks → Cell → ℕ
 label_at width marks cell = slice_index marks.labels (place_of width cell)
 
--- one cell more is found, and gets that label
+-- one more cell is found, and gets that label
 abbrev pub with_mark : ℕ → Marks → Cell → ℕ → Marks
 with_mark width marks cell label =
     record {

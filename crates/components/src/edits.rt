@@ -1,4 +1,5 @@
-//! What an edit of a map leaves of its components, and the cells from which the others are flooded again.
+//! What an edit of a map leaves of its components, and the cells from which the rest is flooded
+//! again.
 
 ghost use Rattle.std.specs.Prelude.{◌≡◌, ℕ, ◌+◌, ◌*◌, ◌<◌, ◌≤◌, ◌++◌, [], map, take, length, slice_index, slice_index_or, Contains, IfOk, IfSome, IfNone, IsTrue, IsFalse, OnOk};
 ghost use Rattle.std.specs.List.Sorted.{IsNonDecreasing};
@@ -12,8 +13,9 @@ use moves::{Cell, Grid, Move};
 use std::alloc::{AllocError, Global};
 use std::marker::Model;
 
-/// The components before an edit, which of them it touches, and the cells from which to flood: the first cell of each
-/// component that is not touched, all cells of the touched ones, and the changed cells that are passable.
+/// The components before an edit, which of them it touches, and the cells from which to flood: the
+/// first cell of each untouched component, all cells of the touched ones, and the changed cells
+/// that are passable.
 #[derive(Drop)]
 pub(crate) struct Edit<'a> {
     labels: &'a Labels,
@@ -36,7 +38,7 @@ impl<'a> Model for Edit<'a> {
 }
 
 impl<'a> Edit<'a> {
-    /// What the changed cells mean for the components of the old map.
+    /// Returns what the changed cells mean for the components of the old map.
     pub(crate) fn of(
         alloc: Global,
         labels: &'a Labels,
@@ -63,7 +65,7 @@ impl<'a> Edit<'a> {
         })
     }
 
-    /// The cells of the cell's component, if it has one that the edit does not touch.
+    /// Returns the cells of the cell's component, if it has one that the edit does not touch.
     pub(crate) fn kept(&self, cell: Cell) -> Option<&[Cell]>
         requires { length self.now.touched ≡ length self.now.components }
         ensures some { IfSome result (λ cells. IsKept self.now cell cells.now) }
@@ -81,7 +83,7 @@ impl<'a> Edit<'a> {
         }
     }
 
-    /// The cells from which to flood.
+    /// Returns the cells from which to flood.
     pub(crate) fn seeds(&self) -> &[Cell]
         ensures { result.now ≡ self.now.seeds }
     {
@@ -89,7 +91,7 @@ impl<'a> Edit<'a> {
     }
 }
 
-/// Those of the cells at which something else stands in the one map than in the other.
+/// Returns those of the cells whose terrain differs in the two maps.
 fn differing(
     alloc: Global,
     old: &Grid,
@@ -109,7 +111,7 @@ fn differing(
     Ok(cells)
 }
 
-/// Whether something else stands at the cell in the one map than in the other.
+/// Returns whether the terrain of the cell differs in the two maps.
 fn differ(old: &Grid, new: &Grid, cell: Cell) -> bool
     requires { HaveSameSides old.now new.now }
     ensures { IsFalse result → IsInside old.now cell
@@ -118,7 +120,7 @@ fn differ(old: &Grid, new: &Grid, cell: Cell) -> bool
     old.terrain(cell) != new.terrain(cell)
 }
 
-/// For each component, whether one of the cells is in it or beside it.
+/// Returns, for each component, whether one of the cells is in it or beside it.
 fn touched_by(
     alloc: Global,
     labels: &Labels,
@@ -173,7 +175,8 @@ fn touch(labels: &Labels, cell: Cell, touched: &mut [bool])
     }
 }
 
-/// The ranks of the first cells of untouched components and of all cells of the touched ones.
+/// Returns the ranks of the first cells of untouched components and of all cells of the touched
+/// ones.
 fn former_ranks(alloc: Global, labels: &Labels, touched: &[bool]) -> Result<Vec<u32>, AllocError>
     requires size { length touched.now ≡ length labels.now }
     requires some { HaveCells labels.now }
@@ -188,7 +191,7 @@ fn former_ranks(alloc: Global, labels: &Labels, touched: &[bool]) -> Result<Vec<
     Ok(ranks)
 }
 
-/// All of the cells, or the first alone.
+/// Returns all of the cells, or only the first.
 fn whole_or_first(cells: &[Cell], whole: bool) -> &[Cell]
     requires { 0 < length cells.now }
     ensures whole { IsTrue whole → result.now ≡ cells.now }
@@ -207,7 +210,7 @@ fn push_ranks(cells: &[Cell], ranks: &mut Vec<u32>) -> Result<(), AllocError>
     Ok(())
 }
 
-/// Appends the ranks of those cells that are passable.
+/// Appends the ranks of the passable ones among the cells.
 fn push_passable(grid: &Grid, cells: &[Cell], ranks: &mut Vec<u32>) -> Result<(), AllocError>
     ensures kept { OnOk result (KeepsRanks ranks.old.items ranks.new.items) }
     ensures more { OnOk result (HasPassableOf grid.now cells.now ranks.new.items) }
@@ -222,14 +225,14 @@ fn push_passable(grid: &Grid, cells: &[Cell], ranks: &mut Vec<u32>) -> Result<()
     Ok(())
 }
 
-/// The rank of a cell in row-major order, whatever the width.
+/// Returns the rank of a cell in row-major order, whatever the width.
 fn rank(cell: Cell) -> u32
     ensures { result ≡ rank_of cell }
 {
     u32::from(cell.y) * 65_536 + u32::from(cell.x)
 }
 
-/// The cells with these ranks, each once.
+/// Returns the cells with these ranks, each once.
 fn cells_of(alloc: Global, ranks: &[u32]) -> Result<Vec<Cell>, AllocError>
     requires { IsNonDecreasing ranks.now }
     ensures { IfOk result (λ cells. AreCellsOf ranks.now cells.items) }
@@ -244,7 +247,7 @@ fn cells_of(alloc: Global, ranks: &[u32]) -> Result<Vec<Cell>, AllocError>
     Ok(cells)
 }
 
-/// Whether the rank is greater than those before it, and not the same as one of them.
+/// Returns whether the rank is greater than all those before it. Otherwise it equals one of them.
 fn is_new(ranks: &[u32], i: usize) -> bool
     requires within { i < length ranks.now }
     requires order { IsNonDecreasing ranks.now }

@@ -1,4 +1,4 @@
-//! The flood: cells get labels, each component one of its own.
+//! A flood gives cells labels, a different one for each component.
 
 ghost use Rattle.std.specs.Prelude.{◌≡◌, ℕ, ◌+◌, ◌-◌, ◌*◌, vec_len, ◌<◌, ◌≤◌, ◌↔◌, List, length, replicate, IsTrue, IsFalse, IfOk, IfSome, IfNone};
 ghost use Rattle.moves.specs.Maps.{IsWithinLimits, IsInside, IsPassable, passable_count, place_of, terrain_of};
@@ -16,9 +16,9 @@ use std::marker::Model;
 pub(crate) struct Flood {
     /// The label of each place, row by row.
     pub(crate) labels: Vec<u32>,
-    /// The cells that have a label in the order in which they were found, and room for the others.
+    /// The labelled cells in the order in which they were found, and room for the others.
     pub(crate) found: Vec<Cell>,
-    /// How many cells have a label.
+    /// The number of labelled cells.
     count: usize,
 }
 
@@ -32,7 +32,7 @@ impl Model for Flood {
 }
 
 impl Flood {
-    /// Nothing is labelled, and the memory for labels and cells is taken.
+    /// Takes the memory for labels and cells. Nothing is labelled yet.
     pub(crate) fn new(alloc: Global, grid: &Grid) -> Result<Flood, AllocError>
         ensures { IfOk result (λ flood. IsScanned grid.now 0 0 flood) }
     {
@@ -44,7 +44,7 @@ impl Flood {
         })
     }
 
-    /// The labels row by row, and the cells found.
+    /// Returns the labels, row by row, and the cells found.
     pub(crate) fn into_parts(self) -> (Vec<u32>, Vec<Cell>)
         ensures labels { result.0.items ≡ self.labels }
         ensures found { result.1.items ≡ self.found }
@@ -65,7 +65,7 @@ impl Flood {
         self.count += 1;
     }
 
-    /// Whether the cell is passable and has no label yet.
+    /// Returns whether the cell is passable and has no label yet.
     pub(crate) fn is_fresh(&self, grid: &Grid, cell: Cell) -> bool
         requires inside { IsInside grid.now cell }
         requires labels { length self.now.labels ≡ grid.now.width * grid.now.height }
@@ -74,7 +74,7 @@ impl Flood {
         self.labels[place(grid, cell)] == UNLABELLED && grid.passable(cell)
     }
 
-    /// Whether that is the cell's terrain, and it has no label yet.
+    /// Returns whether the cell has that terrain and no label yet.
     fn is_fresh_of(&self, grid: &Grid, class: Terrain, cell: Cell) -> bool
         requires inside { IsInside grid.now cell }
         requires labels { length self.now.labels ≡ grid.now.width * grid.now.height }
@@ -83,8 +83,8 @@ impl Flood {
         self.labels[place(grid, cell)] == UNLABELLED && grid.terrain(cell) == class
     }
 
-    /// Gives the label to the cell that the move leads to, if it has none yet and is of the same class: land where the
-    /// move leaves land, water where it leaves water.
+    /// Gives the label to the cell that the move leads to, if it has none yet and is of the same
+    /// class: land if the move leaves land, water if it leaves water.
     fn claim(&mut self, grid: &Grid, class: Terrain, from: Cell, by: Move, label: u32)
         requires from { IsPassable grid.now from }
         requires class { class ≡ terrain_of grid.now from }
@@ -101,7 +101,7 @@ impl Flood {
         }
     }
 
-    /// Gives the label to all that straight moves reach from the root.
+    /// Gives the label to all cells that straight moves reach from the root.
     pub(crate) fn spread(&mut self, grid: &Grid, root: Cell, label: u32)
         requires root { IsFresh grid.now self.old root }
         requires label { label < UNLABELLED }
@@ -122,8 +122,9 @@ impl Flood {
         }
     }
 
-    /// Labels each component in the order of their first cells, and lists where the cells of each begin among the
-    /// cells found, one place to the right: the list has one number more than there are components.
+    /// Labels the components in the order of their first cells, and returns where each one's cells
+    /// begin among the cells found, one place to the right: the list has one number more than there
+    /// are components.
     pub(crate) fn scan(&mut self, alloc: Global, grid: &Grid) -> Result<Vec<u32>, AllocError>
         requires { IsScanned grid.now 0 0 self.old }
         ensures scanned { IfOk result (λ starts.
@@ -147,7 +148,7 @@ impl Flood {
     }
 }
 
-/// The cell's place in a list that goes row by row.
+/// Returns the cell's place in a list that goes row by row.
 pub(crate) fn place(grid: &Grid, cell: Cell) -> usize
     requires { IsInside grid.now cell }
     ensures place { result ≡ place_of grid.now.width cell }

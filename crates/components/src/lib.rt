@@ -1,8 +1,9 @@
-//! The connected components of a map: which cells paths join.
+//! The connected components of a map: the cells that paths join.
 //!
-//! No legal move cuts a corner, so the components are those by straight moves, and one flood by straight moves finds
-//! each. None leads from land to water or back, so each component is all land or all water. They are numbered by their
-//! least cells in row-major order, those of land and of water together.
+//! No legal move cuts a corner, so straight moves alone give the same components, and one flood by
+//! straight moves finds each. No move leads from land to water or back, so each component is all
+//! land or all water. Components are numbered by their least cells in row-major order, land and
+//! water together.
 #![tactic(auto)]
 
 ghost use Rattle.std.specs.Prelude.{◌≡◌, ℕ, ◌+◌, ◌<◌, ◌≤◌, [], length, slice_index_or, IfOk, IfSome, IfNone};
@@ -33,7 +34,8 @@ pub struct Labels {
     height: u32,
     /// The label of each place, row by row.
     labels: Vec<u32>,
-    /// Where the cells of each component begin among the cells, and where the last one's end.
+    /// Where the cells of each component begin among the cells, and where those of the last one
+    /// end.
     starts: Vec<u32>,
     /// The cells, component by component.
     cells: Vec<Cell>,
@@ -51,11 +53,11 @@ impl Model for Labels {
     ghost invariant = { λ l. IsWhole l.width l.height l.labels.items l.starts.items l.cells.items };
 }
 
-/// The components of a map.
+/// Returns the components of a map.
 ///
 /// # Errors
 ///
-/// `AllocError` where memory runs out.
+/// `AllocError` if memory runs out.
 pub fn label(alloc: Global, grid: &Grid) -> Result<Labels, AllocError>
     ensures { IfOk result (λ labels. IsComponentList grid.now labels) }
 {
@@ -73,12 +75,13 @@ pub fn label(alloc: Global, grid: &Grid) -> Result<Labels, AllocError>
     })
 }
 
-/// The components of a map after an edit, from those before it. Components that no changed cell touches keep their
-/// cells, and the others alone are flooded again: `changed` has every cell whose terrain differs in the two maps.
+/// Returns the components of a map after an edit, from those before it. Components that no changed
+/// cell touches keep their cells, and only the others are flooded again. `changed` must have every
+/// cell whose terrain differs in the two maps.
 ///
 /// # Errors
 ///
-/// `AllocError` where memory runs out.
+/// `AllocError` if memory runs out.
 pub fn relabel(
     alloc: Global,
     labels: &Labels,
@@ -106,15 +109,15 @@ pub fn relabel(
 }
 
 impl Labels {
-    /// How many components there are.
+    /// Returns the number of components.
     pub fn count(&self) -> u32
         ensures { result ≡ length self.now }
     {
         self.starts.len() as u32 - 1
     }
 
-    /// The number of the component that has the cell; `None` exactly where none has it: for a blocked cell or one
-    /// outside ([`labels_are_where_passable`]).
+    /// Returns the number of the component that has the cell, and `None` exactly when none has it:
+    /// for a blocked cell or one outside ([`labels_are_where_passable`]).
     pub fn of(&self, cell: Cell) -> Option<u32>
         ensures some { IfSome result (λ label. IsLabelOf self.now cell label) }
         ensures none { IfNone result ((label : ℕ) → IsLabelOf self.now cell label → ⊥) }
@@ -132,7 +135,7 @@ impl Labels {
         }
     }
 
-    /// The cells of a component in row-major order.
+    /// Returns the cells of a component in row-major order.
     pub fn cells(&self, label: u32) -> &[Cell]
         requires { label < length self.now }
         ensures { result.now ≡ slice_index_or self.now label [] }
@@ -143,13 +146,13 @@ impl Labels {
     }
 }
 
-/// The law of labels: in the components of a map the cells that have a number are the passable ones. So where the
-/// components are a map's, [`Labels::of`] is `None` exactly for a blocked cell or one outside.
+/// The law of labels: in the components of a map, exactly the passable cells have a number. So if
+/// the components are a map's, [`Labels::of`] is `None` exactly for a blocked cell or one outside.
 pub fn labels_are_where_passable()
     ensures { LabelsAreWherePassable }
 {}
 
-/// The next cell in row-major order.
+/// Returns the next cell in row-major order.
 fn after(cell: Cell, width: u32) -> Cell
     requires column { cell.x < width }
     requires width { width ≤ MAX_SIDE }

@@ -1,4 +1,4 @@
-//! The flood after an edit: components that the edit does not touch are taken over, and the others are flooded again.
+//! The flood after an edit: untouched components are kept, and the others are flooded again.
 
 ghost use Rattle.std.specs.Prelude.{◌≡◌, ℕ, ◌+◌, ◌-◌, ◌*◌, ◌<◌, ◌≤◌, ◌==◌, ◌++◌, vec_len, length, filter, All, Contains, IfOk, OnOk};
 ghost use Rattle.moves.specs.Maps.{IsWithinLimits, IsInside};
@@ -14,8 +14,9 @@ use moves::{Cell, Grid};
 use std::alloc::{AllocError, Global};
 
 impl Flood {
-    /// Labels the components that begin at the seeds, in their order. It gives where each component's cells begin among
-    /// all cells, and where the last one's end, and the cells, component by component and row by row.
+    /// Labels the components that begin at the seeds, in their order. Returns where each
+    /// component's cells begin among all cells and where those of the last one end, and the cells,
+    /// component by component and row by row.
     pub(crate) fn regrow(
         &mut self,
         alloc: Global,
@@ -46,7 +47,7 @@ impl Flood {
         Ok((starts, cells))
     }
 
-    /// Gives the label to the component of the root, and appends its cells row by row.
+    /// Gives the label to the root's component, and appends its cells row by row.
     fn grow(
         &mut self,
         grid: &Grid,
@@ -95,7 +96,7 @@ impl Flood {
         Ok(())
     }
 
-    /// Floods from the root, and appends the cells among these that got the label.
+    /// Floods from the root, and appends the cells of `among` that got the label.
     fn flood_again(
         &mut self,
         grid: &Grid,

@@ -12,15 +12,15 @@ pub record HasSameSides (map other : Map) : Type 0 where
   pub height : other.height ≡ map.height
   pub cells : length other.terrain ≡ length map.terrain
 
--- edits keep the sides of a map, so what lies inside goes on to lie inside
+-- edits keep the sides of a map, so cells inside it stay inside
 abbrev pub EditsKeepSides : Type 0
 EditsKeepSides = (map : Map) (edits : List Edit) → HasSameSides map (map_after map edits)
 
--- the map after edits and more edits is the map after the latter, made at the map after the former
+-- the map after some edits and then more is the map after the first ones, changed by the rest
 abbrev pub EditsGoOn : Type 0
 EditsGoOn = (map : Map) (edits more : List Edit) → map_after map (edits ++ more) ≡ map_after (map_after map edits) more
 
--- an edit has one verdict at a map: it is accepted or refused and not both, and there is one cause
+-- an edit has only one verdict on a map: it is not both accepted and refused, and it is refused for only one reason
 pub record HasOneVerdict (map : Map) (accepted : ℕ) (edit : Edit) : Type 0 where
   pub refused : (cause : EditRefusal) → IsRefusal map accepted edit cause → MayBeAccepted map accepted edit → ⊥
   pub once : (one other : EditRefusal) → IsRefusal map accepted edit one → IsRefusal map accepted edit other → one ≡ other

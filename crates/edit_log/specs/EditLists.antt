@@ -4,7 +4,7 @@ use Rattle.edit_log.specs.declared.TheConstants.{MAX_CHANGES}
 use Rattle.edit_log.specs.declared.edit.CellChange.{CellChange}
 use Rattle.edit_log.specs.declared.edit.Edit.{Edit}
 
--- the edits in their order, and how many more can be pushed without memory
+-- the edits in order, and how many more can be pushed without taking memory
 pub record EditLog : Type 0 where
   pub edits : List Edit
   pub spare : ℕ
@@ -13,18 +13,17 @@ pub record EditLog : Type 0 where
 abbrev pub edit_list : List Edit → ℕ → EditLog
 edit_list edits spare = record { edits = edits; spare = spare }
 
--- the edits of which these are the changes, one after the other: where each one ends is known, and where the first one
--- begins
+-- the edits that these changes make up, one after another, given where the first one begins and where each one ends
 abbrev pub edits_between : ℕ → List ℕ → List CellChange → List Edit
 edits_between from [] changes = []
 edits_between from (end ∷ ends) changes = take (end - from) changes ∷ edits_between end ends (drop (end - from) changes)
 
--- each edit has 1 to 64 changes, and the last one ends with them
+-- each edit has 1 to 64 changes, and the last one ends with the last change
 abbrev pub AreEnds : ℕ → List ℕ → ℕ → Type 0
 AreEnds from [] last = from ≡ last
 AreEnds from (end ∷ ends) last = (from < end) × (end ≤ from + MAX_CHANGES) × AreEnds end ends last
 
--- how it is stored: memory is held for so many edits of 64 changes, as many as can be counted
+-- how it is stored: memory is reserved for `room` edits of up to 64 changes, and all changes can be counted
 pub record IsStored (changes : List CellChange) (ends : List ℕ) (room changes_taken ends_taken : ℕ) : Type 0 where
   pub cut : AreEnds 0 ends (length changes)
   pub held : length ends ≤ room

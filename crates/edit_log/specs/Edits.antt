@@ -13,18 +13,18 @@ changed map change = with_terrain map change.cell change.terrain
 abbrev pub edited : Map → Edit → Map
 edited map edit = fold changed map edit
 
--- the map after edits, one after the other
+-- the map after edits, one after another
 abbrev pub map_after : Map → List Edit → Map
 map_after map edits = fold edited map edits
 
--- each changed cell lies inside the map
+-- each changed cell is inside the map
 abbrev pub ChangesInside : Map → Edit → Type 0
 ChangesInside map edit = All (λ change. IsInside map change.cell) edit
 
--- so does each cell that one of these edits changes
+-- each cell that one of these edits changes is inside the map
 abbrev pub EditsInside : Map → List Edit → Type 0
 EditsInside map edits = All (ChangesInside map) edits
 
--- no two changes of the edit name one cell
+-- no two changes of the edit name the same cell
 abbrev pub HasNoRepeats : Edit → Type 0
 HasNoRepeats edit = AllPairs (λ change other. other.cell ≢ change.cell) edit

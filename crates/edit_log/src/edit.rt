@@ -14,18 +14,18 @@ use std::marker::Model;
 pub struct CellChange {
     /// The cell.
     pub cell: Cell,
-    /// What stands there from then on.
+    /// What it becomes.
     pub terrain: Terrain,
 }
 
-/// What stands in an edit past its changes.
+/// Fills an edit past its changes.
 const NO_CHANGE: CellChange = CellChange {
     cell: Cell { x: 0, y: 0 },
     terrain: Terrain::Blocked,
 };
 
-/// An edit: 1 to [`MAX_CHANGES`] changes of cells that are made together, so that no map is seen with a part of them.
-/// Contracts see the list of its changes.
+/// An edit: 1 to [`MAX_CHANGES`] changes of cells, made together, so that no map is seen with only
+/// some of them. Contracts see the list of its changes.
 #[derive(Clone, Copy, Debug, PartialEq, Eq)]
 pub struct Edit {
     changes: [CellChange; MAX_CHANGES],
@@ -50,7 +50,7 @@ impl Model for Edit {
 }
 
 impl Edit {
-    /// The edit of that one change.
+    /// Returns the edit of that one change.
     pub fn one(change: CellChange) -> Edit
         ensures { result ≡ change ∷ [] }
     {
@@ -59,7 +59,8 @@ impl Edit {
         Edit { changes, count: 1 }
     }
 
-    /// The edit of these changes, in their order; `None` exactly where there are none or more than [`MAX_CHANGES`].
+    /// Returns the edit of these changes in order, or `None` if there are none or more than
+    /// [`MAX_CHANGES`].
     pub fn of(changes: &[CellChange]) -> Option<Edit>
         ensures edit { IfSome result (λ edit. edit ≡ changes.now) }
         ensures some { IsSome result ↔ (1 ≤ length changes.now) × (length changes.now ≤ MAX_CHANGES) }
@@ -75,7 +76,7 @@ impl Edit {
         })
     }
 
-    /// The changes, in their order.
+    /// Returns the changes in order.
     pub fn changes(&self) -> &[CellChange]
         ensures changes { result.now ≡ self.now }
         ensures some { 1 ≤ length self.now }
@@ -93,7 +94,7 @@ impl Edit {
     }
 }
 
-/// Makes the changes, one after the other. The other cells stay as they are.
+/// Makes the changes, one after another. The other cells stay as they are.
 pub(crate) fn make(changes: &[CellChange], grid: &mut Grid)
     requires inside { ChangesInside grid.old changes.now }
     ensures { grid.new ≡ edited grid.old changes.now }

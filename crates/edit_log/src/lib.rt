@@ -1,4 +1,5 @@
-//! Edits of a map: what an edit is, when it is accepted, the log of those that are, and the map after them.
+//! Edits of a map: what an edit is, when it is accepted, the log of accepted edits, and the map
+//! after them.
 #![tactic(auto)]
 
 pub mod edit;
@@ -10,7 +11,7 @@ pub use edit::{CellChange, Edit};
 pub use list::{EditList, apply};
 pub use verdict::{EditRefusal, check};
 
-/// The most changes that an edit has.
+/// The most changes that an edit may have.
 pub const MAX_CHANGES: usize = 64;
 
 /// The most edits that a log accepts.

@@ -13,19 +13,21 @@ use moves::Grid;
 use std::alloc::{AllocError, Global};
 use std::marker::Model;
 
-/// The most edits that a list has: so many that all their changes can be counted.
+/// The most edits that a list may have, so that all their changes can be counted.
 const MAX_LEN: usize = u32::MAX as usize / MAX_CHANGES;
 
-/// A list of edits, of at most 67,108,863. Contracts see the edits, and how many more can be pushed without memory.
+/// A list of at most 67,108,863 edits. Contracts see the edits, and how many more can be pushed
+/// without taking memory.
 ///
-/// An edit of one change takes ten bytes. Memory that is held for further ones is not written before they are pushed.
+/// An edit of one change takes ten bytes. Memory reserved for more edits is not written before they
+/// are pushed.
 #[derive(Debug, Drop)]
 pub struct EditList {
-    /// The changes of all edits, one edit after the other.
+    /// The changes of all edits, one edit after another.
     changes: Vec<CellChange>,
-    /// How many of the changes are those of an edit and the ones before it.
+    /// For each edit, the number of changes in it and the edits before it.
     ends: Vec<u32>,
-    /// For how many edits memory is held.
+    /// The number of edits for which memory is reserved.
     room: u32,
 }
 
@@ -43,7 +45,7 @@ impl Model for EditList {
 }
 
 impl EditList {
-    /// The empty list. It takes no memory.
+    /// Returns the empty list. It takes no memory.
     pub fn new(alloc: Global) -> EditList
         ensures { result ≡ edit_list [] 0 }
     {
@@ -54,11 +56,11 @@ impl EditList {
         }
     }
 
-    /// Sees to it that one edit can be pushed without memory. It takes none where that is so already.
+    /// Reserves memory to push one edit. It takes none if enough is already reserved.
     ///
     /// # Errors
     ///
-    /// `AllocError` where memory runs out, or the list would be longer than can be counted.
+    /// `AllocError` if memory runs out, or the list would be longer than can be counted.
     pub fn reserve_one(&mut self) -> Result<(), AllocError>
         ensures edits { self.new.edits ≡ self.old.edits }
         ensures room { OnOk result (self.new.spare ≡ max self.old.spare 1) }
@@ -68,12 +70,12 @@ impl EditList {
         self.reserve(1)
     }
 
-    /// Sees to it that so many edits can be pushed without memory, whatever their sizes. It takes none where that is so
-    /// already.
+    /// Reserves memory to push `count` edits of any size. It takes none if enough is already
+    /// reserved.
     ///
     /// # Errors
     ///
-    /// `AllocError` where memory runs out, or the list would be longer than can be counted.
+    /// `AllocError` if memory runs out, or the list would be longer than can be counted.
     pub fn reserve(&mut self, count: u32) -> Result<(), AllocError>
         ensures edits { self.new.edits ≡ self.old.edits }
         ensures room { OnOk result (self.new.spare ≡ max self.old.spare count) }
@@ -112,21 +114,21 @@ impl EditList {
         self.ends.push_reserved(self.changes.len() as u32);
     }
 
-    /// How many edits there are.
+    /// Returns the number of edits.
     pub fn len(&self) -> u32
         ensures { result ≡ length self.now.edits }
     {
         self.ends.len() as u32
     }
 
-    /// Whether there are none.
+    /// Returns whether there are no edits.
     pub fn is_empty(&self) -> bool
         ensures { result ≡ (length self.now.edits == 0) }
     {
         self.ends.is_empty()
     }
 
-    /// The edit at that place; `None` exactly past the end.
+    /// Returns the edit at that place, or `None` past the end.
     pub fn get(&self, place: u32) -> Option<Edit>
         ensures { result ≡ slice_get self.now.edits place }
     {
@@ -136,20 +138,21 @@ impl EditList {
         Edit::of(self.changes_at(place))
     }
 
-    /// The changes of the edit at that place, which is below the end.
+    /// Returns the changes of the edit at that place, which must be before the end.
     pub fn changes_at(&self, place: u32) -> &[CellChange]
         requires { place < length self.now.edits }
         ensures changes { result.now ≡ slice_index_or self.now.edits place [] }
         ensures some { 1 ≤ length result.now }
         ensures few { length result.now ≤ MAX_CHANGES }
     {
-        // That each edit has some changes and not too many is known from here.
+        // From here it is known that each edit has some changes and not too many.
         let _ends = &self.ends;
         let place = place as usize;
         part(self.changes(), self.start(place), self.start(place + 1))
     }
 
-    /// Where the changes of the edit at that place begin among all changes; at the end, where they end.
+    /// Returns where the changes of the edit at that place begin among all changes, or at the end,
+    /// where they end.
     fn start(&self, place: usize) -> usize
         requires { place ≤ length self.now.edits }
         ensures { result ≡ length (flat_map (λ edit. edit) (take place self.now.edits)) }
@@ -160,18 +163,18 @@ impl EditList {
         }
     }
 
-    /// The changes of all edits, one edit after the other.
+    /// Returns the changes of all edits, one edit after another.
     pub fn changes(&self) -> &[CellChange]
         ensures { result.now ≡ flat_map (λ edit. edit) self.now.edits }
     {
         self.changes.as_slice()
     }
 
-    /// A list of the edits from that place on. Where the place is the end it takes no memory.
+    /// Returns a list of the edits from that place on. If the place is the end, it takes no memory.
     ///
     /// # Errors
     ///
-    /// `AllocError` where memory runs out.
+    /// `AllocError` if memory runs out.
     pub fn tail(&self, place: u32) -> Result<EditList, AllocError>
         requires { place ≤ length self.now.edits }
         ensures edits { IfOk result (λ list. list.edits ≡ drop place self.now.edits) }
@@ -186,7 +189,7 @@ impl EditList {
     }
 }
 
-/// The changes from one place on up to another.
+/// Returns the changes from `start` up to but not including `end`.
 fn part(changes: &[CellChange], start: usize, end: usize) -> &[CellChange]
     requires rises { start ≤ end }
     requires within { end ≤ length changes.now }
@@ -195,7 +198,7 @@ fn part(changes: &[CellChange], start: usize, end: usize) -> &[CellChange]
     &changes[start..end]
 }
 
-/// Makes the edits, one after the other.
+/// Makes the edits, one after another.
 pub fn apply(grid: &mut Grid, edits: &EditList)
     requires inside { EditsInside grid.old edits.now.edits }
     ensures { grid.new ≡ map_after grid.old edits.now.edits }

@@ -11,16 +11,16 @@ use crate::edit::{CellChange, Edit};
 use moves::{Cell, Grid, MAX_PASSABLE};
 use std::fmt;
 
-/// Why an edit is refused, by cases in their order.
+/// Why an edit is refused, as cases tried in order.
 #[derive(Clone, Copy, Debug, PartialEq, Eq)]
 pub enum EditRefusal {
-    /// A cell of the edit does not lie inside the map.
+    /// A cell of the edit is outside the map.
     Outside,
-    /// Two changes of the edit name one cell.
+    /// Two changes of the edit name the same cell.
     Repeated,
     /// The map after the whole edit would have more passable cells than a search has room for.
     TooManyCells,
-    /// As many edits as a log accepts were accepted before.
+    /// The log already has as many edits as it accepts.
     EditsFull,
 }
 
@@ -40,11 +40,12 @@ impl fmt::Display for EditRefusal {
     }
 }
 
-/// Whether the edit may be accepted at a map after so many accepted edits. No map is copied or counted anew.
+/// Checks whether the edit may be accepted on a map after `accepted` edits. The map is not copied,
+/// and its cells are not counted again.
 ///
 /// # Errors
 ///
-/// The first cause to refuse it.
+/// The first reason to refuse the edit.
 pub fn check(grid: &Grid, accepted: u32, edit: &Edit) -> Result<(), EditRefusal>
     ensures accepted { OnOk result (MayBeAccepted grid.now accepted edit.now) }
     ensures refused { IfErr result (IsRefusal grid.now accepted edit.now) }
@@ -65,14 +66,14 @@ pub fn check(grid: &Grid, accepted: u32, edit: &Edit) -> Result<(), EditRefusal>
     Ok(())
 }
 
-/// Whether each changed cell lies inside the map.
+/// Returns whether each changed cell is inside the map.
 fn are_inside(changes: &[CellChange], grid: &Grid) -> bool
     ensures { IsTrue result ↔ ChangesInside grid.now changes.now }
 {
     changes.iter().all(|change| grid.inside(change.cell))
 }
 
-/// Whether no two changes name one cell.
+/// Returns whether no two changes name the same cell.
 fn names_each_once(changes: &[CellChange]) -> bool
     ensures { IsTrue result ↔ HasNoRepeats changes.now }
 {
@@ -84,21 +85,22 @@ fn names_each_once(changes: &[CellChange]) -> bool
     true
 }
 
-/// Whether none of these changes names the cell.
+/// Returns whether none of these changes names the cell.
 fn is_new(cell: Cell, changes: &[CellChange]) -> bool
     ensures { IsTrue result ↔ All (λ change. cell ≢ change.cell) changes.now }
 {
     changes.iter().all(|change| change.cell != cell)
 }
 
-/// Whether a search has room for the passable cells of the map after all these changes, which name each cell once.
+/// Returns whether a search has room for the passable cells of the map after all these changes, no
+/// two of which may name the same cell.
 fn leaves_few(changes: &[CellChange], grid: &Grid) -> bool
     requires inside { ChangesInside grid.now changes.now }
     requires once { HasNoRepeats changes.now }
     requires few { length changes.now ≤ MAX_CHANGES }
     ensures { IsTrue result ↔ IsSearchable (edited grid.now changes.now) }
 {
-    // That the map has as many cells as its sides say is known from here.
+    // From here it is known that the map has as many cells as its sides say.
     grid.width();
     let mut lost = 0;
     let mut gained = 0;

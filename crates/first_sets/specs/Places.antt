@@ -7,7 +7,7 @@ use Rattle.moves.specs.Moves.{number_of}
 use Rattle.moves.specs.MoveSets.{Has}
 use Rattle.grid_search.specs.Keys.{move_key}
 
--- the move leads from the one place to the other, in rows of that width
+-- the move leads from one place to the other, in rows of that width
 abbrev pub IsBeside : ℕ → Move → ℕ → ℕ → Type 0
 IsBeside width N from to = to + width ≡ from
 IsBeside width NE from to = to + width ≡ from + 1
@@ -18,7 +18,7 @@ IsBeside width SW from to = to + 1 ≡ from + width
 IsBeside width W from to = to + 1 ≡ from
 IsBeside width NW from to = to + width + 1 ≡ from
 
--- what is to be added to a place for each move, modulo 2^64
+-- what each move adds to a place, modulo 2^64
 abbrev pub AreDistances : ℕ → List ℕ → Type 0
 AreDistances width distances = (by : Move) (from to : ℕ) → to < 2 ^ 64 → IsBeside width by from to
     → (from + slice_index distances (number_of by)) % 2 ^ 64 ≡ to
@@ -27,24 +27,24 @@ AreDistances width distances = (by : Move) (from to : ℕ) → to < 2 ^ 64 → I
 abbrev pub StaysWithin : ℕ → ℕ → ℕ → ℕ → Type 0
 StaysWithin width size legal place = (by : Move) → Has legal by → (to : ℕ) × IsBeside width by place to × (to < size)
 
--- the move stands in the set at the place already, or in the set at a place beside it, from which a step attains the key
+-- the move is in the set at the place already, or in the set at a place beside it from which a step attains the key
 abbrev pub IsBroughtTo : ℕ → List ℕ → List ℕ → ℕ → ℕ → Move → Type 0
 IsBroughtTo width keys sets legal place move =
     Has (slice_index sets place) move
     ⊎ ((by : Move) × (from : ℕ) × Has legal by × IsBeside width by place from
     × (slice_index keys from + move_key by ≡ slice_index keys place) × Has (slice_index sets from) move)
 
--- the set has just the moves that are brought to that place
+-- the set has exactly the moves that are brought to that place
 abbrev pub IsJoined : ℕ → List ℕ → List ℕ → ℕ → ℕ → ℕ → Type 0
 IsJoined width keys sets legal place set = (move : Move) → Has set move ↔ IsBroughtTo width keys sets legal place move
 
--- where the move with that number is legal, it leads from the one place to the other; a place is a number below 2^64
+-- if the move with that number is legal, it leads from one place to the other; a place is a number below 2^64
 abbrev pub LeadsThere : ℕ → ℕ → ℕ → ℕ → ℕ → Type 0
 LeadsThere width legal number place there =
     (by : Move) (to : ℕ) → number_of by ≡ number → Has legal by → IsBeside width by place to → to < 2 ^ 64
     → there ≡ to
 
--- where the move with that number is not legal, it leads nowhere else
+-- if the move with that number is not legal, the place stays the same
 abbrev pub StaysElse : ℕ → ℕ → ℕ → ℕ → Type 0
 StaysElse legal number place there = (by : Move) → number_of by ≡ number → (Has legal by → ⊥) → there ≡ place
 
@@ -57,8 +57,8 @@ AreBeside width place around = (by : Move) (to : ℕ) → IsBeside width by plac
 abbrev pub IsStepKey : ℕ → ℕ → Type 0
 IsStepKey number key = (by : Move) → number_of by ≡ number → key ≡ move_key by
 
--- What joining sets at a place asks for: as many sets as keys, no more than a map has cells, and each legal move leads to
--- one of them.
+-- What joining sets at a place requires: at least as many sets as keys, no more keys than a map has cells, and each
+-- legal move leading to one of them.
 pub record CanJoin (width : ℕ) (keys sets : List ℕ) (legal place : ℕ) : Type 0 where
   pub inside : place < length keys
   pub size : length keys ≤ MAX_CELLS

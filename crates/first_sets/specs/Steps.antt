@@ -1,4 +1,4 @@
--- Which sets a set is made of.
+-- The sets that a set is made from.
 use Rattle.std.specs.Prelude.{◌≡◌, ◌≢◌, ℕ, ◌*◌, ◌<◌, ◌≤◌, ◌⊎◌, ◌↔◌, Bool, List, Some, slice_index, slice_index_or}
 use Rattle.root_cost.specs.declared.Cost.{Cost}
 use Rattle.root_cost.specs.Costs.{plus_step}
@@ -11,12 +11,12 @@ use Rattle.moves.specs.FirstSets.{IsFirstMove}
 use Rattle.moves.specs.CostTables.{after_step}
 use Rattle.grid_search.specs.Searches.{Searched, cost_at}
 
--- the second cell costs just one step more than the first, a diagonal or a straight one
+-- the second cell costs exactly one step more than the first, a diagonal or a straight one
 abbrev pub CostsStep : Searched → Cell → Bool → Cell → Type 0
 CostsStep search before diagonal to =
     (cost : Cost) × (cost_at search before ≡ Some cost) × (cost_at search to ≡ Some (plus_step cost diagonal))
 
--- the move is legal, and the second cell costs just that step more than the first
+-- the move is legal, and the second cell costs exactly that step more than the first
 pub record Attains (map : Map) (search : Searched) (before : Cell) (last : Move) (to : Cell) : Type 0 where
   pub legal : IsLegal map before last to
   pub cost_before : Cost
@@ -33,14 +33,14 @@ HaveFirstSets map source sets =
     (cell : Cell) (move : Move) → IsInside map cell → Has
     (set_in map.width sets cell) move ↔ IsFirstMove map source cell move
 
--- the move stands in the cell's set already, or in that of a cell from which a step attains the cell's cost
+-- the move is in the cell's set already, or in that of a cell from which a step attains the cell's cost
 abbrev pub IsPassedOn : Map → Searched → List ℕ → Cell → Move → Type 0
 IsPassedOn map search sets to move =
     Has (set_in map.width sets to) move
     ⊎ ((before : Cell) × (last : Move) × Attains map search before last to × Has (set_in map.width sets before) move)
 
--- The first `i` cells of the order have their first sets, but the source, whose set is still empty; each other cell
--- has the moves by which the source itself attains its cost; and beyond the map all is empty.
+-- The first `i` cells of the order have their first sets, except the source, whose set is still empty. Each other cell
+-- has the moves by which the source itself attains its cost, and everything beyond the map is empty.
 pub record IsPassed (map : Map) (source : Cell) (search : Searched) (i : ℕ) (sets : List ℕ) : Type 0 where
   pub empty : IsEmpty (set_in map.width sets source)
   pub done : (j : ℕ) → j < i → slice_index_or search.settled j source ≢ source → (move : Move)

@@ -16,7 +16,8 @@ use moves::{Cell, Grid, MAX_PASSABLE, MoveSet, place};
 use std::alloc::{AllocError, Global};
 use std::marker::Model;
 
-/// The first sets of all cells of a map from one source. One `FirstSets` serves many sources, one after the other.
+/// The first sets of all cells of a map from one source. One `FirstSets` can serve many sources,
+/// one after another.
 #[derive(Drop)]
 pub struct FirstSets {
     width: u32,
@@ -42,7 +43,7 @@ impl Model for FirstSets {
 }
 
 impl FirstSets {
-    /// Takes all memory that is needed for maps of at most `cells` cells. No set is filled yet.
+    /// Takes all the memory needed for maps of at most `cells` cells. No set is filled yet.
     pub fn new(alloc: Global, cells: usize) -> Result<FirstSets, AllocError>
         ensures room { IfOk result (λ sets. sets.room ≡ cells) }
         ensures none { IfOk result (λ sets. (sets.width ≡ 0) × (sets.height ≡ 0)) }
@@ -54,8 +55,9 @@ impl FirstSets {
         })
     }
 
-    /// Fills the first sets of all cells from that source, by the costs that the search has found from there.
-    /// Nothing is left of an earlier fill. It takes no memory, and its work grows with the cells that are reached.
+    /// Fills the first sets of all cells from that source, from the costs that the search found
+    /// from there. Nothing is left of an earlier fill. It takes no memory, and its work grows with
+    /// the number of cells reached.
     pub fn fill(&mut self, grid: &Grid, search: &Search, source: Cell)
         requires searched { HasSearched grid.now source search.now }
         requires source { IsPassable grid.now source }
@@ -68,8 +70,9 @@ impl FirstSets {
         self.height = grid.height();
     }
 
-    /// The first set of that cell: just the moves that begin a best path from the source to it. It is empty exactly
-    /// where no path leads there, and has all eight moves at the source itself.
+    /// Returns the first set of that cell: exactly the moves that begin a best path from the source
+    /// to it. It is empty exactly when no path leads there, and has all eight moves at the source
+    /// itself.
     pub fn set_of(&self, cell: Cell) -> MoveSet
         requires column { cell.x < self.now.width }
         requires row { cell.y < self.now.height }

@@ -1,4 +1,4 @@
-//! The sets of the neighbours of a cell, joined: all by their places in lists that go row by row.
+//! Joins the sets of a cell's neighbours, by their places in lists that go row by row.
 
 ghost use Rattle.std.specs.Prelude.{◌≡◌, ◌≢◌, ◌+◌, ◌^◌, ◌<◌, ◌≤◌, slice_index};
 ghost use Rattle.first_sets.specs.Places.{AreBeside, AreDistances, CanJoin, IsJoined, IsStepKey, LeadsThere, StaysElse};
@@ -9,7 +9,7 @@ use root_cost::{DIAGONAL_KEY, STRAIGHT_KEY};
 /// The mask of all eight moves.
 const EVERY_MOVE: u8 = u8::MAX;
 
-/// How far the neighbours of a cell lie from it in a list that goes row by row.
+/// The distances from a cell to its neighbours in a list that goes row by row.
 #[derive(Drop)]
 pub(crate) struct Around {
     width: usize,
@@ -18,7 +18,7 @@ pub(crate) struct Around {
 }
 
 impl Around {
-    /// For rows of that width.
+    /// Returns the distances for rows of that width.
     pub(crate) fn of(width: usize) -> Around
         requires { width ≤ MAX_SIDE }
         ensures { result.width ≡ width }
@@ -40,7 +40,8 @@ impl Around {
         }
     }
 
-    /// The place to which the move with that number leads, where it is legal, and else the place itself.
+    /// Returns the place to which the move with that number leads if it is legal, and otherwise the
+    /// place itself.
     fn place_beside(&self, legal: u8, number: usize, place: usize) -> usize
         requires { number < 8 }
         ensures legal { LeadsThere self.now.width legal number place result }
@@ -50,7 +51,8 @@ impl Around {
         place.wrapping_add(self.distances[number].wrapping_mul(bit))
     }
 
-    /// The set at that place, joined with the set at each place beside it from which a step attains its key.
+    /// Returns the set at that place, joined with the set at each place beside it from which a step
+    /// attains its key.
     pub(crate) fn join_beside(&self, sets: &[u8], keys: &[u32], legal: u8, place: usize) -> u8
         requires { CanJoin self.now.width keys.now sets.now legal place }
         ensures { IsJoined self.now.width keys.now sets.now legal place result }
@@ -62,7 +64,7 @@ impl Around {
         }
     }
 
-    /// The same by arithmetic, so that no branch has to be foreseen.
+    /// Joins the same sets by arithmetic, so that there is no branch to predict.
     fn join_legal(&self, sets: &[u8], keys: &[u32], legal: u8, place: usize) -> u8
         requires { CanJoin self.now.width keys.now sets.now legal place }
         ensures { IsJoined self.now.width keys.now sets.now legal place result }
@@ -79,9 +81,9 @@ impl Around {
     }
 }
 
-/// The same in the open, where all eight moves are legal, for a key that is at least a diagonal step's. No move is
-/// asked for and no sum is made for a neighbour, and what the neighbours' keys are can be foreseen, so that
-/// branches are faster.
+/// Joins the same sets where all eight moves are legal and the key is at least that of a diagonal
+/// step. It tests no move and adds nothing for a neighbour, and the neighbours' keys are
+/// predictable, so branches are faster.
 fn join_amid(width: usize, sets: &[u8], keys: &[u32], place: usize) -> u8
     requires open { CanJoin width keys.now sets.now EVERY_MOVE place }
     requires far { DIAGONAL_KEY ≤ slice_index keys.now place }
@@ -99,7 +101,7 @@ fn join_amid(width: usize, sets: &[u8], keys: &[u32], place: usize) -> u8
     set
 }
 
-/// The places to which the eight moves lead.
+/// Returns the places to which the eight moves lead.
 fn places_around(width: usize, place: usize) -> [usize; 8]
     requires above { width + 1 ≤ place }
     requires size { place + width + 1 < 2 ^ 64 }
@@ -118,7 +120,7 @@ fn places_around(width: usize, place: usize) -> [usize; 8]
     ]
 }
 
-/// The key of the step with that number: the odd ones are diagonal.
+/// Returns the key of the step with that number: odd ones are diagonal.
 fn numbered_step_key(number: usize) -> u32
     requires { number < 8 }
     ensures key { IsStepKey number result }
@@ -127,7 +129,8 @@ fn numbered_step_key(number: usize) -> u32
     STRAIGHT_KEY + (DIAGONAL_KEY - STRAIGHT_KEY) * (number as u32 & 1)
 }
 
-/// All ones where the two are equal, and else 0; by arithmetic, so that no branch has to be foreseen.
+/// Returns all ones if the two are equal, and otherwise 0; by arithmetic, so that there is no
+/// branch to predict.
 fn all_if_equal(a: u64, b: u64) -> u8
     requires a { a < 2 ^ 63 }
     requires b { b < 2 ^ 63 }

@@ -1,5 +1,5 @@
-//! Sets passed on along the order in which a search settled its cells: a cell's set is made of those of the cells
-//! from which a step attains its cost, which all stand before it.
+//! Sets passed on in the order in which a search settled its cells: a cell's set is made from the
+//! sets of the cells from which a step attains its cost, all of which come before it.
 
 ghost use Rattle.std.specs.Prelude.{◌≡◌, ◌*◌, ◌<◌, ◌≤◌, ◌↔◌, IfOk, IsTrue, length, slice_index};
 ghost use Rattle.first_sets.specs.Memory.{AreEmpty, AreNoted, IsNoted, empty_sets};
@@ -13,7 +13,8 @@ use moves::{Cell, Grid, MoveSet, place};
 use std::alloc::{AllocError, Global};
 use std::marker::Model;
 
-/// The sets of the cells of a map, row by row, and the places that the last fill wrote to: all other sets are empty.
+/// The sets of the cells of a map, row by row, and the places that the last fill wrote to. All
+/// other sets are empty.
 #[derive(Drop)]
 pub(crate) struct SparseSets {
     sets: Vec<u8>,
@@ -33,7 +34,8 @@ impl Model for SparseSets {
 }
 
 impl SparseSets {
-    /// Takes the memory for that many sets, of which a fill writes at most `reach`. All sets are empty.
+    /// Takes the memory for `cells` sets, of which a fill writes at most `reach`. All sets are
+    /// empty.
     pub(crate) fn new(alloc: Global, cells: usize, reach: usize) -> Result<SparseSets, AllocError>
         ensures { IfOk result (λ sparse. sparse ≡ empty_sets cells reach) }
     {
@@ -44,7 +46,7 @@ impl SparseSets {
         })
     }
 
-    /// The set at a place, as bits.
+    /// Returns the set at a place, as bits.
     pub(crate) fn at(&self, place: usize) -> u8
         requires { place < length self.now.sets }
         ensures { result ≡ slice_index self.now.sets place }
@@ -52,7 +54,8 @@ impl SparseSets {
         self.sets[place]
     }
 
-    /// Fills the sets of all cells from that source, by the costs that the search has found from there.
+    /// Fills the sets of all cells from that source, from the costs that the search found from
+    /// there.
     pub(crate) fn fill(&mut self, grid: &Grid, search: &Search, source: Cell)
         requires searched { HasSearched grid.now source search.now }
         requires source { IsPassable grid.now source }
@@ -70,7 +73,7 @@ impl SparseSets {
     }
 }
 
-/// Empties the sets at these places, outside of which all are empty.
+/// Empties the sets at these places. All others must be empty.
 fn clear(sets: &mut [u8], places: &[u32])
     requires { AreNoted places.now sets.old }
     ensures { AreEmpty sets.new }
@@ -98,7 +101,7 @@ fn begin(sets: &mut [u8], grid: &Grid, search: &Search, source: Cell)
     }
 }
 
-/// Is the cost of `to` just one step more than that of `before`?
+/// Returns whether the cost of `to` is exactly one step more than that of `before`.
 fn is_step(search: &Search, before: Cell, diagonal: bool, to: Cell) -> bool
     requires before_column { before.x < search.now.width }
     requires before_row { before.y < search.now.height }
@@ -117,7 +120,8 @@ fn is_step(search: &Search, before: Cell, diagonal: bool, to: Cell) -> bool
 
 /// Gives each settled cell its first set, in the order in which they were settled, and notes the places.
 ///
-/// It is not inlined: where the jumps of its loop lie, and so how fast it is, then hangs on nothing else.
+/// It is not inlined, so that the alignment of its loop's jumps, and so its speed, depends on
+/// nothing else.
 #[inline(never)]
 fn pass_on(sets: &mut [u8], places: &mut [u32], grid: &Grid, search: &Search, source: Cell)
     requires searched { HasSearched grid.now source search.now }

@@ -1,7 +1,7 @@
 -- The bytes between a leader and a follower. In every number the highest byte comes first.
 --
 -- A follower asks for the edits from a place on, and the leader answers each ask with one message. A message is sent
--- behind the length of its frame in four bytes.
+-- after the length of its frame in four bytes.
 use Rattle.std.specs.Prelude.{◌≡◌, ℕ, ◌+◌, ◌*◌, ◌^◌, ◌<◌, ◌≤◌, ⊤, List, [], ◌∷◌, ◌++◌, All, length, map}
 use Rattle.std.specs.List.{flat_map}
 use Rattle.byteorder.specs.Endian.{big_bytes}
@@ -15,38 +15,38 @@ use Rattle.follow_proto.specs.declared.kinds.TheConstants as kind
 pub data Message : Type 0 where
   -- the map before any edit
   Start : Map → Message
-  -- accepted edits, from that place on
+  -- accepted edits, from this place on
   Edits : ℕ → List (List CellChange) → Message
-  -- only so many edits were accepted, fewer than were said to be known
+  -- only this many edits were accepted, fewer than the follower said that it has
   Ahead : ℕ → Message
-  -- the leader had no memory for the edits
+  -- the leader ran out of memory for the edits
   NoMemory : Message
 
--- an ask: how many edits are known
+-- an ask: how many edits the follower has
 abbrev pub ask_bytes : ℕ → List ℕ
 ask_bytes known = kind.ASK ∷ big_bytes 4 known
 
--- an edit: the number of its changes, and these
+-- an edit: the number of its changes, and the changes
 abbrev pub edit_bytes : List CellChange → List ℕ
 edit_bytes edit = length edit ∷ changes_bytes edit
 
--- edits, one behind the other
+-- edits, one after the other
 abbrev pub all_edit_bytes : List (List CellChange) → List ℕ
 all_edit_bytes edits = flat_map edit_bytes edits
 
--- the frame of a message: its kind, and what belongs to it
+-- the frame of a message: its kind, and its fields
 abbrev pub frame_bytes : Message → List ℕ
 frame_bytes (Start m) = kind.START ∷ big_bytes 4 m.width ++ big_bytes 4 m.height ++ map terrain_byte m.terrain
 frame_bytes (Edits known edits) = kind.EDITS ∷ big_bytes 4 known ++ big_bytes 4 (length edits) ++ all_edit_bytes edits
 frame_bytes (Ahead accepted) = kind.AHEAD ∷ big_bytes 4 accepted
 frame_bytes NoMemory = kind.NO_MEMORY ∷ []
 
--- a message as it is sent: behind the length of its frame
+-- a message as it is sent: after the length of its frame
 abbrev pub message_bytes : Message → List ℕ
 message_bytes message = big_bytes 4 (length (frame_bytes message)) ++ frame_bytes message
 
--- the bytes of the one map that a feed begins with, of edits from a place on, of a follower that is ahead, and of want of
--- memory
+-- the messages with the map that a feed begins with, with edits from a place on, for a follower that is ahead, and for
+-- a leader out of memory
 abbrev pub start_bytes : Map → List ℕ
 start_bytes map = message_bytes (Start map)
 
@@ -79,14 +79,14 @@ pub record AreSent (edits : List (List CellChange)) : Type 0 where
   pub few : length edits ≤ MAX_SENT
   pub each : All IsSent edits
 
--- the message is one that may be sent: there is one spelling for each
+-- the message may be sent: it has exactly one encoding
 abbrev pub IsMessage : Message → Type 0
 IsMessage (Start map) = IsStartMap map
 IsMessage (Edits known edits) = (known < 2 ^ 32) × AreSent edits
 IsMessage (Ahead accepted) = accepted < 2 ^ 32
 IsMessage NoMemory = ⊤
 
--- the bytes are those of the message with a map of these sides, up to the bytes of its cells
+-- the bytes are those of the message with a map of this size, up to the bytes of its cells
 abbrev pub HasHead : ℕ → ℕ → List ℕ → Type 0
 HasHead width height bytes = (m : Map) → m.width ≡ width → m.height ≡ height → length m.terrain ≡ width * height
     → bytes ++ map terrain_byte m.terrain ≡ start_bytes m

@@ -1,4 +1,4 @@
-//! Asks of a follower.
+//! Asks from a follower.
 
 ghost use Rattle.std.specs.Prelude.{◌≡◌, ◌≢◌, slice_index, IfErr, IfOk};
 ghost use Rattle.follow_proto.specs.Feeds.{ask_bytes};
@@ -9,18 +9,18 @@ use crate::kinds::ASK;
 use crate::writing::{put_byte, put_number};
 use byteorder::{BigEndian, ByteOrder};
 
-/// The wish for the edits that are not known yet.
+/// An ask for the edits that the follower does not have yet.
 #[derive(Clone, Copy, Debug, PartialEq, Eq)]
 pub struct Ask {
-    /// How many edits are known.
+    /// How many edits it has.
     pub known: u32,
 }
 
-/// The ask that these bytes spell.
+/// Decodes an ask from these bytes.
 ///
 /// # Errors
 ///
-/// The first byte, exactly where it is not that of an ask.
+/// The first byte, exactly if it is not that of an ask.
 pub fn read_ask(bytes: &[u8; ASK_SIZE]) -> Result<Ask, u8>
     ensures ask { IfOk result (λ ask. bytes.now ≡ ask_bytes ask.known) }
     ensures other { IfErr result (λ byte. byte ≡ slice_index bytes.now 0) }

@@ -11,7 +11,7 @@ use crate::kinds::EDITS;
 use crate::writing::{put_byte, put_change, put_number};
 use edit_log::{CellChange, EditList};
 
-/// What a message has before its edits, and how many of these there are.
+/// The part of a message before its edits, and how many edits follow.
 #[derive(Clone, Copy, Debug, PartialEq, Eq)]
 pub struct EditsHead {
     /// The length and the frame up to the edits.
@@ -20,8 +20,8 @@ pub struct EditsHead {
     pub count: u32,
 }
 
-/// The message with the first of these edits, as many as one message may have, up to the bytes of the edits. The first
-/// of them is behind so many known ones.
+/// The message with the first of these edits, as many as one message may have, up to the bytes of the edits. They come
+/// after `known` edits that the follower has.
 pub fn edits_head(known: u32, edits: &EditList) -> EditsHead
     ensures count { result.count ≡ min MAX_SENT (length edits.now.edits) }
     ensures head { result.bytes ++ all_edit_bytes (take result.count edits.now.edits)
@@ -30,8 +30,8 @@ pub fn edits_head(known: u32, edits: &EditList) -> EditsHead
     edits_head_at(known, edits, 0)
 }
 
-/// The message with the edits of a list from that place on, as many as one message may have, up to the bytes of the
-/// edits. The first of them is behind so many known ones.
+/// The message with the edits of a list from `first` on, as many as one message may have, up to the bytes of the edits.
+/// They come after `known` edits that the follower has.
 pub fn edits_head_at(known: u32, edits: &EditList, first: u32) -> EditsHead
     requires { first ≤ length edits.now.edits }
     ensures count { result.count ≡ min MAX_SENT (length edits.now.edits - first) }
@@ -47,14 +47,14 @@ pub fn edits_head_at(known: u32, edits: &EditList, first: u32) -> EditsHead
     EditsHead { bytes, count }
 }
 
-/// How many bytes so many edits from that place on have.
+/// How many bytes `count` edits from `first` on have.
 fn size_of(edits: &EditList, first: u32, count: u32) -> u32
     requires some { first + count ≤ length edits.now.edits }
     requires few { count ≤ MAX_SENT }
     ensures size { result ≡ length (all_edit_bytes (take count (drop first edits.now.edits))) }
     ensures limit { result ≤ 321 * count }
 {
-    // That each place fits its type is known from here.
+    // From here on each place is known to fit its type.
     let _len = edits.len();
     let mut size = 0;
     for place in 0..count {
@@ -63,8 +63,8 @@ fn size_of(edits: &EditList, first: u32, count: u32) -> u32
     size
 }
 
-/// Writes an edit, the number of its changes and these, to the front of `room`, and says how many bytes that are. The
-/// others stay as they are.
+/// Writes an edit, the number of its changes and the changes, to the front of `room`, and says how many bytes that is.
+/// The others are unchanged.
 pub fn edit_bytes(changes: &[CellChange], room: &mut [u8]) -> usize
     requires room { 1 + 5 * length changes.now ≤ length room.old }
     requires few { length changes.now ≤ MAX_CHANGES }

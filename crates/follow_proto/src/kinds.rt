@@ -1,4 +1,4 @@
-//! The first bytes of asks and messages, which say what each is.
+//! The first byte of each ask and message, which says what it is.
 
 /// An ask of a follower.
 pub const ASK: u8 = 0x21;
@@ -6,7 +6,7 @@ pub const ASK: u8 = 0x21;
 pub const START: u8 = 0x31;
 /// Accepted edits.
 pub const EDITS: u8 = 0x32;
-/// Fewer edits were accepted than are known.
+/// The leader accepted fewer edits than the follower has.
 pub const AHEAD: u8 = 0x33;
-/// The leader had no memory for it.
+/// The leader ran out of memory for it.
 pub const NO_MEMORY: u8 = 0x34;

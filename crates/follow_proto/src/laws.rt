@@ -1,4 +1,4 @@
-//! Laws of the bytes, which hold of the definitions by themselves: no code runs.
+//! Laws of the bytes, which follow from the definitions alone: no code runs.
 
 ghost use Rattle.std.specs.Prelude.{◌≡◌, [], ◌∷◌};
 ghost use Rattle.moves.specs.Maps.{map_of};

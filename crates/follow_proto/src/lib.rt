@@ -1,7 +1,7 @@
-//! The bytes by which a follower gets the accepted edits of a leader: asks, and messages with one spelling each.
+//! The bytes by which a follower gets the accepted edits of a leader: asks and messages, each with one encoding.
 //!
-//! An ask is five bytes: its kind, and how many edits are known. A message is sent behind the length of its frame in four
-//! bytes. In every number the highest byte comes first. Nothing here takes memory.
+//! An ask is five bytes: its kind, and how many edits the follower has. A message is sent after the length of its frame
+//! in four bytes. Every number has its highest byte first. Nothing here allocates memory.
 #![tactic(auto)]
 
 mod asks;

@@ -1,4 +1,4 @@
-//! Messages of a leader that have no edits.
+//! Messages of a leader without edits.
 
 ghost use Rattle.std.specs.Prelude.{◌≡◌, ◌*◌, ◌++◌, length, map};
 ghost use Rattle.moves.specs.Maps.{Map, IsWithinLimits};
@@ -20,7 +20,7 @@ pub fn terrain_byte(terrain: Terrain) -> u8
     }
 }
 
-/// The message with the map before any edit, up to the terrain of its cells, of which a byte each is to follow, row by
+/// The message with the map before any edit, up to the terrain of its cells, which must follow in one byte each, row by
 /// row.
 pub fn start_head(width: u32, height: u32) -> [u8; 13]
     requires { IsWithinLimits width height }
@@ -34,7 +34,7 @@ pub fn start_head(width: u32, height: u32) -> [u8; 13]
     head
 }
 
-/// The message that only so many edits were accepted, fewer than the follower knows.
+/// The message that only `accepted` edits were accepted, fewer than the follower has.
 pub fn ahead(accepted: u32) -> [u8; 9]
     ensures { result ≡ ahead_bytes accepted }
 {
@@ -45,7 +45,7 @@ pub fn ahead(accepted: u32) -> [u8; 9]
     message
 }
 
-/// The message that the leader had no memory for the edits.
+/// The message that the leader ran out of memory for the edits.
 pub fn no_memory() -> [u8; 5]
     ensures { result ≡ no_memory_bytes }
 {

@@ -1,4 +1,4 @@
-//! Bytes and numbers, written one behind the other to the front of a piece.
+//! Bytes and numbers, written one after the other to the front of a piece.
 
 ghost use Rattle.std.specs.Prelude.{◌≡◌, ◌+◌, ◌<◌, ◌≤◌, [], ◌∷◌, length};
 ghost use Rattle.byteorder.specs.Endian.{big_bytes};
@@ -8,7 +8,7 @@ use crate::messages::terrain_byte;
 use byteorder::{BigEndian, ByteOrder};
 use edit_log::CellChange;
 
-/// Writes a byte at that place, and says which place is the next.
+/// Writes a byte at this place, and returns the next place.
 pub(crate) fn put_byte(out: &mut [u8], at: usize, byte: u8) -> usize
     requires { at < length out.old }
     ensures grows { GrowsFront (byte ∷ []) at out.old out.new result }
@@ -41,7 +41,7 @@ pub(crate) fn put_number(out: &mut [u8], at: usize, number: u32) -> usize
     at + 4
 }
 
-/// Writes a change in five bytes: its column and its row, and what stands there then.
+/// Writes a change in five bytes: its column, its row and the new terrain.
 pub(crate) fn put_change(out: &mut [u8], at: usize, change: CellChange) -> usize
     requires { at + 5 ≤ length out.old }
     ensures grows { GrowsFront (change_bytes change) at out.old out.new result }

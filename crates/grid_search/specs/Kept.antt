@@ -1,4 +1,4 @@
--- What holds of the memory of a search between its calls.
+-- What holds for the memory of a search between its calls.
 use Rattle.std.specs.Prelude.{◌≡◌, ℕ, ◌*◌, ◌<◌, ◌≤◌, ◌⊎◌, List, take, length, slice_index_or, All, Any}
 use Rattle.moves.specs.declared.Cell.{Cell}
 use Rattle.moves.specs.Maps.{place_of}
@@ -16,8 +16,8 @@ IsWithin width height cell = (cell.x < width) × (cell.y < height)
 abbrev pub HasRoom : ℕ → ℕ → Type 0
 HasRoom cells room = (cells ≤ room) ⊎ (MAX_PASSABLE ≤ room)
 
--- The list of settled cells and both queues have room for a search of each map that has room for its keys; keys stand only
--- at the places of the settled cells, and each is the key of the cost that is read from it.
+-- The list of settled cells and both queues have room for a search of any map whose keys fit; there are keys only at
+-- the places of the settled cells, and each is the key of the cost that is read from it.
 pub record IsKept (width height : ℕ) (front : Opened) (order : List Cell) (count : ℕ) : Type 0 where
   pub columns : width ≤ MAX_SIDE
   pub rows : height ≤ MAX_SIDE

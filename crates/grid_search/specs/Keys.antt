@@ -1,4 +1,4 @@
--- Keys of cells in a list that goes row by row. (What a cost's key is, root_cost says.)
+-- Keys of cells in a list that goes row by row. (root_cost defines the key of a cost.)
 use Rattle.std.specs.Prelude.{◌≡◌, ℕ, List, slice_index_or}
 use Rattle.root_cost.specs.Keys.{step_key}
 use Rattle.root_cost.specs.declared.TheConstants.{NO_KEY}
@@ -15,6 +15,6 @@ move_key move = step_key (is_diagonal move)
 abbrev pub key_at : ℕ → List ℕ → Cell → ℕ
 key_at width keys cell = slice_index_or keys (place_of width cell) NO_KEY
 
--- no key stands in the list
+-- the list has no key
 abbrev pub HasNoKeys : List ℕ → Type 0
 HasNoKeys keys = (place : ℕ) → slice_index_or keys place NO_KEY ≡ NO_KEY

@@ -1,4 +1,5 @@
--- What a search from one cell has found: the least cost of each cell, and the reached cells by rising cost.
+-- What a search from one cell has found: the least cost of each cell, and the reached cells in order of increasing
+-- cost.
 use Rattle.std.specs.Prelude.{◌≡◌, ℕ, ◌+◌, ◌*◌, ◌<◌, ◌≤◌, List, [], Option, Some, None, IsSome, MatchOption, map, length, slice_index_or, All, AllPairs, Contains}
 use Rattle.root_cost.specs.declared.Cost.{Cost}
 use Rattle.root_cost.specs.Costs.{IsAtMost, key_of}
@@ -7,8 +8,8 @@ use Rattle.moves.specs.Maps.{Map, IsInside, place_of, passable_count, IsSearchab
 use Rattle.moves.specs.Paths.{IsLeastCost}
 use Rattle.root_cost.specs.declared.TheConstants.{NO_KEY}
 
--- a search as its callers see it: for how many cells it has room, the sides of the map that was searched last,
--- the costs of that map's cells, row by row, and the cells that were reached, in the order in which they were settled
+-- a search as its callers see it: the number of cells it has room for, the sides of the map searched last, the costs of
+-- that map's cells, row by row, and the reached cells in the order in which they were settled
 pub record Searched : Type 0 where
   pub room : ℕ
   pub width : ℕ
@@ -20,11 +21,11 @@ pub record Searched : Type 0 where
 abbrev pub nothing_searched : ℕ → Searched
 nothing_searched cells = record { room = cells; width = 0; height = 0; costs = []; settled = [] }
 
--- the cost of a cell, none where it was not reached
+-- the cost of a cell, or none if it was not reached
 abbrev pub cost_at : Searched → Cell → Option Cost
 cost_at search cell = slice_index_or search.costs (place_of search.width cell) None
 
--- the cell lies inside the map that was searched, and was reached
+-- the cell lies inside the map searched last, and was reached
 pub record HasCost (search : Searched) (cell : Cell) : Type 0 where
   pub column : cell.x < search.width
   pub row : cell.y < search.height
@@ -35,7 +36,7 @@ abbrev pub IsNoDearer : Searched → Cell → Cell → Type 0
 IsNoDearer search a b = MatchOption (cost_at search a) ⊥
     (λ first. MatchOption (cost_at search b) ⊥ (λ second. IsAtMost first second))
 
--- The settled cells are those that have a cost, each once, by rising cost, the source first.
+-- The settled cells are those with a cost, each once, in order of increasing cost, the source first.
 pub record IsInOrder (source : Cell) (search : Searched) : Type 0 where
   pub all : (cell : Cell) → HasCost search cell → Contains search.settled cell
   pub reached : All (HasCost search) search.settled
@@ -44,8 +45,8 @@ pub record IsInOrder (source : Cell) (search : Searched) : Type 0 where
   pub some : 0 < length search.settled
   pub first : slice_index_or search.settled 0 source ≡ source
 
--- The search holds the least costs of that map from that source, each of fewer steps than there are passable cells,
--- which are at most 32,768; and it has settled no more cells than are passable.
+-- The search has the least costs on that map from that source, each of fewer steps than there are passable cells. There
+-- are at most 32,768 passable cells, and no more settled cells than passable ones.
 pub record HasSearched (map : Map) (source : Cell) (search : Searched) : Type 0 where
   pub width : search.width ≡ map.width
   pub height : search.height ≡ map.height
@@ -57,7 +58,7 @@ pub record HasSearched (map : Map) (source : Cell) (search : Searched) : Type 0 
   pub order : IsInOrder source search
   pub counted : length search.settled ≤ passable_count map
 
--- the key of a cost, and where there is no cost a number above every key
+-- the key of a cost, or a number above every key if there is no cost
 abbrev pub key_or_none : Option Cost → ℕ
 key_or_none None = NO_KEY
 key_or_none (Some cost) = key_of cost

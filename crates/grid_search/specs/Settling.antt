@@ -14,8 +14,8 @@ pub record IsReached (map : Map) (keys : List ℕ) (cell : Cell) : Type 0 where
   pub inside : IsInside map cell
   pub found : key_at map.width keys cell < NO_KEY
 
--- What holds between turns: no key of a settled cell is above those of cells that wait, no step from a settled cell is
--- missed, and each key but the source's comes by a step from a settled cell.
+-- What holds between turns: no settled cell has a higher key than a waiting one, no step from a settled cell is missed,
+-- and each key but the source's comes by a step from a settled cell.
 pub record IsProgress (map : Map) (source : Cell) (keys : List ℕ) (settled : List Cell) : Type 0 where
   pub start : key_at map.width keys source ≡ 0
   pub relaxed : (a b : Cell) (move : Move) → Contains settled a → IsLegal map a move b
@@ -34,7 +34,7 @@ pub record IsProgress (map : Map) (source : Cell) (keys : List ℕ) (settled : L
   pub rising : AllPairs (λ a b. key_at map.width keys a ≤ key_at map.width keys b) settled
   pub beyond : (place : ℕ) → map.width * map.height ≤ place → slice_index_or keys place NO_KEY ≡ NO_KEY
 
--- the cell is one of least key among those that are reached and not yet settled
+-- the cell has the least key of those that are reached and not yet settled
 pub record IsNext (map : Map) (keys : List ℕ) (settled : List Cell) (cell : Cell) : Type 0 where
   pub reached : IsReached map keys cell
   pub open_yet : Contains settled cell → ⊥
@@ -49,8 +49,8 @@ EveryMove move = Unit {0}
 abbrev pub OnlyMove : Move → Move → Type 0
 OnlyMove by move = by ≡ move
 
--- Steps from a cell with a key have been taken: no key rose, none is more than a step above that key where one of these
--- moves leads, and each that fell is just a step above it.
+-- Steps from a cell with a key were taken: no key rose; where one of these moves leads, no key is more than a step
+-- above that key; and each key that fell is exactly a step above it.
 pub record IsRelaxed (map : Map) (from : Cell) (key : ℕ) (taken : Move → Type 0) (before after : List ℕ) : Type 0 where
   pub lower : (b : Cell) → IsInside map b → key_at map.width after b ≤ key_at map.width before b
   pub moved : (b : Cell) (move : Move) → taken move → IsLegal map from move b
@@ -66,7 +66,7 @@ pub record IsFinished (map : Map) (source : Cell) (keys : List ℕ) (settled : L
   pub over : (b : Cell) → IsReached map keys b → Contains settled b
   pub limit : (b : Cell) → IsInside map b → key_at map.width keys b ≤ NO_KEY
 
--- the move leads somewhere: to a column and a row that are not below 0
+-- the move leads to a column and a row that are not below 0
 abbrev pub HasTarget : Cell → Move → Type 0
 HasTarget from by = (to : Cell) × IsTarget from by to
 

@@ -1,6 +1,15 @@
-//! Least costs on a grid map from one source cell, exactly, and the reached cells by rising cost.
+//! Exact least costs on a grid map from one source cell, and the reached cells in order of
+//! increasing cost.
 //!
-//! Inside, a cost is one word, its key: keys order as costs do, and give them back. ([`Cost::key`].)
+//! Internally a cost is one word, its key: keys order as costs do and give them back.
+//! ([`Cost::key`].)
+//!
+//! The least cost across an open map of three columns and two rows, as a case gives it:
+//!
+//! ```text
+//! cost | .../... | 0 0 | 2 1
+//! 1 straight 1 diagonal, key 80782, 6 reached, E SE
+//! ```
 #![tactic(auto)]
 
 ghost use Rattle.std.specs.Prelude.{◌≡◌, ◌*◌, ◌<◌, ◌≤◌, IfOk, length};
@@ -18,7 +27,7 @@ use root_cost::{Cost, NO_KEY};
 use std::alloc::{AllocError, Global};
 use std::marker::Model;
 
-/// Least costs from one source cell on one map after another, in memory that is taken once.
+/// Least costs from one source cell, on one map after another, in memory taken once.
 #[derive(Drop)]
 pub struct Search {
     width: u32,
@@ -51,7 +60,7 @@ impl Model for Search {
 }
 
 impl Search {
-    /// Takes all memory that searches on maps of at most that many cells need.
+    /// Takes all the memory that searches on maps of at most `cells` cells need.
     pub fn new(alloc: Global, cells: usize) -> Result<Search, AllocError>
         ensures { IfOk result (λ search. search ≡ nothing_searched cells) }
     {
@@ -68,8 +77,8 @@ impl Search {
 
     /// Finds the least cost of every cell from the source. It takes no memory.
     ///
-    /// The map has at most as many cells as there is room for, and at most [`MAX_PASSABLE`] passable ones; the source
-    /// is passable.
+    /// The map must have at most as many cells as there is room for, and at most [`MAX_PASSABLE`]
+    /// passable ones. The source must be passable.
     pub fn from_source(&mut self, grid: &Grid, source: Cell)
         requires room { grid.now.width * grid.now.height ≤ self.old.room }
         requires source { IsPassable grid.now source }
@@ -84,7 +93,8 @@ impl Search {
         self.count = settling::settle(grid, source, keys, list, &mut self.order);
     }
 
-    /// The least cost from the source to a cell inside the map; `None` exactly where no path leads there.
+    /// Returns the least cost from the source to a cell inside the map, and `None` exactly when no
+    /// path leads there.
     pub fn cost(&self, cell: Cell) -> Option<Cost>
         requires column { cell.x < self.now.width }
         requires row { cell.y < self.now.height }
@@ -93,16 +103,16 @@ impl Search {
         Cost::of_key(self.keys[place(self.width, cell)])
     }
 
-    /// The cells that are reached from the source, each once, by rising cost: the source is the first. Which of two
-    /// cells of one cost comes first is left open.
+    /// Returns the cells reached from the source, each once, in order of increasing cost, the
+    /// source first. Cells of equal cost may be in any order.
     pub fn settled(&self) -> &[Cell]
         ensures { result.now ≡ self.now.settled }
     {
         &self.order[..self.count]
     }
 
-    /// The keys of the least costs, row by row ([`Cost::key`]), and [`NO_KEY`] for a cell that no path
-    /// reaches.
+    /// Returns the keys of the least costs, row by row ([`Cost::key`]), with [`NO_KEY`] for a cell
+    /// that no path reaches.
     pub fn keys(&self) -> &[u32]
         ensures { result.now ≡ keys_of self.now }
     {
@@ -110,7 +120,7 @@ impl Search {
     }
 }
 
-/// Leaves no key at the places of these cells.
+/// Removes the keys at the places of these cells.
 fn forget(width: u32, cells: &[Cell], keys: &mut [u32])
     requires width { width ≤ MAX_SIDE }
     requires inside { HavePlaces width cells.now (length keys.old) }

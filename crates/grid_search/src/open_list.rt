@@ -1,4 +1,4 @@
-//! The cells that a search has reached and not yet settled: the open list, in two queues.
+//! The open list: the cells that a search has reached but not yet settled, in two queues.
 
 ghost use Rattle.std.specs.Prelude.{◌≡◌, ◌<◌, IfNone, IfOk, IfSome, length};
 ghost use Rattle.grid_search.specs.Queues.{AreFound, IsFirstTaken, IsUsedUp, begun_with, empty_queues, push_to};
@@ -8,8 +8,9 @@ use moves::Cell;
 use std::alloc::{AllocError, Global};
 use std::marker::Model;
 
-/// The cells that wait to be settled: those that a straight step reached in one queue, those that a diagonal step
-/// reached in the other. As cells are settled by rising key, each queue is in order by itself.
+/// The cells that wait to be settled: one queue for those reached by a straight step, the other for
+/// those reached by a diagonal one. As cells are settled by rising key, each queue is in order by
+/// itself.
 #[derive(Drop)]
 pub struct OpenList {
     straight: Queue,
@@ -35,7 +36,7 @@ impl OpenList {
         })
     }
 
-    /// Empties the queues, and lets the source wait with the key 0.
+    /// Empties the queues, and adds the source with the key 0.
     pub fn begin(&mut self, source: Cell)
         requires { 0 < self.old.straight.room }
         ensures { self.new ≡ begun_with self.old source }
@@ -48,7 +49,7 @@ impl OpenList {
         });
     }
 
-    /// Lets a cell wait that a straight step reached.
+    /// Adds a cell that a straight step reached.
     pub fn push_straight(&mut self, entry: Waiting)
         requires { length self.old.straight.pushed < self.old.straight.room }
         ensures straight { self.new.straight ≡ push_to self.old.straight entry }
@@ -57,7 +58,7 @@ impl OpenList {
         self.straight.push(entry);
     }
 
-    /// Lets a cell wait that a diagonal step reached.
+    /// Adds a cell that a diagonal step reached.
     pub fn push_diagonal(&mut self, entry: Waiting)
         requires { length self.old.diagonal.pushed < self.old.diagonal.room }
         ensures straight { self.new.straight ≡ self.old.straight }
@@ -66,7 +67,8 @@ impl OpenList {
         self.diagonal.push(entry);
     }
 
-    /// Takes the first entry of the queue whose first key is the lower one; `None` where both queues are empty.
+    /// Takes the first entry of the queue whose first key is lower, or returns `None` if both
+    /// queues are empty.
     pub fn take_first(&mut self) -> Option<Waiting>
         requires { AreFound self.old.diagonal.pushed }
         ensures some { IfSome result (λ entry. IsFirstTaken entry self.old self.new) }

@@ -1,4 +1,4 @@
-//! A queue in memory that is taken once. It is emptied whole: room that was used is free again only then.
+//! A queue in memory taken once. Used room becomes free again only when the whole queue is emptied.
 
 ghost use Rattle.std.specs.Prelude.{◌≡◌, ℕ, ◌+◌, ◌<◌, ◌≤◌, [], IfOk, IfSome, IfNone, length};
 ghost use Rattle.grid_search.specs.Queues.{FirstHasKey, HasNoneLeft, TakesFirst, empty_with, push_to};
@@ -41,7 +41,7 @@ impl Model for Queue {
 }
 
 impl Queue {
-    /// An empty queue with room for that many entries.
+    /// Returns an empty queue with room for that many entries.
     pub fn new(alloc: Global, room: usize) -> Result<Queue, AllocError>
         ensures { IfOk result (λ queue. queue ≡ empty_with room) }
     {
@@ -73,7 +73,7 @@ impl Queue {
         self.end += 1;
     }
 
-    /// The key of the first entry; [`NO_KEY`] where none is left.
+    /// Returns the key of the first entry, or [`NO_KEY`] if none is left.
     pub fn first_key(&self) -> u32
         ensures first { FirstHasKey self.now result }
         ensures none { HasNoneLeft self.now → result ≡ NO_KEY }
@@ -85,7 +85,7 @@ impl Queue {
         }
     }
 
-    /// Takes the first entry; `None` where none is left.
+    /// Takes the first entry, or returns `None` if none is left.
     pub fn take(&mut self) -> Option<Waiting>
         ensures some { IfSome result (λ entry. TakesFirst self.old entry self.new) }
         ensures none { IfNone result (HasNoneLeft self.old × (self.new ≡ self.old)) }

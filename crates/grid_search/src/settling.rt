@@ -12,7 +12,7 @@ use crate::queue::Waiting;
 use moves::{Cell, Grid, MAX_SIDE, Move, place};
 use root_cost::step_key;
 
-/// Settles the cells that are reached from the source, one by one, by rising key. Answers how many there are.
+/// Settles the cells reached from the source, one by one, by rising key, and returns their number.
 pub fn settle(
     grid: &Grid,
     source: Cell,
@@ -35,7 +35,7 @@ pub fn settle(
     let mut count = 0;
     while let Some(next) = list.take_first() {
         let place = place(grid.width(), next.cell);
-        // An entry whose cell was reached by a lower key since is dropped.
+        // Drop the entry if its cell has since been reached by a lower key.
         if keys[place] == next.key {
             order[count] = next.cell;
             count += 1;
@@ -45,7 +45,7 @@ pub fn settle(
     count
 }
 
-/// A cell that was settled last, its place in lists that go row by row, and its legal moves as bits.
+/// The cell settled last, its place in lists that go row by row, and its legal moves as bits.
 #[derive(Clone, Copy)]
 struct Settled {
     entry: Waiting,
@@ -53,7 +53,7 @@ struct Settled {
     legal: u8,
 }
 
-/// Takes every legal step from a cell that was settled last.
+/// Takes every legal step from the cell settled last.
 fn relax(grid: &Grid, entry: Waiting, place: usize, keys: &mut [u32], list: &mut OpenList)
     requires last { IsSettledLast grid.now entry place }
     requires ready { AreReady grid.now entry.key (opened keys.old list.old) }
@@ -76,8 +76,7 @@ fn relax(grid: &Grid, entry: Waiting, place: usize, keys: &mut [u32], list: &mut
     step(grid, from, Move::NW, keys, list);
 }
 
-/// Takes one step from a cell that was settled last, if it is legal and the target's key is higher than what it leads
-/// to.
+/// Takes one step from the cell settled last, if the step is legal and lowers the target's key.
 fn step(grid: &Grid, from: Settled, by: Move, keys: &mut [u32], list: &mut OpenList)
     requires last { IsSettledLast grid.now from.entry from.place }
     requires legal { IsMoveMask grid.now from.entry.cell from.legal }
@@ -105,7 +104,8 @@ fn step(grid: &Grid, from: Settled, by: Move, keys: &mut [u32], list: &mut OpenL
     }
 }
 
-/// The place of the cell that the move leads to, from the place of the cell that it leaves.
+/// Returns the place of the cell that the move leads to, given the place of the cell that it
+/// leaves.
 fn target_place(width: u32, from: Cell, place: usize, by: Move) -> usize
     requires width { width ≤ MAX_SIDE }
     requires row { from.y < MAX_SIDE }

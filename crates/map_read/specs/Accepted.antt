@@ -1,4 +1,4 @@
--- The texts that stand for a map, told line by line.
+-- The texts that stand for a map, line by line.
 use Rattle.std.specs.Prelude.{◌≡◌, ℕ, zero, suc, ◌+◌, ◌⊎◌, ◌↔◌, IsTrue, List, [], ◌∷◌, length, take, drop, Some, Ok, codes}
 use Rattle.std.specs.List.{AllByRecursion}
 use Rattle.moves.specs.Maps.{Map, IsWithinLimits, IsSearchable}
@@ -7,7 +7,7 @@ use Rattle.text_lines.specs.Lines.{lines_of}
 use Rattle.text_lines.specs.Words.{words_of, is_blank, without_gaps_at_end}
 use Rattle.map_read.specs.MapText.{number_named, line_at, terrain_for, map_of}
 
--- each byte stands for the cell at its place, and there are as many of both
+-- each byte stands for the cell at its place, and there are as many bytes as cells
 unfoldable pub StandFor : List ℕ → List Terrain → Type 0
 StandFor [] [] = Unit {0}
 StandFor [] (cell ∷ cells) = ⊥
@@ -19,7 +19,7 @@ pub record IsRow (width : ℕ) (cells : List Terrain) (line : List ℕ) : Type 0
   pub wide : length cells ≡ width
   pub bytes : StandFor (without_gaps_at_end line) cells
 
--- the lines begin with the rows of these cells, a line for each
+-- the lines begin with the rows of these cells, one line for each row
 unfoldable pub AreRows : ℕ → ℕ → List Terrain → List (List ℕ) → Type 0
 AreRows width zero cells lines = cells ≡ []
 AreRows width (suc rows) cells [] = ⊥
@@ -31,14 +31,14 @@ abbrev pub AreSides : List ℕ → List ℕ → ℕ → ℕ → Type 0
 AreSides one other width height =
     (number_named (codes "height") one ≡ Some height) × (number_named (codes "width") other ≡ Some width)
 
--- the first three lines give a width and a height that a map may have; these two stand in either order
+-- the first three lines give a width and a height that a map may have, in either order
 pub record AreSidesGiven (lines : List (List ℕ)) (width height : ℕ) : Type 0 where
   pub kind : words_of (line_at lines 1) ≡ codes "type" ∷ codes "octile" ∷ []
   pub sides : AreSides (line_at lines 2) (line_at lines 3) width height
       ⊎ AreSides (line_at lines 3) (line_at lines 2) width height
   pub limits : IsWithinLimits width height
 
--- so they do, and the fourth line is the word `map`
+-- the first four lines are the header of a map with this width and height
 pub record IsHeader (lines : List (List ℕ)) (width height : ℕ) : Type 0 where
   pub given : AreSidesGiven lines width height
   pub mark : words_of (line_at lines 4) ≡ codes "map" ∷ []
@@ -50,6 +50,6 @@ pub record IsMapText (text : List ℕ) (m : Map) : Type 0 where
   pub few : IsSearchable m
   pub after : AllByRecursion (λ line. IsTrue (is_blank line)) (drop (4 + m.height) (lines_of text))
 
--- a text is accepted exactly where it stands for a map, and then with that map
+-- a text is accepted exactly when it stands for a map, and then as that map
 abbrev pub AcceptsExactlyMapTexts : Type 0
 AcceptsExactlyMapTexts = (text : List ℕ) (m : Map) → (map_of text ≡ Ok m) ↔ IsMapText text m

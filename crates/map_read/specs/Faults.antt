@@ -1,4 +1,4 @@
--- What a refusal of a map says.
+-- The texts of the errors of reading a map.
 use Rattle.std.specs.Prelude.{ℕ, List, ◌++◌, codes}
 use Rattle.std.specs.Fmt.{decimal}
 use Rattle.map_read.specs.declared.fault.MapError.{MapError}
@@ -10,7 +10,7 @@ use Rattle.map_read.specs.declared.fault.MapFault.TheVariants.{Header, Size, Row
 abbrev pub place_text : ℕ → ℕ → List ℕ
 place_text x y = decimal x ++ codes " " ++ decimal y
 
--- the text of a refusal
+-- the text of a fault
 abbrev pub fault_text : MapFault → List ℕ
 fault_text (Header line) = codes "header at line " ++ decimal line
 fault_text (Size line) = codes "size at line " ++ decimal line

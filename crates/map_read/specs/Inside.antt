@@ -1,11 +1,11 @@
--- Words of the contracts inside this crate. The format does not need them.
+-- Definitions for the contracts inside this crate. The format does not need them.
 use Rattle.std.specs.Prelude.{ℕ, ◌+◌, ◌*◌, min, List, [], ◌∷◌, ◌++◌, map, take, drop, codes}
 use Rattle.moves.specs.Maps.{Map}
 use Rattle.moves.specs.declared.TheConstants.{MAX_SIDE}
 use Rattle.map_read.specs.MapText.{glyph}
 use Rattle.std.specs.Fmt.{decimal}
 
--- all numbers above the greatest side are alike
+-- all numbers above the greatest side count as one
 abbrev pub capped : ℕ → ℕ
 capped n = min n (MAX_SIDE + 1)
 

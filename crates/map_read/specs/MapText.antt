@@ -1,5 +1,5 @@
 -- The text of a map. (MovingAI map format page)
--- The rows and the header are judged from the first line to the last, and the first refusal is the answer.
+-- The header and the rows are checked from the first line to the last, and the first fault is returned.
 use Rattle.std.specs.Prelude.{◌≡◌, ℕ, zero, suc, ◌+◌, ◌-◌, ◌*◌, Bool, not, ◌&&◌, ◌||◌, ◌==◌, nat_lt, nat_le, if◌then◌else◌, List, [], ◌∷◌, ◌++◌, map, length, take, drop, count_by, slice_index_or, Option, Some, None, option_and_then, Result, Ok, Err, codes}
 use Rattle.std.specs.Str.{bytes_eq}
 use Rattle.std.specs.Fmt.{decimal}
@@ -16,7 +16,7 @@ use Rattle.map_read.specs.declared.fault.MapFault.TheVariants.{Header, Size, Row
 
 -- ---- the header
 
--- the number that a line gives under a name: the line's words are the name and a number, and no more
+-- the number that a line gives under a name: the line's words are the name and a number, and nothing else
 unfoldable pub number_named : List ℕ → List ℕ → Option ℕ
 number_named name line =
     option_and_then (λ two. if bytes_eq two.0 name then number_in two.1 else None) (two_of (words_of line))
@@ -36,12 +36,12 @@ other_side one other = do
   line_two ← checked (is_side_length one) one (Size 2)
   wanted other (Header 3)
 
--- the width and the height, where a map may have these
+-- the width and the height, if a map may have them
 abbrev pub judged_sides : ℕ → ℕ → Result (ℕ × ℕ) MapFault
 judged_sides width height = checked (are_map_sides width height) (width, height) (Size 3)
 
--- The width and the height, from what lines 2 and 3 give as height and as width.
--- The form of a line is judged before its range.
+-- The width and the height, from what lines 2 and 3 give as height and as width. The form of a line is checked before
+-- its range.
 unfoldable pub sides_given : Option ℕ → Option ℕ → Option ℕ → Option ℕ → Result (ℕ × ℕ) MapFault
 sides_given (Some height) second_width third_height third_width = do
   width ← other_side height third_width
@@ -57,8 +57,8 @@ sides_from second third =
     sides_given (number_named (codes "height") second) (number_named (codes "width") second)
     (number_named (codes "height") third) (number_named (codes "width") third)
 
--- The line with that number, from 1. One that is not there is an empty one: no line of the header may be empty,
--- so it is refused alike.
+-- The line with that number, from 1. A missing line counts as empty: no line of the header may be empty, so both are
+-- the same fault.
 abbrev pub line_at : List (List ℕ) → ℕ → List ℕ
 line_at lines number = slice_index_or lines (number - 1) []
 
@@ -90,7 +90,7 @@ terrain_for byte =
     else (if is_water_byte byte then Some Water
     else (if is_blocked_byte byte then Some Blocked else None))
 
--- One cell, where so many cells before it are passable. A map has at most 32,768 passable cells, land and water
+-- One cell, after `free` passable ones. A map that can be read has at most 32,768 passable cells, land and water
 -- together.
 unfoldable pub cell_of : ℕ → ℕ → ℕ → ℕ → Result Terrain MapFault
 cell_of x y byte free = do
@@ -101,20 +101,20 @@ cell_of x y byte free = do
 abbrev pub free_in : List Terrain → ℕ
 free_in cells = count_by is_passable cells
 
--- the cells before a place in row y, and those of the row from there on, left to right
+-- the cells before a place in row y, followed by those of the row from there on, left to right
 unfoldable pub cells_in : ℕ → ℕ → List Terrain → List ℕ → Result (List Terrain) MapFault
 cells_in y x before [] = Ok before
 cells_in y x before (byte ∷ row) = do
   terrain ← cell_of x y byte (free_in before)
   cells_in y (x + 1) (before ++ terrain ∷ []) row
 
--- the bytes of row y: the spaces and tabs at the line's end are dropped, then its length is judged
+-- the bytes of row y: the spaces and tabs at the line's end are dropped, then its length is checked
 unfoldable pub row_in : ℕ → ℕ → List ℕ → Result (List ℕ) MapFault
 row_in width y line =
     let row = without_gaps_at_end line in
     checked (length row == width) row (RowLength (5 + y) width (length row))
 
--- the cells before row y, and those of so many rows from there on, one in each line
+-- the cells before row y, followed by those of the given number of rows from there on, one row in each line
 unfoldable pub rows_in : ℕ → ℕ → ℕ → List Terrain → List (List ℕ) → Result (List Terrain) MapFault
 rows_in width y zero before lines = Ok before
 rows_in width y (suc more) before [] = Err (MissingRows y)
@@ -125,17 +125,17 @@ rows_in width y (suc more) before (line ∷ lines) = do
 
 -- ---- the whole text
 
--- the number of the first line that is not blank, where the first line has that number
+-- the number of the first line that is not blank, if the first line has that number
 unfoldable pub extra_in : ℕ → List (List ℕ) → Option ℕ
 extra_in number [] = None
 extra_in number (line ∷ lines) = if is_blank line then extra_in (number + 1) lines else Some number
 
--- the map, where only blank lines follow its rows
+-- the map, if only blank lines follow its rows
 abbrev pub ended : Map → Option ℕ → Result Map MapFault
 ended m None = Ok m
 ended m (Some line) = Err (Extra line)
 
--- what a text stands for: its map, or its first refusal
+-- what a text stands for: its map, or its first fault
 unfoldable pub map_of : List ℕ → Result Map MapFault
 map_of text = do
   sides ← header_in (lines_of text)

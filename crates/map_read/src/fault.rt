@@ -4,11 +4,11 @@ use std::alloc::AllocError;
 use std::error::Error;
 use std::fmt;
 
-/// Why a text is not a map's: the first refusal in the order of the file. Lines are numbered from 1, a cell is named by
-/// its column `x` and its row `y`, both from 0.
+/// Why a text is not a map: the first fault in the order of the file. Lines are numbered from 1; a
+/// cell is named by its column `x` and its row `y`, both from 0.
 #[derive(Clone, Copy, Debug, PartialEq, Eq)]
 pub enum MapFault {
-    /// A line of the header has another form, or is not there.
+    /// A line of the header has the wrong form or is missing.
     Header {
         line: u32,
     },
@@ -16,7 +16,7 @@ pub enum MapFault {
     Size {
         line: u32,
     },
-    /// A row has another number of cells than the map is wide.
+    /// A row does not have as many cells as the map is wide.
     RowLength {
         line: u32,
         expected: u32,
@@ -36,7 +36,7 @@ pub enum MapFault {
     Extra {
         line: u32,
     },
-    /// A passable cell beyond the 32,768th.
+    /// A passable cell comes after 32,768 others.
     TooManyCells {
         x: u16,
         y: u16,
@@ -74,7 +74,7 @@ impl Error for MapFault {}
 /// Why a map could not be read.
 #[derive(Debug, Drop)]
 pub enum MapError {
-    /// The text is not a map's.
+    /// The text is not a map.
     Fault(MapFault),
     /// Memory ran out.
     NoMemory,

@@ -21,7 +21,7 @@ pub struct Sides {
     pub height: u32,
 }
 
-/// Reads the first four lines: the sides that they give, or the first refusal.
+/// Reads the first four lines and returns the sides that they give, or the first fault.
 pub fn read_header(lines: &mut MapLines) -> Result<Sides, MapFault>
     ensures sides { MatchResult result
         (λ sides. header_in lines.old ≡ Ok (sides.width, sides.height))
@@ -41,7 +41,7 @@ pub fn read_header(lines: &mut MapLines) -> Result<Sides, MapFault>
     Ok(sides)
 }
 
-/// Whether the line has exactly the words `type` and `octile`.
+/// Returns whether the line has exactly the words `type` and `octile`.
 fn is_type_line(line: &[u8]) -> bool
     ensures { result ≡ has_words (codes "type" ∷ codes "octile" ∷ []) line.now }
 {
@@ -51,7 +51,7 @@ fn is_type_line(line: &[u8]) -> bool
     }
 }
 
-/// Whether the line has exactly the word `map`.
+/// Returns whether the line has exactly the word `map`.
 fn is_map_line(line: &[u8]) -> bool
     ensures { result ≡ has_words (codes "map" ∷ []) line.now }
 {
@@ -61,7 +61,8 @@ fn is_map_line(line: &[u8]) -> bool
     }
 }
 
-/// The number that the line gives under this name, in cells. All numbers above 4,096 are given as 4,097.
+/// Returns the number that the line gives under this name, in cells. Any number above 4,096 is
+/// returned as 4,097.
 #[tactic(auto, unfolding(crate::specs::MapText::number_named))]
 fn number_named(name: &[u8], line: &[u8]) -> Option<u32>
     ensures { result ≡ option_map capped (number_named name.now line.now) }
@@ -73,7 +74,7 @@ fn number_named(name: &[u8], line: &[u8]) -> Option<u32>
     Some(number_capped(number, MAX_SIDE)? as u32)
 }
 
-/// The sides that two lines give, or the first refusal.
+/// Returns the sides that two lines give, or the first fault.
 fn sides_from(second: &[u8], third: &[u8]) -> Result<Sides, MapFault>
     ensures sides { MatchResult result
         (λ sides. sides_from second.now third.now ≡ Ok (sides.width, sides.height))
@@ -89,7 +90,7 @@ fn sides_from(second: &[u8], third: &[u8]) -> Result<Sides, MapFault>
     )
 }
 
-/// The sides, from what each of two lines gives as height and as width, or the first refusal.
+/// Returns the sides, from what each of two lines gives as height and as width, or the first fault.
 #[tactic(auto, unfolding(crate::specs::MapText::sides_given))]
 fn sides_given(
     second_height: Option<u32>,
@@ -114,7 +115,7 @@ fn sides_given(
     Err(MapFault::Header { line: 2 })
 }
 
-/// The side that line 3 gives, where line 2 gives this one.
+/// Returns the side that line 3 gives, after line 2 gave this one.
 fn other_side(one: u32, other: Option<u32>) -> Result<u32, MapFault>
     ensures { result ≡ other_side one other }
 {
@@ -124,7 +125,7 @@ fn other_side(one: u32, other: Option<u32>) -> Result<u32, MapFault>
     other.ok_or(MapFault::Header { line: 3 })
 }
 
-/// The sides, where a map may have these.
+/// Returns the sides if a map may have them.
 fn judged_sides(width: u32, height: u32) -> Result<Sides, MapFault>
     ensures sides { MatchResult result
         (λ sides. judged_sides width height ≡ Ok (sides.width, sides.height))
@@ -137,14 +138,14 @@ fn judged_sides(width: u32, height: u32) -> Result<Sides, MapFault>
     Ok(Sides { width, height })
 }
 
-/// Whether a side may be so long.
+/// Returns whether a side may have this length.
 fn is_side_length(length: u32) -> bool
     ensures { result ≡ is_side_length length }
 {
     1 <= length && length <= MAX_SIDE
 }
 
-/// Whether a map may have these sides.
+/// Returns whether a map may have these sides.
 fn are_map_sides(width: u32, height: u32) -> bool
     ensures { result ≡ are_map_sides width height }
 {

@@ -1,4 +1,5 @@
-//! Maps as text: what a text stands for, and the canonical text of a map. (MovingAI map format page.)
+//! Maps as text: the map that a text stands for, and the canonical text of a map. (MovingAI map
+//! format page.)
 #![tactic(auto)]
 
 ghost use Rattle.std.specs.Prelude.{◌≡◌, ◌≤◌, Ok, Err, length, IfOk};
@@ -28,10 +29,11 @@ pub const MAX_MAP_BYTES: usize = 2_097_152;
 /// The lines of a map's text.
 type MapLines<'a> = Lines<'a, MAX_MAP_BYTES>;
 
-/// The map that a text of at most `MAX_MAP_BYTES` bytes stands for, or why there is none: the first refusal in the
-/// order of the file. Lines end with a line feed, or a carriage return and a line feed. The first four give the form
-/// and the sides, in either order. Each further line is a row: `.`, `G` and `S` are land, `W` is water, `@`, `O` and `T`
-/// are blocked, and all else is refused.
+/// Returns the map that a text of at most `MAX_MAP_BYTES` bytes stands for, or the first fault in
+/// the order of the file. Lines end with a line feed, or a carriage return and a line feed. The
+/// first four lines give the form and the sides, which may come in either order. Each further line
+/// is a row: `.`, `G` and `S` are land, `W` is water, `@`, `O` and `T` are blocked, and any other
+/// byte is a fault.
 pub fn read_map(alloc: Global, bytes: &[u8]) -> Result<Grid, MapError>
     requires { length bytes.now ≤ MAX_MAP_BYTES }
     ensures grid { IfOk result (λ grid. map_of bytes.now ≡ Ok grid) }
@@ -48,19 +50,20 @@ pub fn read_map(alloc: Global, bytes: &[u8]) -> Result<Grid, MapError>
     Ok(Grid::of_terrain(alloc, sides.width, sides.height, cells)?)
 }
 
-/// A law, stated in the contract: a text is accepted exactly where it stands for a map, line by line, and then with
-/// that map.
+/// A law, stated in the contract: a text is accepted exactly when it stands for a map, line by
+/// line, and then as that map.
 pub fn accepts_exactly_map_texts()
     ensures { AcceptsExactlyMapTexts }
 {}
 
-/// A law, stated in the contract: the refusal of a text names a line or a cell that is at fault, and nothing before it
-/// is.
+/// A law, stated in the contract: the error for a text names a line or a cell that is at fault, and
+/// nothing before it is.
 pub fn refusals_name_the_first_fault()
     ensures { RefusalsNameTheFirstFault }
 {}
 
-/// A law, stated in the contract: reading the canonical text of a map that may be searched gives that map.
+/// A law, stated in the contract: reading the canonical text of a map that can be searched gives
+/// that map.
 pub fn canonical_text_reads_back()
     ensures { CanonicalTextReadsBack }
 {}

@@ -1,4 +1,4 @@
-//! The rows: one line for each, one byte for a cell.
+//! The rows: one line for each row, one byte for each cell.
 
 ghost use Rattle.std.specs.Prelude.{◌≡◌, ◌+◌, ◌*◌, ◌-◌, ◌<◌, ◌≤◌, ◌^◌, Bool, List, [], ◌∷◌, ℕ, take, drop, length, Some, None, Ok, Err, MatchResult, OnOk, IfOk, true, false};
 ghost use Rattle.moves.specs.Maps.{IsWithinLimits};
@@ -11,7 +11,7 @@ use crate::{MAX_MAP_BYTES, MapLines};
 use moves::{MAX_PASSABLE, MAX_SIDE, Terrain};
 use text_lines::{is_blank, without_gaps_at_end};
 
-/// Reads the rows into the cells, row by row; or gives the first refusal.
+/// Reads the rows into the cells, row by row, or returns the first fault.
 pub fn read_rows(lines: &mut MapLines, sides: Sides, cells: &mut [Terrain]) -> Result<(), MapFault>
     requires limits { IsWithinLimits sides.width sides.height }
     requires whole { length cells.old ≡ sides.width * sides.height }
@@ -34,7 +34,8 @@ pub fn read_rows(lines: &mut MapLines, sides: Sides, cells: &mut [Terrain]) -> R
     Ok(())
 }
 
-/// The bytes of row `y`: the line without the spaces and tabs at its end, which has to be as long as the map is wide.
+/// Returns the bytes of row `y`: the line without the spaces and tabs at its end, which must be as
+/// long as the map is wide.
 #[tactic(auto, unfolding(crate::specs::MapText::row_in))]
 fn row_in(line: &[u8], width: u32, y: u32) -> Result<&[u8], MapFault>
     requires line { length line.now ≤ MAX_MAP_BYTES }
@@ -55,7 +56,8 @@ fn row_in(line: &[u8], width: u32, y: u32) -> Result<&[u8], MapFault>
     Ok(row)
 }
 
-/// Reads row `y` into its cells, where `free` cells before them are passable: how many are with those of the row.
+/// Reads row `y` into its cells, after `free` passable cells, and returns how many are passable
+/// now.
 fn read_cells(row: &[u8], y: u16, free: u32, cells: &mut [Terrain]) -> Result<u32, MapFault>
     requires width { length row.now ≤ MAX_SIDE }
     requires room { (y + 1) * length row.now ≤ length cells.old }
@@ -79,7 +81,7 @@ fn read_cells(row: &[u8], y: u16, free: u32, cells: &mut [Terrain]) -> Result<u3
     Ok(count)
 }
 
-/// What stands at the cell, where `free` cells before it are passable; or why it is refused.
+/// Returns the terrain of a cell that comes after `free` passable cells, or its fault.
 #[tactic(auto, unfolding(crate::specs::MapText::cell_of))]
 fn cell_of(x: u16, y: u16, byte: u8, free: u32) -> Result<Terrain, MapFault>
     ensures { result ≡ cell_of x y byte free }
@@ -93,7 +95,7 @@ fn cell_of(x: u16, y: u16, byte: u8, free: u32) -> Result<Terrain, MapFault>
     Ok(terrain)
 }
 
-/// What the byte stands for.
+/// Returns what the byte stands for.
 #[tactic(auto, unfolding(crate::specs::MapText::terrain_for))]
 fn terrain_for(byte: u8) -> Option<Terrain>
     ensures { result ≡ terrain_for byte }
@@ -106,7 +108,7 @@ fn terrain_for(byte: u8) -> Option<Terrain>
     }
 }
 
-/// The number of the first line that is not blank, where the next line has this number.
+/// Returns the number of the first line that is not blank, if the next line has this number.
 pub fn first_extra(lines: &mut MapLines, number: u32) -> Option<u32>
     requires { number + length lines.old < 2 ^ 32 }
     ensures { result ≡ extra_in number lines.old }

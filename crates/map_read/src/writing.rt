@@ -10,8 +10,9 @@ use crate::MAX_MAP_BYTES;
 use moves::{Cell, Grid, Terrain};
 use std::alloc::{AllocError, Global};
 
-/// The canonical text of the map: `type octile`, `height H`, `width W`, `map`, and the rows with `.` for land, `W` for
-/// water and `@` for a blocked cell. A line feed ends each line. The text is short enough to be read back.
+/// Returns the canonical text of the map: `type octile`, `height H`, `width W`, `map`, and the rows
+/// with `.` for land, `W` for water and `@` for a blocked cell. Each line ends with a line feed.
+/// The text is short enough to be read back.
 pub fn write_map(alloc: Global, grid: &Grid) -> Result<Vec<u8>, AllocError>
     ensures text { IfOk result (λ text. text.items ≡ text_of grid.now) }
     ensures limit { IfOk result (λ text. vec_len text ≤ MAX_MAP_BYTES) }
@@ -27,14 +28,14 @@ pub fn write_map(alloc: Global, grid: &Grid) -> Result<Vec<u8>, AllocError>
     Ok(text)
 }
 
-/// The header of the canonical text.
+/// Returns the header of the canonical text.
 fn header_text(alloc: Global, width: u32, height: u32) -> Result<String, AllocError>
     ensures { IfOk result (λ text. string_bytes text ≡ header_text width height) }
 {
     format!(in alloc; "type octile\nheight {height}\nwidth {width}\nmap\n")
 }
 
-/// Adds the text of row `y` with its line feed.
+/// Appends the text of row `y` and its line feed.
 fn push_row(text: &mut Vec<u8>, grid: &Grid, y: u16) -> Result<(), AllocError>
     requires { y < grid.now.height }
     ensures { OnOk result (text.new.items ≡ text.old.items ++ with_feed (row_text grid.now y)) }
@@ -46,7 +47,7 @@ fn push_row(text: &mut Vec<u8>, grid: &Grid, y: u16) -> Result<(), AllocError>
     Ok(())
 }
 
-/// How a cell is written.
+/// Returns the byte that a cell is written as.
 fn glyph(terrain: Terrain) -> u8
     ensures { result ≡ glyph terrain }
 {

@@ -1,4 +1,4 @@
--- What a component says of moves and of best paths: they depend on its cells alone.
+-- What a component determines about moves and best paths: they depend on its cells alone.
 use Rattle.std.specs.Prelude.{◌≡◌, ◌↔◌, ◌*◌, List, length, Option, AllPairs, Contains}
 use Rattle.root_cost.specs.declared.Cost.{Cost}
 use Rattle.moves.specs.declared.Cell.{Cell}
@@ -10,7 +10,7 @@ use Rattle.moves.specs.FirstSets.{IsFirstMove}
 use Rattle.moves.specs.Components.{IsComponent}
 use Rattle.moves.specs.StraightPaths.{IsConnected}
 
--- the map's passable cells are just these, all of one class, whatever its sides are
+-- the map's passable cells are exactly these, all of one class, whatever its sides are
 pub record HasJust (map : Map) (cells : List Cell) : Type 0 where
   pub just_these : (cell : Cell) → IsPassable map cell ↔ Contains cells cell
   pub one_class : (cell other : Cell) → Contains cells cell → Contains cells other → IsLike map cell other
@@ -58,12 +58,12 @@ ComponentsStayComponents =
 abbrev pub ComponentsAreConnected : Type 0
 ComponentsAreConnected = (map : Map) (cells : List Cell) → IsComponent map cells → IsConnected cells
 
--- the passable cells are all in their list, each once and in row-major order
+-- the list of passable cells has exactly these, each once and in row-major order
 pub record IsListed (map : Map) : Type 0 where
   pub just_these : (cell : Cell) → Contains (passable_cells map) cell ↔ IsPassable map cell
   pub in_order : AllPairs ComesBefore (passable_cells map)
 
--- this holds for each map inside the limits that says of each cell whether it is passable
+-- the list is right for each map inside the limits that has a terrain for each cell
 abbrev pub PassableCellsAreListed : Type 0
 PassableCellsAreListed =
     (map : Map) → IsWithinLimits map.width map.height → length map.terrain ≡ map.width * map.height → IsListed map

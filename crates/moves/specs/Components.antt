@@ -4,7 +4,7 @@ use Rattle.moves.specs.declared.Cell.{Cell}
 use Rattle.moves.specs.Maps.{Map, IsPassable, ComesBefore}
 use Rattle.moves.specs.Paths.{Reaches}
 
--- a component: with each of its cells it has exactly the cells that a path reaches from there, in row-major order
+-- a component: exactly the cells that a path reaches from any of its cells, in row-major order
 pub record IsComponent (map : Map) (cells : List Cell) : Type 0 where
   pub some : 0 < length cells
   pub passable : All (IsPassable map) cells

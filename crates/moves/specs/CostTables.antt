@@ -1,4 +1,4 @@
--- A table of costs that shows by itself that its costs are the least.
+-- A table of costs that itself shows its costs to be the least.
 use Rattle.std.specs.Prelude.{◌≡◌, ◌≢◌, Option, Some}
 use Rattle.root_cost.specs.declared.Cost.{Cost}
 use Rattle.root_cost.specs.Costs.{IsAtMost, no_cost, plus_step}
@@ -8,12 +8,12 @@ use Rattle.moves.specs.Maps.{Map, IsPassable}
 use Rattle.moves.specs.Moves.{is_diagonal, IsLegal}
 use Rattle.moves.specs.Paths.{IsLeastCost}
 
--- what a path costs that goes one move further
+-- the cost of a path after one more move
 abbrev pub after_step : Cost → Move → Cost
 after_step cost move = plus_step cost (is_diagonal move)
 
--- The cells that have a cost are closed under legal moves, no move leads to a cell more cheaply than its cost says,
--- and each cost but the source's is attained by a move from a cell before it.
+-- The cells that have a cost are closed under legal moves, no move leads to a cell more cheaply than its cost says, and
+-- each cost but the source's is attained by a move from a cell before it.
 pub record IsCostTable (map : Map) (source : Cell) (costs : Cell → Option Cost) : Type 0 where
   pub start : costs source ≡ Some no_cost
   pub no_shorter : (from : Cell) (move : Move) (to : Cell) (cost : Cost)
@@ -23,7 +23,7 @@ pub record IsCostTable (map : Map) (source : Cell) (costs : Cell → Option Cost
       → (from : Cell) × (move : Move) × (before : Cost)
       × (costs from ≡ Some before) × IsLegal map from move to × (cost ≡ after_step before move)
 
--- each cost of such a table is the least, and no path reaches a cell without one
+-- each cost in a cost table is the least, and no path reaches a cell without one
 abbrev pub CostTablesAreLeast : Type 0
 CostTablesAreLeast =
     (map : Map) (source : Cell) (costs : Cell → Option Cost) → IsPassable map source → IsCostTable map source costs

@@ -1,5 +1,5 @@
--- Maps that are drawn by their rows with `/` between them: `.` is land, `W` water, and any other byte a blocked cell.
--- "../@." has two rows of two cells, and the first cell of the second row is blocked.
+-- Maps drawn row by row with `/` between the rows: `.` is land, `W` water, and any other byte a blocked cell. "../@."
+-- has two rows of two cells, and the first cell of the second row is blocked.
 use Rattle.std.specs.Prelude.{◌≡◌, ℕ, ◌==◌, cond, not, List, map, filter, length, replicate, flat_map}
 use Rattle.std.specs.List.{slice_split}
 use Rattle.moves.specs.declared.Terrain.{Terrain}
@@ -13,11 +13,11 @@ terrain_drawn byte = cond (byte == 46) Land (cond (byte == 87) Water Blocked)
 abbrev pub rows_drawn : List ℕ → List (List ℕ)
 rows_drawn drawing = slice_split (λ byte. byte == 47) drawing
 
--- the drawing has that many rows of that many cells each
+-- the drawing has `height` rows of `width` cells each
 abbrev pub IsDrawing : ℕ → ℕ → List ℕ → Type 0
 IsDrawing width height drawing = map length (rows_drawn drawing) ≡ replicate height width
 
--- the bytes of a drawing without the marks between its rows, as cells
+-- the bytes of a drawing, without the marks between its rows, as cells
 abbrev pub cells_between_marks : List ℕ → List Terrain
 cells_between_marks drawing = map terrain_drawn (filter (λ byte. not (byte == 47)) drawing)
 

@@ -6,7 +6,7 @@ use Rattle.moves.specs.declared.Move.TheVariants.{N, NE, E, SE, S, SW, W, NW}
 use Rattle.moves.specs.Maps.{Map, IsInside, IsLike, place_of}
 use Rattle.moves.specs.Moves.{number_of, IsTarget, HasLegal}
 
--- the mask has just the moves that are legal from the cell
+-- the mask has exactly the moves that are legal from the cell
 abbrev pub IsMoveMask : Map → Cell → ℕ → Type 0
 IsMoveMask map cell mask = (move : Move) → (IsBitSet mask (number_of move) ↔ HasLegal map cell move)
 
@@ -19,12 +19,12 @@ pub record AreMoveMasks (map : Map) (masks : List ℕ) : Type 0 where
 abbrev pub HasFree : Map → Cell → Move → Type 0
 HasFree map from move = (to : Cell) × IsTarget from move to × IsLike map from to
 
--- the mask has just the moves that lead to passable cells of the same class
+-- the mask has exactly the moves that lead to passable cells of the same class
 abbrev pub IsFreeMask : Map → Cell → ℕ → Type 0
 IsFreeMask map cell mask = (move : Move) → (IsBitSet mask (number_of move) ↔ HasFree map cell move)
 
--- From a passable cell such a mask tells the legal moves: a straight move leads to a passable cell of the same class, and
--- a diagonal one does so as well as the two straight moves beside it.
+-- The legal moves of a passable cell, from its mask of moves to passable cells of the same class: a straight move is
+-- legal if it is in the mask, and a diagonal one if it and both straight moves beside it are.
 abbrev pub IsLegalAmong : ℕ → Move → Type 0
 IsLegalAmong mask N = IsBitSet mask 0
 IsLegalAmong mask NE = IsBitSet mask 1 × IsBitSet mask 0 × IsBitSet mask 2
@@ -35,7 +35,7 @@ IsLegalAmong mask SW = IsBitSet mask 5 × IsBitSet mask 4 × IsBitSet mask 6
 IsLegalAmong mask W = IsBitSet mask 6
 IsLegalAmong mask NW = IsBitSet mask 7 × IsBitSet mask 6 × IsBitSet mask 0
 
--- the cell lies in these columns and rows, the ends not among them
+-- the cell lies in these columns and rows, the last ones excluded
 pub record IsWithin (left right top bottom : ℕ) (cell : Cell) : Type 0 where
   pub from_left : left ≤ cell.x
   pub to_right : cell.x < right

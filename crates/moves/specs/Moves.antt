@@ -1,4 +1,4 @@
--- Legal moves: eight directions, no corner is cut, and none leads from land to water or back. (MovingAI scenario format
+-- Legal moves: eight directions, without cutting corners, and never between land and water. (MovingAI scenario format
 -- page; MovingAI map format page: water can be crossed, but not entered from land)
 use Rattle.std.specs.Prelude.{◌≡◌, ℕ, ◌+◌, Bool, false, true, IsTrue, List, codes}
 use Rattle.moves.specs.declared.Cell.{Cell}
@@ -65,16 +65,16 @@ IsTarget a NW b = (b.x + 1 ≡ a.x) × (b.y + 1 ≡ a.y)
 abbrev pub corner : Cell → Cell → Cell
 corner a b = record { x = a.x; y = b.y }
 
--- no cell inside is where the move ends
+-- the move ends at no cell inside
 abbrev pub LeadsOutside : Map → Cell → Move → Type 0
 LeadsOutside map from move = (to : Cell) → IsTarget from move to → IsInside map to → ⊥
 
--- the two cells in the column of the one and the row of the other are passable, and of the class of `a`
+-- the two cells that share a column with one cell and a row with the other are passable, and of the class of `a`
 abbrev pub HasFreeCorners : Map → Cell → Cell → Type 0
 HasFreeCorners map a b = IsLike map a (corner a b) × IsLike map a (corner b a)
 
--- The move from `from` to `to` is legal: both cells are land or both are water and, for a diagonal move,
--- the two cells that are orthogonally adjacent to both are of that same class.
+-- The move from `from` to `to` is legal: both cells are land or both are water and, for a diagonal move, so are the two
+-- cells orthogonally adjacent to both.
 pub record IsLegal (map : Map) (from : Cell) (move : Move) (to : Cell) : Type 0 where
   pub target : IsTarget from move to
   pub leaves : IsPassable map from

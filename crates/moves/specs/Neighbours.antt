@@ -1,4 +1,4 @@
--- The legal moves of a cell, with the cells that they lead to.
+-- The legal moves of a cell, with the cells they lead to.
 use Rattle.std.specs.Prelude.{◌≡◌, ℕ, ◌<◌, List, All, AllPairs, Contains}
 use Rattle.moves.specs.declared.Cell.{Cell}
 use Rattle.moves.specs.declared.Move.{Move}

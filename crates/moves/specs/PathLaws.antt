@@ -1,4 +1,4 @@
--- Laws of paths that every search and every database of paths rests on.
+-- Laws of paths that every search and every path database relies on.
 use Rattle.std.specs.Prelude.{◌≡◌, List, [], ◌∷◌, ◌++◌, map, reverse, length}
 use Rattle.root_cost.specs.Costs.{sum_of}
 use Rattle.moves.specs.declared.Cell.{Cell}
@@ -11,7 +11,7 @@ use Rattle.moves.specs.Paths.{IsPath, Leads, cost_of, IsBest, Reaches}
 abbrev pub back_along : List Move → List Move
 back_along moves = reverse (map opposite moves)
 
--- the cells after `from` end at `to`
+-- the last of `from` and the cells after it is `to`
 abbrev pub EndsAt : Cell → List Cell → Cell → Type 0
 EndsAt from [] to = from ≡ to
 EndsAt from (next ∷ rest) to = EndsAt next rest to
@@ -36,6 +36,6 @@ pub record LawsOfPaths : Type 0 where
   pub walked : (map : Map) (from to : Cell) (moves : List Move) → Leads map from moves to
       → (rest : List Cell) × IsPath map (from ∷ rest) × EndsAt from rest to × (length rest ≡ length moves)
 
--- where a path exists, a best path exists
+-- if a path exists, a best path exists
 abbrev pub BestPathsExist : Type 0
 BestPathsExist = (map : Map) (from to : Cell) → Reaches map from to → (best : List Move) × IsBest map from best to

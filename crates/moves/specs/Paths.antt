@@ -1,5 +1,5 @@
--- Paths, their costs, best paths and least costs. They speak of all paths, however one is found.
--- (MovingAI scenario format page: straight steps of cost 1, diagonal steps of cost √2.)
+-- Paths, their costs, best paths and least costs. These cover all paths, however they are found. (MovingAI scenario
+-- format page: straight steps of cost 1, diagonal steps of cost √2.)
 use Rattle.std.specs.Prelude.{◌≡◌, not, List, [], ◌∷◌, Option, MatchOption, count_by}
 use Rattle.root_cost.specs.declared.Cost.{Cost}
 use Rattle.root_cost.specs.Costs.{IsAtMost}
@@ -8,7 +8,7 @@ use Rattle.moves.specs.declared.Move.{Move}
 use Rattle.moves.specs.Maps.{Map, IsPassable}
 use Rattle.moves.specs.Moves.{is_diagonal, IsLegal}
 
--- from a cell on, each next cell is reached by a legal move
+-- starting at a cell, each next cell is reached by a legal move
 abbrev pub GoesOn : Map → Cell → List Cell → Type 0
 GoesOn map from [] = Unit {0}
 GoesOn map from (next ∷ rest) = ((move : Move) × IsLegal map from move next) × GoesOn map next rest
@@ -18,7 +18,7 @@ abbrev pub IsPath : Map → List Cell → Type 0
 IsPath map [] = ⊥
 IsPath map (first ∷ rest) = IsPassable map first × GoesOn map first rest
 
--- the same told by its moves: these moves, each legal where it is made, lead from a passable cell to another
+-- a path by its moves: these moves, each legal where it is made, lead from a passable cell to another
 abbrev pub Leads : Map → Cell → List Move → Cell → Type 0
 Leads map from [] to = IsPassable map from × (from ≡ to)
 Leads map from (move ∷ moves) to = (next : Cell) × IsLegal map from move next × Leads map next moves to
@@ -30,16 +30,16 @@ cost_of moves = record {
   diagonal = count_by is_diagonal moves;
 }
 
--- a best path: none with the same ends costs less
+-- a best path: no path with the same ends costs less
 pub record IsBest (map : Map) (from : Cell) (moves : List Move) (to : Cell) : Type 0 where
   pub leads : Leads map from moves to
   pub least : (others : List Move) → Leads map from others to → IsAtMost (cost_of moves) (cost_of others)
 
--- some path leads from the one cell to the other
+-- some path leads from one cell to the other
 abbrev pub Reaches : Map → Cell → Cell → Type 0
 Reaches map from to = (moves : List Move) × Leads map from moves to
 
--- the least cost: that of a best path, and none where no path exists
+-- the least cost: that of a best path, and none if no path exists
 abbrev pub IsLeastCost : Map → Cell → Cell → Option Cost → Type 0
 IsLeastCost map from to cost =
     MatchOption cost (Reaches map from to → ⊥)

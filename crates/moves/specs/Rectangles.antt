@@ -1,9 +1,9 @@
--- Rectangles of cells: some columns and some rows, from an upper left cell on.
+-- Rectangles of cells: some columns and some rows, starting at an upper left cell.
 use Rattle.std.specs.Prelude.{ℕ, ◌+◌, ◌-◌, ◌*◌, ◌<◌, ◌≤◌}
 use Rattle.moves.specs.declared.Cell.{Cell}
 use Rattle.moves.specs.declared.TheConstants.{MAX_SIDE}
 
--- the cell may be on a map: its column and its row are below the limit on sides
+-- the cell can be on a map: its column and its row are below the limit on sides
 pub record IsOnMap (cell : Cell) : Type 0 where
   pub column : cell.x < MAX_SIDE
   pub row : cell.y < MAX_SIDE
@@ -26,7 +26,7 @@ pub record IsWithin (area : Rectangle) (cell : Cell) : Type 0 where
 abbrev pub place_in : Rectangle → Cell → ℕ
 place_in area cell = (cell.y - area.top) * area.width + (cell.x - area.left)
 
--- columns and rows, by the first and the last of each, that are in order and below the limit on sides
+-- first and last columns and rows that are in order and below the limit on sides
 pub record AreEdges (left right top bottom : ℕ) : Type 0 where
   pub columns : left ≤ right
   pub rows : top ≤ bottom

@@ -1,4 +1,4 @@
--- What paths a map has depends on its passable cells and their classes alone.
+-- The paths of a map depend only on its passable cells and their classes.
 use Rattle.std.specs.Prelude.{◌↔◌, List, Option}
 use Rattle.root_cost.specs.declared.Cost.{Cost}
 use Rattle.moves.specs.declared.Cell.{Cell}
@@ -8,8 +8,8 @@ use Rattle.moves.specs.Moves.{IsLegal}
 use Rattle.moves.specs.Paths.{Leads, IsBest, IsLeastCost}
 use Rattle.moves.specs.FirstSets.{IsFirstMove}
 
--- the same cells are passable in both maps, and the same are of one class, whatever the maps' sides are and
--- whichever class that is
+-- both maps have the same passable cells, and the same pairs of cells are of one class, whatever the maps' sides are
+-- and whichever class that is
 pub record HaveSameClasses (a b : Map) : Type 0 where
   pub passable : (cell : Cell) → IsPassable a cell ↔ IsPassable b cell
   pub alike : (cell other : Cell) → IsPassable a cell → IsLike a cell other ↔ IsLike b cell other
@@ -22,6 +22,6 @@ pub record HaveSamePaths (a b : Map) : Type 0 where
   pub costs : (from to : Cell) (cost : Option Cost) → IsLeastCost a from to cost ↔ IsLeastCost b from to cost
   pub first : (from to : Cell) (move : Move) → IsFirstMove a from to move ↔ IsFirstMove b from to move
 
--- maps that have the same passable cells in the same classes have the same paths
+-- maps with the same passable cells in the same classes have the same paths
 abbrev pub ClassesDecidePaths : Type 0
 ClassesDecidePaths = (a b : Map) → HaveSameClasses a b → HaveSamePaths a b

@@ -1,4 +1,4 @@
--- Paths of straight moves. Where no corner is cut, they reach all that any path reaches.
+-- Paths of straight moves. Since no corner is cut, they reach everything that any path reaches.
 use Rattle.std.specs.Prelude.{◌≡◌, ◌↔◌, IsTrue, IsFalse, List, [], ◌∷◌, All, Contains}
 use Rattle.moves.specs.declared.Cell.{Cell}
 use Rattle.moves.specs.declared.Move.{Move}
@@ -6,12 +6,12 @@ use Rattle.moves.specs.Maps.{Map}
 use Rattle.moves.specs.Moves.{is_diagonal, IsTarget, IsLegal}
 use Rattle.moves.specs.Paths.{Leads, Reaches}
 
--- some path of straight moves leads from the one cell to the other
+-- some path of straight moves leads from one cell to the other
 abbrev pub ReachesStraight : Map → Cell → Cell → Type 0
 ReachesStraight map from to =
     (moves : List Move) × Leads map from moves to × All (λ move. IsFalse (is_diagonal move)) moves
 
--- these straight moves lead from the one cell to the other, each to a cell of the list
+-- these straight moves lead from one cell to the other, each to a cell of the list
 abbrev pub GoesThrough : List Cell → Cell → List Move → Cell → Type 0
 GoesThrough cells from [] to = from ≡ to
 GoesThrough cells from (move ∷ moves) to =
@@ -23,13 +23,13 @@ pub record IsConnected (cells : List Cell) : Type 0 where
   pub joined : (from to : Cell) → Contains cells from → Contains cells to
       → (moves : List Move) × GoesThrough cells from moves to
 
--- in place of each legal diagonal move two straight ones are legal, one after the other
+-- each legal diagonal move can be replaced by two straight moves, legal one after the other
 abbrev pub DiagonalsAreReplaceable : Type 0
 DiagonalsAreReplaceable =
     (map : Map) (from : Cell) (move : Move) (to : Cell) → IsLegal map from move to → IsTrue (is_diagonal move)
     → (first second : Move) × IsFalse (is_diagonal first) × IsFalse (is_diagonal second)
     × Leads map from (first ∷ second ∷ []) to
 
--- a cell is reached exactly where straight moves alone reach it
+-- a path reaches a cell exactly when straight moves alone reach it
 abbrev pub StraightMovesReachAll : Type 0
 StraightMovesReachAll = (map : Map) (from to : Cell) → Reaches map from to ↔ ReachesStraight map from to

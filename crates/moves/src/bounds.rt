@@ -1,4 +1,4 @@
-//! The smallest rectangle that has some cells, and the places of cells in it.
+//! The smallest rectangle that contains some cells, and the places of cells in it.
 
 ghost use Rattle.std.specs.Prelude.{◌≡◌, ◌+◌, ◌*◌, ◌<◌, ◌≤◌, ◌↔◌, All, length, IsTrue};
 ghost use Rattle.moves.specs.Rectangles.{IsOnMap, IsWithin, place_in, AreEdges, IsBetween};
@@ -6,7 +6,7 @@ ghost use Rattle.moves.specs.Rectangles.{IsOnMap, IsWithin, place_in, AreEdges, 
 use crate::{Cell, MAX_SIDE};
 use std::marker::Model;
 
-/// The smallest rectangle that has some cells.
+/// The smallest rectangle that contains some cells.
 #[derive(Drop)]
 pub struct Bounds {
     left: u16,
@@ -28,7 +28,7 @@ impl Model for Bounds {
 }
 
 impl Bounds {
-    /// The bounds of these cells, of which there is at least one.
+    /// Returns the bounds of these cells. There must be at least one.
     pub fn around(cells: &[Cell]) -> Bounds
         requires some { 0 < length cells.now }
         requires limits { All IsOnMap cells.now }
@@ -43,7 +43,7 @@ impl Bounds {
         }
     }
 
-    /// How many cells lie in the bounds.
+    /// Returns the number of cells in the bounds.
     pub fn size(&self) -> usize
         ensures size { result ≡ self.now.width * self.now.height }
         ensures limit { result ≤ MAX_SIDE * MAX_SIDE }
@@ -51,7 +51,7 @@ impl Bounds {
         (self.width * self.height) as usize
     }
 
-    /// Whether the cell lies in the bounds.
+    /// Returns whether the cell lies in the bounds.
     pub fn has(&self, cell: Cell) -> bool
         ensures { IsTrue result ↔ IsWithin self.now cell }
     {
@@ -61,7 +61,7 @@ impl Bounds {
             && u32::from(cell.y) < u32::from(self.top) + self.height
     }
 
-    /// The place of the cell in a list that goes through the bounds row by row.
+    /// Returns the place of the cell in a list that goes through the bounds row by row.
     pub fn place(&self, cell: Cell) -> usize
         requires { IsWithin self.now cell }
         ensures place { result ≡ place_in self.now cell }
@@ -80,7 +80,7 @@ struct Edges {
     bottom: u16,
 }
 
-/// The columns and rows of the cells.
+/// Returns the first and the last column and row of the cells.
 fn edges_of(cells: &[Cell]) -> Edges
     requires some { 0 < length cells.now }
     requires limits { All IsOnMap cells.now }

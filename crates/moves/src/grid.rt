@@ -14,8 +14,8 @@ use arrayvec::ArrayVec;
 use std::alloc::{AllocError, Global};
 use std::marker::Model;
 
-/// A map of blocked cells, land and water: each side from 1 to [`MAX_SIDE`](crate::MAX_SIDE), and no more than
-/// [`MAX_CELLS`](crate::MAX_CELLS) cells.
+/// A map of blocked cells, land and water: each side from 1 to [`MAX_SIDE`](crate::MAX_SIDE), and
+/// at most [`MAX_CELLS`](crate::MAX_CELLS) cells.
 #[derive(Drop)]
 pub struct Grid {
     landscape: Landscape,
@@ -34,7 +34,7 @@ impl Model for Grid {
 }
 
 impl Grid {
-    /// A grid of blocked cells.
+    /// Returns a grid of blocked cells.
     pub fn blocked(alloc: Global, width: u32, height: u32) -> Result<Grid, AllocError>
         requires { IsWithinLimits width height }
         ensures { IfOk result (λ grid. grid ≡ blocked_map width height) }
@@ -46,8 +46,8 @@ impl Grid {
         })
     }
 
-    /// A grid with these cells, given row by row: `true` for land, `false` for a blocked one. Refused, the list is
-    /// dropped.
+    /// Returns a grid with these cells, given row by row: `true` for land, `false` for blocked. If
+    /// memory runs out, the list is dropped.
     pub fn of_cells(
         alloc: Global,
         width: u32,
@@ -62,7 +62,7 @@ impl Grid {
         Grid::of_terrain(alloc, width, height, terrain)
     }
 
-    /// A grid with these cells, given row by row. Refused, the list is dropped.
+    /// Returns a grid with these cells, given row by row. If memory runs out, the list is dropped.
     pub fn of_terrain(
         alloc: Global,
         width: u32,
@@ -80,9 +80,9 @@ impl Grid {
         Ok(Grid { landscape, masks })
     }
 
-    /// A grid with the cells that are drawn, row by row with `/` between the rows: `.` for land, `W` for water and any
-    /// other byte for a blocked cell. `../@W` has two rows of two cells; the last cell is water, and the one before it
-    /// blocked.
+    /// Returns a grid with the cells of a drawing, row by row with `/` between the rows: `.` for
+    /// land, `W` for water and any other byte for a blocked cell. `../@W` has two rows of two
+    /// cells; its second row is a blocked cell and a water cell.
     pub fn of_rows(alloc: Global, width: u32, height: u32, rows: &str) -> Result<Grid, AllocError>
         requires limits { IsWithinLimits width height }
         requires rows { IsDrawing width height rows.now }
@@ -92,11 +92,11 @@ impl Grid {
         Grid::of_terrain(alloc, width, height, cells)
     }
 
-    /// An equal grid.
+    /// Returns an equal grid.
     ///
     /// # Errors
     ///
-    /// `AllocError` where memory runs out.
+    /// `AllocError` if memory runs out.
     pub fn copy(&self) -> Result<Grid, AllocError>
         ensures { IfOk result (λ copy. copy ≡ self.now) }
     {
@@ -106,7 +106,7 @@ impl Grid {
         })
     }
 
-    /// The number of columns, from 1 to [`MAX_SIDE`](crate::MAX_SIDE).
+    /// Returns the number of columns, from 1 to [`MAX_SIDE`](crate::MAX_SIDE).
     pub fn width(&self) -> u32
         ensures width { result ≡ self.now.width }
         ensures limits { IsWithinLimits self.now.width self.now.height }
@@ -115,7 +115,7 @@ impl Grid {
         self.landscape.width()
     }
 
-    /// The number of rows, from 1 to [`MAX_SIDE`](crate::MAX_SIDE).
+    /// Returns the number of rows, from 1 to [`MAX_SIDE`](crate::MAX_SIDE).
     pub fn height(&self) -> u32
         ensures height { result ≡ self.now.height }
         ensures limits { IsWithinLimits self.now.width self.now.height }
@@ -124,14 +124,14 @@ impl Grid {
         self.landscape.height()
     }
 
-    /// Whether the cell lies inside the map.
+    /// Returns whether the cell lies inside the map.
     pub fn inside(&self, cell: Cell) -> bool
         ensures { IsTrue result ↔ IsInside self.now cell }
     {
         self.landscape.inside(cell)
     }
 
-    /// What stands at the cell; outside the map it is blocked.
+    /// Returns the terrain of the cell, which is blocked outside the map.
     pub fn terrain(&self, cell: Cell) -> Terrain
         ensures inside { IsInside self.now cell → result ≡ terrain_of self.now cell }
         ensures outside { (IsInside self.now cell → ⊥) → result ≡ Blocked }
@@ -139,7 +139,7 @@ impl Grid {
         self.landscape.terrain(cell)
     }
 
-    /// Whether the cell is inside and land or water.
+    /// Returns whether the cell is inside and is land or water.
     pub fn passable(&self, cell: Cell) -> bool
         ensures { IsTrue result ↔ IsPassable self.now cell }
     {
@@ -167,14 +167,14 @@ impl Grid {
             .write_masks(columns, rows, self.masks.as_mut_slice());
     }
 
-    /// How many cells are passable.
+    /// Returns the number of passable cells.
     pub fn passable_count(&self) -> u32
         ensures { result ≡ passable_count self.now }
     {
         self.landscape.passable_count()
     }
 
-    /// The cell that the move leads to; `None` exactly where that is not inside.
+    /// Returns the cell that the move leads to, and `None` exactly when that is not inside.
     pub fn step(&self, cell: Cell, by: Move) -> Option<Cell>
         requires { IsInside self.now cell }
         ensures inside { IfSome result (λ to. IsTarget cell by to × IsInside self.now to) }
@@ -183,8 +183,8 @@ impl Grid {
         self.landscape.step(cell, by)
     }
 
-    /// Whether the move is legal from that cell: both ends are land or both are water and, for a diagonal move, the two
-    /// cells that are orthogonally adjacent to both are of that class too.
+    /// Returns whether the move is legal from that cell: both ends are land or both are water and,
+    /// for a diagonal move, so are the two cells orthogonally adjacent to both.
     pub fn legal(&self, cell: Cell, by: Move) -> bool
         requires { IsInside self.now cell }
         ensures { IsTrue result ↔ HasLegal self.now cell by }
@@ -192,7 +192,7 @@ impl Grid {
         self.landscape.legal(cell, by)
     }
 
-    /// The legal moves from that cell by number, each with the cell that it leads to.
+    /// Returns the legal moves from that cell by number, each with the cell that it leads to.
     pub fn neighbours(&self, cell: Cell) -> ArrayVec<(Move, Cell), 8>
         requires { IsInside self.now cell }
         ensures { AreNeighbours self.now cell result.items }
@@ -200,7 +200,7 @@ impl Grid {
         self.landscape.neighbours(cell)
     }
 
-    /// The legal moves of each cell, row by row, as bits: bit i for the move with number i.
+    /// Returns the legal moves of each cell, row by row, as bits: bit i for the move with number i.
     pub fn move_masks(&self) -> &[u8]
         ensures { AreMoveMasks self.now result.now }
     {
@@ -208,7 +208,7 @@ impl Grid {
     }
 }
 
-/// The cells of a drawing, row by row.
+/// Returns the cells of a drawing, row by row.
 fn cells_of(alloc: Global, rows: &str) -> Result<Vec<Terrain>, AllocError>
     ensures { IfOk result (λ cells. cells.items ≡ cells_between_marks rows.now) }
 {
@@ -218,7 +218,7 @@ fn cells_of(alloc: Global, rows: &str) -> Result<Vec<Terrain>, AllocError>
         .collect(alloc)
 }
 
-/// What a byte of a drawing stands for.
+/// Returns what a byte of a drawing stands for.
 fn terrain_drawn(byte: u8) -> Terrain
     ensures { result ≡ terrain_drawn byte }
 {

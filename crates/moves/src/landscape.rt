@@ -1,4 +1,4 @@
-//! The cells of a map and its rule of legal moves, without anything that is kept for speed.
+//! The cells of a map and its rule of legal moves, without anything kept for speed.
 
 ghost use Rattle.std.specs.Prelude.{◌≡◌, ℕ, ◌+◌, ◌*◌, ◌<◌, ◌≤◌, ◌↔◌, Bool, false, List, IsTrue, IsBitSet, IfOk, IfSome, IfNone, length, replicate, count_by, slice_set};
 ghost use Rattle.moves.specs.declared.TheConstants.{MAX_CELLS};
@@ -16,8 +16,8 @@ use std::alloc::{AllocError, Global};
 use std::marker::Model;
 use std::ops::Range;
 
-/// A map of blocked cells, land and water: each side from 1 to [`MAX_SIDE`](crate::MAX_SIDE), and no more than
-/// [`MAX_CELLS`](crate::MAX_CELLS) cells.
+/// A map of blocked cells, land and water: each side from 1 to [`MAX_SIDE`](crate::MAX_SIDE), and
+/// at most [`MAX_CELLS`](crate::MAX_CELLS) cells.
 #[derive(Drop)]
 pub struct Landscape {
     width: u32,
@@ -40,7 +40,7 @@ impl Model for Landscape {
 }
 
 impl Landscape {
-    /// A grid of blocked cells.
+    /// Returns a map of blocked cells.
     pub fn blocked(alloc: Global, width: u32, height: u32) -> Result<Landscape, AllocError>
         requires { IsWithinLimits width height }
         ensures { IfOk result (λ landscape. landscape ≡ blocked_map width height) }
@@ -54,7 +54,7 @@ impl Landscape {
         })
     }
 
-    /// A grid with these cells, given row by row.
+    /// Returns a map with these cells, given row by row.
     pub fn of_terrain(width: u32, height: u32, terrain: Vec<Terrain>) -> Landscape
         requires limits { IsWithinLimits width height }
         requires whole { length terrain.items ≡ width * height }
@@ -69,7 +69,7 @@ impl Landscape {
         }
     }
 
-    /// An equal map.
+    /// Returns an equal map.
     pub fn copy(&self) -> Result<Landscape, AllocError>
         ensures { IfOk result (λ copy. copy ≡ self.now) }
     {
@@ -81,7 +81,7 @@ impl Landscape {
         })
     }
 
-    /// The number of columns, from 1 to [`MAX_SIDE`](crate::MAX_SIDE).
+    /// Returns the number of columns, from 1 to [`MAX_SIDE`](crate::MAX_SIDE).
     pub fn width(&self) -> u32
         ensures width { result ≡ self.now.width }
         ensures limits { IsWithinLimits self.now.width self.now.height }
@@ -90,7 +90,7 @@ impl Landscape {
         self.width
     }
 
-    /// The number of rows, from 1 to [`MAX_SIDE`](crate::MAX_SIDE).
+    /// Returns the number of rows, from 1 to [`MAX_SIDE`](crate::MAX_SIDE).
     pub fn height(&self) -> u32
         ensures height { result ≡ self.now.height }
         ensures limits { IsWithinLimits self.now.width self.now.height }
@@ -99,14 +99,14 @@ impl Landscape {
         self.height
     }
 
-    /// Whether the cell lies inside the map.
+    /// Returns whether the cell lies inside the map.
     pub fn inside(&self, cell: Cell) -> bool
         ensures { IsTrue result ↔ IsInside self.now cell }
     {
         u32::from(cell.x) < self.width && u32::from(cell.y) < self.height
     }
 
-    /// What stands at the cell; outside the map it is blocked.
+    /// Returns the terrain of the cell, which is blocked outside the map.
     pub fn terrain(&self, cell: Cell) -> Terrain
         ensures inside { IsInside self.now cell → result ≡ terrain_of self.now cell }
         ensures outside { (IsInside self.now cell → ⊥) → result ≡ Blocked }
@@ -118,14 +118,14 @@ impl Landscape {
         }
     }
 
-    /// Whether the cell is inside and land or water.
+    /// Returns whether the cell is inside and is land or water.
     pub fn passable(&self, cell: Cell) -> bool
         ensures { IsTrue result ↔ IsPassable self.now cell }
     {
         self.terrain(cell).is_passable()
     }
 
-    /// Whether the other cell is passable and of the same class.
+    /// Returns whether the other cell is passable and of the same class.
     fn is_like(&self, cell: Cell, other: Cell) -> bool
         requires { IsPassable self.now cell }
         ensures { IsTrue result ↔ IsLike self.now cell other }
@@ -142,7 +142,7 @@ impl Landscape {
         self.count = change_terrain(self.terrain.as_mut_slice(), place, terrain, self.count);
     }
 
-    /// How many cells are passable.
+    /// Returns the number of passable cells.
     #[tactic(auto, using(crate::proofs::Marks::count_open))]
     pub fn passable_count(&self) -> u32
         ensures { result ≡ passable_count self.now }
@@ -150,20 +150,20 @@ impl Landscape {
         self.count
     }
 
-    /// The cell that the move leads to; `None` exactly where that is not inside.
+    /// Returns the cell that the move leads to, and `None` exactly when that is not inside.
     pub fn step(&self, cell: Cell, by: Move) -> Option<Cell>
         requires { IsInside self.now cell }
         ensures inside { IfSome result (λ to. IsTarget cell by to × IsInside self.now to) }
         ensures outside { IfNone result (LeadsOutside self.now cell by) }
     {
-        // That the sides lie inside the limits is known where a field is read.
+        // Reading a field establishes that the sides are within the limits.
         let _ = &self.width;
         let to = target(cell, by)?;
         if self.inside(to) { Some(to) } else { None }
     }
 
-    /// Whether the move is legal from that cell: both ends are land or both are water and, for a diagonal move, the two
-    /// cells that are orthogonally adjacent to both are of that class too.
+    /// Returns whether the move is legal from that cell: both ends are land or both are water and,
+    /// for a diagonal move, so are the two cells orthogonally adjacent to both.
     pub fn legal(&self, cell: Cell, by: Move) -> bool
         requires { IsInside self.now cell }
         ensures { IsTrue result ↔ HasLegal self.now cell by }
@@ -174,7 +174,7 @@ impl Landscape {
         }
     }
 
-    /// The legal moves from that cell by number, each with the cell that it leads to.
+    /// Returns the legal moves from that cell by number, each with the cell that it leads to.
     pub fn neighbours(&self, cell: Cell) -> ArrayVec<(Move, Cell), 8>
         requires { IsInside self.now cell }
         ensures { AreNeighbours self.now cell result.items }
@@ -188,7 +188,7 @@ impl Landscape {
         found
     }
 
-    /// The move with that number and its target, where it is legal.
+    /// Returns the move with that number and its target, if the move is legal.
     fn numbered(&self, cell: Cell, number: u8) -> Option<(Move, Cell)>
         requires inside { IsInside self.now cell }
         requires number { number < 8 }
@@ -205,7 +205,7 @@ impl Landscape {
         }
     }
 
-    /// Whether the move to that cell is legal.
+    /// Returns whether the move to that cell is legal.
     fn leads(&self, cell: Cell, by: Move, to: Cell) -> bool
         requires { IsTarget cell by to }
         ensures { IsTrue result ↔ IsLegal self.now cell by to }
@@ -215,7 +215,8 @@ impl Landscape {
             && (!by.is_diagonal() || self.corners_are_free(cell, to))
     }
 
-    /// Whether both cells in the column of the one and the row of the other are of the class of `from`.
+    /// Returns whether the two cells that share a column with one cell and a row with the other are
+    /// of the class of `from`.
     fn corners_are_free(&self, from: Cell, to: Cell) -> bool
         requires { IsPassable self.now from }
         ensures { IsTrue result ↔ HasFreeCorners self.now from to }
@@ -224,7 +225,7 @@ impl Landscape {
             && self.is_like(from, Cell { x: to.x, y: from.y })
     }
 
-    /// The legal moves from that cell as bits.
+    /// Returns the legal moves from that cell as bits.
     pub fn mask(&self, cell: Cell) -> u8
         requires { IsInside self.now cell }
         ensures { IsMoveMask self.now cell result }
@@ -242,7 +243,7 @@ impl Landscape {
         mask
     }
 
-    /// The moves that lead to passable cells of the same class, as bits.
+    /// Returns the moves that lead to passable cells of the same class, as bits.
     fn free_mask(&self, cell: Cell) -> u8
         requires { IsPassable self.now cell }
         ensures { IsFreeMask self.now cell result }
@@ -256,14 +257,14 @@ impl Landscape {
         mask
     }
 
-    /// Whether the move with that number leads to a passable cell of the same class.
+    /// Returns whether the move with that number leads to a passable cell of the same class.
     fn is_free(&self, cell: Cell, number: u8) -> bool
         requires passable { IsPassable self.now cell }
         requires number { number < 8 }
         ensures { (move : Move) → number_of move ≡ number
             → (IsTrue result ↔ HasFree self.now cell move) }
     {
-        // That the sides lie inside the limits is known where a field is read.
+        // Reading a field establishes that the sides are within the limits.
         let _ = &self.width;
         let Some(by) = Move::of(number) else {
             return false;
@@ -294,7 +295,7 @@ impl Landscape {
         requires row { y < self.now.height }
         ensures { WritesMasks self.now left right y (y + 1) masks.old masks.new }
     {
-        // That the sides lie inside the limits is known where a field is read.
+        // Reading a field establishes that the sides are within the limits.
         let _ = &self.width;
         for x in left..right {
             let cell = Cell {
@@ -305,7 +306,7 @@ impl Landscape {
         }
     }
 
-    /// The cell's place in the list of cells, row by row.
+    /// Returns the cell's place in the list of cells, row by row.
     fn place(&self, cell: Cell) -> usize
         requires { IsInside self.now cell }
         ensures place { result ≡ place_of self.now.width cell }
@@ -315,7 +316,7 @@ impl Landscape {
     }
 }
 
-/// How many of these are passable.
+/// Returns how many of these are passable.
 fn count_passable(terrain: &[Terrain]) -> u32
     requires { length terrain.now ≤ MAX_CELLS }
     ensures { result ≡ count_by is_passable terrain.now }
@@ -323,7 +324,7 @@ fn count_passable(terrain: &[Terrain]) -> u32
     terrain.iter().filter(|cell| cell.is_passable()).count() as u32
 }
 
-/// Writes one cell of a list of which so many are passable, and gives how many are passable then.
+/// Writes one cell of a list with `count` passable cells, and returns the new count.
 #[tactic(auto, using(crate::proofs::Marks::recounted, crate::proofs::Marks::counted))]
 fn change_terrain(cells: &mut [Terrain], place: usize, terrain: Terrain, count: u32) -> u32
     requires limit { length cells.old ≤ MAX_CELLS }
@@ -337,8 +338,8 @@ fn change_terrain(cells: &mut [Terrain], place: usize, terrain: Terrain, count: 
     others + u32::from(terrain.is_passable())
 }
 
-/// Whether the move with that number is legal from a passable cell, where the mask has the moves that lead to
-/// passable cells of its class.
+/// Returns whether the move with that number is legal from a passable cell, given the mask of the
+/// moves that lead to passable cells of its class.
 fn is_legal_among(mask: u8, number: u8) -> bool
     requires { number < 8 }
     ensures { (move : Move) → number_of move ≡ number
@@ -353,7 +354,7 @@ fn is_legal_among(mask: u8, number: u8) -> bool
     }
 }
 
-/// Whether a bit is set.
+/// Returns whether a bit is set.
 fn has_bit(mask: u8, number: u8) -> bool
     requires { number < 8 }
     ensures { IsTrue result ↔ IsBitSet mask number }
@@ -361,8 +362,8 @@ fn has_bit(mask: u8, number: u8) -> bool
     mask & 1 << number != 0
 }
 
-/// The cell that the move leads to, on a grid without a lower or right end; `None` exactly where the column or the row
-/// would be below 0. [`Cell::target`] asks that neither is.
+/// Returns the cell that the move leads to on a grid without a lower or right end, and `None`
+/// exactly when the column or the row would be below 0. [`Cell::target`] requires that neither is.
 fn target(cell: Cell, by: Move) -> Option<Cell>
     requires column { cell.x < MAX_SIDE }
     requires row { cell.y < MAX_SIDE }

@@ -1,5 +1,13 @@
-//! Grid maps, and the moves between their cells: eight directions, and no corner is cut.
+//! Grid maps, and the moves between their cells: eight directions, without cutting corners.
 //! (MovingAI map format page and scenario format page.)
+//!
+//! The legal moves at the lower right cell of a map whose upper left cell is blocked, as a case
+//! gives them:
+//!
+//! ```text
+//! legal moves | @./.. | 1 1
+//! legal 01000001, kept 01000001, N to 1 0 W to 0 1
+//! ```
 #![tactic(auto)]
 
 ghost use Rattle.std.specs.Prelude.{◌≡◌, ℕ, ◌<◌, ◌≤◌, ◌↔◌, IsTrue, MatchOption};
@@ -18,17 +26,17 @@ pub use laws::{cost_tables_are_least, first_moves_are_local, sets_are_their_move
 pub use move_set::MoveSet;
 use std::fmt;
 
-/// The most columns and the most rows that a map has.
+/// The most columns, and the most rows, of a map.
 pub const MAX_SIDE: u32 = 4096;
 
-/// The most cells that a map has, passable and blocked.
+/// The most cells of a map, passable and blocked.
 pub const MAX_CELLS: u32 = 1_048_576;
 
-/// The most passable cells of a map that is searched.
+/// The most passable cells of a map that can be searched.
 pub const MAX_PASSABLE: u32 = 32_768;
 
-/// A cell by its column and row. (0, 0) is the upper left cell, x grows to the right and y downwards.
-/// (MovingAI map format page.)
+/// A cell by its column and row. (0, 0) is the upper left cell; x grows to the right and y
+/// downwards. (MovingAI map format page.)
 #[derive(Clone, Copy, Debug, Default, PartialEq, Eq)]
 pub struct Cell {
     /// The column, from 0.
@@ -38,7 +46,7 @@ pub struct Cell {
 }
 
 impl Cell {
-    /// The cell that the move leads to.
+    /// Returns the cell that the move leads to.
     #[inline]
     pub fn target(self, by: Move) -> Cell
         requires column { self.x < MAX_SIDE }
@@ -46,7 +54,7 @@ impl Cell {
         requires some { (to : Cell) × IsTarget self by to }
         ensures { IsTarget self by result }
     {
-        // Each is one more than what the move adds, so that no number on the way is below zero.
+        // Each is one more than what the move adds, so that no intermediate number is below zero.
         let right = match by {
             Move::SW | Move::W | Move::NW => 0,
             Move::N | Move::S => 1,
@@ -64,7 +72,7 @@ impl Cell {
     }
 }
 
-/// What stands at a cell. Land and water are passable, and no move leads from the one to the other.
+/// The terrain of a cell. Land and water are passable, and no move leads from one to the other.
 /// (MovingAI map format page.)
 #[derive(Clone, Copy, Debug, Default, PartialEq, Eq)]
 pub enum Terrain {
@@ -78,7 +86,7 @@ pub enum Terrain {
 }
 
 impl Terrain {
-    /// Whether it is land or water.
+    /// Returns whether it is land or water.
     #[inline]
     pub fn is_passable(self) -> bool
         ensures { result ≡ is_passable self }
@@ -86,7 +94,7 @@ impl Terrain {
         !matches!(self, Terrain::Blocked)
     }
 
-    /// Land for `true`, blocked for `false`.
+    /// Returns land for `true` and blocked for `false`.
     #[inline]
     pub fn land_if(passable: bool) -> Terrain
         ensures { result ≡ land_if passable }
@@ -122,7 +130,7 @@ pub enum Move {
 }
 
 impl Move {
-    /// The eight moves by their numbers.
+    /// The eight moves in the order of their numbers.
     pub const ALL: [Move; 8] = [
         Move::N,
         Move::NE,
@@ -134,7 +142,7 @@ impl Move {
         Move::NW,
     ];
 
-    /// The move's number, from 0 to 7.
+    /// Returns the move's number, from 0 to 7.
     pub fn number(self) -> u8
         ensures number { result ≡ number_of self }
         ensures limit { result < 8 }
@@ -142,7 +150,7 @@ impl Move {
         self as u8
     }
 
-    /// The move with that number; `None` exactly where the number is above 7.
+    /// Returns the move with that number, and `None` exactly when the number is above 7.
     pub fn of(number: u8) -> Option<Move>
         ensures { MatchOption result (7 < number) (λ move. number_of move ≡ number) }
     {
@@ -159,7 +167,7 @@ impl Move {
         }
     }
 
-    /// Whether the move is diagonal; the odd ones are.
+    /// Returns whether the move is diagonal: the odd ones are.
     pub fn is_diagonal(self) -> bool
         ensures { result ≡ is_diagonal self }
     {
@@ -167,7 +175,7 @@ impl Move {
     }
 }
 
-/// The move's name: N, NE, E, SE, S, SW, W or NW.
+/// Returns the move's name: N, NE, E, SE, S, SW, W or NW.
 impl fmt::Display for Move {
     ghost use Rattle.std.specs.Prelude.{Some};
     ghost use Rattle.moves.specs.Moves.{move_name};
@@ -188,7 +196,7 @@ impl fmt::Display for Move {
     }
 }
 
-/// The place of a cell in a list that goes row by row, where each row has so many cells.
+/// Returns the place of a cell in a list that goes row by row, `width` cells to a row.
 pub fn place(width: u32, cell: Cell) -> usize
     ensures { result ≡ place_of width cell }
 {

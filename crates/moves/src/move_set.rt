@@ -26,34 +26,34 @@ impl Model for MoveSet {
 }
 
 impl MoveSet {
-    /// The set of no move.
+    /// The empty set.
     pub const NONE: MoveSet = MoveSet { mask: 0 };
 
     /// The set of all eight moves.
     pub const ALL: MoveSet = MoveSet { mask: 255 };
 
-    /// The set with the moves whose bits are set: bit i for the move with number i.
+    /// Returns the set with the moves whose bits are set: bit i for the move with number i.
     pub fn of_mask(mask: u8) -> MoveSet
         ensures { result ≡ mask }
     {
         MoveSet { mask }
     }
 
-    /// The set as eight bits: bit i is set where the move with number i is in it.
+    /// Returns the set as eight bits: bit i is set if the move with number i is in it.
     pub fn mask(self) -> u8
         ensures { result ≡ self }
     {
         self.mask
     }
 
-    /// Whether the move is in the set.
+    /// Returns whether the move is in the set.
     pub fn has(self, m: Move) -> bool
         ensures { IsTrue result ↔ Has self m }
     {
         self.mask >> m.number() & 1 == 1
     }
 
-    /// The moves that are in both sets.
+    /// Returns the moves that are in both sets.
     pub fn meet(self, other: MoveSet) -> MoveSet
         ensures { IsMeet result self other }
     {
@@ -62,7 +62,7 @@ impl MoveSet {
         }
     }
 
-    /// The moves that are in either set.
+    /// Returns the moves that are in either set.
     pub fn join(self, other: MoveSet) -> MoveSet
         ensures { IsJoin result self other }
     {
@@ -71,7 +71,7 @@ impl MoveSet {
         }
     }
 
-    /// The set and that move.
+    /// Returns the set with that move added.
     pub fn with(self, m: Move) -> MoveSet
         ensures { IsWith result self m }
     {
@@ -80,14 +80,15 @@ impl MoveSet {
         }
     }
 
-    /// Whether no move is in the set.
+    /// Returns whether the set is empty.
     pub fn is_none(self) -> bool
         ensures { IsTrue result ↔ IsEmpty self }
     {
         self.mask == 0
     }
 
-    /// The move with the lowest number in the set; `None` exactly where no move is in it.
+    /// Returns the move with the lowest number in the set, and `None` exactly when the set is
+    /// empty.
     pub fn least(self) -> Option<Move>
         ensures { MatchOption result (IsEmpty self) (IsLeastIn self) }
     {

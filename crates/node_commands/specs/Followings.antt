@@ -25,8 +25,8 @@ following_text accepted = line (codes "following " ++ decimal accepted)
 
 -- ---- over the link
 
--- The house was called at the port. Over the link that it gave a new follower took the map and then messages in so many
--- rounds, with this result, and then that link was hung up.
+-- The house was called at the port. Over the link that it gave a new follower took the map and then messages in this
+-- many rounds, with this result, and then that link was hung up.
 abbrev pub CallsLeader : {D C : Type 0} → RunHouse D C → FollowAsked → Result (Unit {0}) LinkFault → Following → Type 0
 CallsLeader house asked result follower = CallsOver house asked.port
     (λ begun then. FollowsLink asked.rounds (new_following asked.order) begun result follower then)
@@ -82,12 +82,12 @@ pub record IsSilent (before after : Option (List ℕ)) (cause ended : Status) : 
   pub is : ended ≡ status.WriteFault
   pub silent : after ≡ before
 
--- there is another cause, and its line was put, or that of want of memory
+-- there is another cause, and its line was printed, or that of `NoMemory`
 pub record TellsLine (before after : Option (List ℕ)) (cause ended : Status) : Type 0 where
   pub other : cause ≢ status.WriteFault
   pub put : PutsCause before after cause ended
 
--- one of both
+-- either of the two
 abbrev pub TellsCause : Option (List ℕ) → Option (List ℕ) → Status → Status → Type 0
 TellsCause before after cause ended = IsSilent before after cause ended ⊎ TellsLine before after cause ended
 
@@ -109,7 +109,7 @@ pub record FailsToTell (board : Boarded) (input : RunInput) (before after : Opti
   pub put : FailsToBegin before after (following_text (accepted_count board.history)) ended
   pub unheard : IsUnheard input
 
--- one of both
+-- either of the two
 abbrev pub EndsOn : Boarded → RunInput → Option (List ℕ) → Option (List ℕ) → Status → Type 0
 EndsOn board input before after ended =
     HoldsTold board input before after ended ⊎ FailsToTell board input before after ended

@@ -110,7 +110,7 @@ pub record IsRefusedFeed {D C : Type 0} (house : RunHouse D C) (asked : DoorsAsk
   pub opened : AreOpened house asked doors
   pub back : house.after.lent ≡ with_doors_back (with_doors_given house.before.lent asked.count) doors
 
--- one of both
+-- either of the two
 abbrev pub IsRefused : {D C : Type 0} → RunHouse D C → DoorsAsked → ℕ → Type 0
 IsRefused house asked feed_port =
     IsRefusedDoors house asked ⊎ IsRefusedFeed house asked feed_port

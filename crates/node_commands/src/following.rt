@@ -28,19 +28,19 @@ use wire::{Bell, Failed, House, Link, Sink, put_all};
 /// How many threads build a version in the session.
 const WORKERS: u32 = 1;
 
-/// Follows the leader at a port, tells how many edits were accepted, and holds a session over the input on the board that
-/// they make. The link is hung up before anything is put, and from the session on nothing is put. Where there is no such
-/// board, the line of the cause is put.
+/// Follows the leader at a port, prints how many edits were accepted, and holds a session over the input on the board
+/// that they make. The link is closed before anything is printed, and nothing is printed during the session. If there
+/// is no such board, prints the line of the cause.
 ///
 /// # Errors
 ///
-/// - `BadAnswer` exactly where what came in may not come there, ended before a whole message, or says that the leader has
-///   fewer edits.
-/// - `LeaderMemory` exactly where it says that the leader had no memory.
-/// - `ReadFault` where nobody answers at the port, or the link, or the input in the session, failed to receive.
-/// - `WriteFault` where the output did not take the line, or the link, or the input in the session, failed to send.
-/// - `NoMemory` for want of memory before the session.
-/// - `Broken` where the input of the session is torn or a frame of it is too long.
+/// - `BadAnswer` exactly if what came in is not valid there, ended inside a message, or says that the leader has fewer
+///   edits.
+/// - `LeaderMemory` exactly if it says that the leader ran out of memory.
+/// - `ReadFault` if nobody answers at the port, or the link or the input failed to receive.
+/// - `WriteFault` if the output did not take the line, or the link or the input failed to send.
+/// - `NoMemory` if memory ran out before the session.
+/// - `Broken` if the input of the session ends inside a frame or has one that is too long.
 pub fn follow<L: Link, H: House, O: Sink, B: Bell, G: Watch, R: Threads + Wait + Sync>(
     means: &Means<R, B, G>,
     asked: FollowAsked,
@@ -76,11 +76,11 @@ pub fn follow<L: Link, H: House, O: Sink, B: Bell, G: Watch, R: Threads + Wait +
     }
 }
 
-/// The board of a new follower behind all rounds. The link is hung up by then.
+/// Returns the board of a new follower after all rounds. The link is closed by then.
 ///
 /// # Errors
 ///
-/// Why there is none.
+/// The reason why there is none.
 fn follow_leader<H: House>(
     alloc: Global,
     asked: FollowAsked,
@@ -105,11 +105,11 @@ fn follow_leader<H: House>(
     }
 }
 
-/// Calls at the port, follows over the link, and hangs it up.
+/// Connects to the port, follows over the link, and closes it.
 ///
 /// # Errors
 ///
-/// `Failed` where nobody answers at the port.
+/// `Failed` if nobody answers at the port.
 fn call_leader<H: House>(
     follower: &mut Follower,
     asked: FollowAsked,
@@ -138,7 +138,7 @@ fn call_leader<H: House>(
     Ok(followed)
 }
 
-/// The board of a follower that was fed.
+/// Returns the board of a follower that was fed.
 fn board_of(follower: Follower) -> Board
     requires { IsSome follower.board }
     ensures board { follower.board ≡ Some (followed_of result) }
@@ -148,12 +148,12 @@ fn board_of(follower: Follower) -> Board
     let Some(board) = follower.into_board() else {
         unreachable!()
     };
-    // That its version is the published one is known from here.
+    // From here on, its version is known to be the published one.
     board.version();
     board
 }
 
-/// The status with which a run ends where a link was followed no further.
+/// Returns the status of a run whose link could not be followed any further.
 fn status_followed(fault: LinkFault) -> Status
     ensures { result ≡ status_followed fault }
 {
@@ -167,7 +167,7 @@ fn status_followed(fault: LinkFault) -> Status
     }
 }
 
-/// Puts the line of the cause, but for a link that failed to send.
+/// Prints the line of the cause, unless a link failed to send.
 fn tell_cause<O: Sink>(alloc: Global, out: &mut O, cause: Status) -> Status
     ensures put { TellsCause (O.bytes out.old) (O.bytes out.new) cause result }
     ensures write { result ≡ Status.WriteFault
@@ -179,7 +179,7 @@ fn tell_cause<O: Sink>(alloc: Global, out: &mut O, cause: Status) -> Status
     put_cause(alloc, out, cause)
 }
 
-/// Puts how many edits a board has, and holds a session on it over the input.
+/// Prints how many edits a board has, and holds a session on it over the input.
 fn hold_told<L: Link, O: Sink, B: Bell, G: Gate, R: Threads + Wait + Sync>(
     means: &Means<R, B, G>,
     board: Board,
@@ -200,7 +200,7 @@ fn hold_told<L: Link, O: Sink, B: Bell, G: Gate, R: Threads + Wait + Sync>(
     }
 }
 
-/// The line that tells how many edits were accepted.
+/// Returns the line with the number of accepted edits.
 fn following_text(alloc: Global, accepted: u32) -> Result<String, AllocError>
     ensures { IfOk result (λ text. string_bytes text ≡ following_text accepted) }
 {

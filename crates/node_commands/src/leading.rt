@@ -39,8 +39,7 @@ struct Leading {
     workers: u32,
 }
 
-/// The doors that a house gave for sessions, the one that it gave for the feed, and a list without elements that has
-/// the memory for one.
+/// The doors that a house gave for sessions, the one for the feed, and an empty list with memory for one.
 #[derive(Drop)]
 struct Opened<D: Door> {
     doors: Vec<D>,
@@ -48,16 +47,16 @@ struct Opened<D: Door> {
     spare: Vec<D>,
 }
 
-/// Serves the board that begins with the map in a file at doors of the house, and feeds its edits at one door more. What
-/// is put is two lines before the first knock, and lines that tell the board's history when all is over. All doors are
-/// handed back by then. Where there is no such board, the line of the cause is put, and the house is left alone.
+/// Serves the board that begins with the map in a file at doors of the house, and feeds its edits at one more door.
+/// Prints two lines before the first knock, and lines on the board's history at the end. All doors are returned by
+/// then. If there is no such board, prints the line of the cause and does not use the house.
 ///
 /// # Errors
 ///
-/// - `ReadFault` where the file could not be read, the house could not open the doors, or a knock at one failed.
-/// - `WriteFault` where the output did not take all. Without the first lines no door is served.
-/// - `Map` and `TooLong` where the file has no map.
-/// - `NoMemory` for want of memory.
+/// - `ReadFault` if the file could not be read, the house could not open the doors, or a knock at one failed.
+/// - `WriteFault` if the output did not take all. Without the first lines no door is served.
+/// - `Map` or `TooLong` if the file has no map.
+/// - `NoMemory` if memory ran out.
 pub fn lead<F: Files, H: House, O: Sink, B: Bell, E: Ear, G: Watch, R: Threads + Wait + Sync>(
     means: &Means<R, B, G>,
     asked: LeadAsked<'_>,
@@ -90,11 +89,11 @@ pub fn lead<F: Files, H: House, O: Sink, B: Bell, E: Ear, G: Watch, R: Threads +
     }
 }
 
-/// The board that begins with the map in the file, and its first version.
+/// Returns the board that begins with the map in the file, and its first version.
 ///
 /// # Errors
 ///
-/// Why there is none.
+/// The reason why there is none.
 fn leading_of<F: Files, B: Bell, G: Watch, R: Threads + Sync>(
     means: &Means<R, B, G>,
     files: &mut F,
@@ -154,11 +153,11 @@ fn lead_on<H: House, O: Sink, B: Bell, E: Ear, G: Gate, R: Threads + Wait + Sync
     }
 }
 
-/// The doors, and the one for the feed. Where that is refused, the doors are handed back.
+/// Returns the doors and the one for the feed. If that one is refused, the doors are handed back.
 ///
 /// # Errors
 ///
-/// Those of `House::doors`.
+/// The errors of `House::doors`.
 fn open<H: House>(
     alloc: Global,
     asked: DoorsAsked,
@@ -227,7 +226,7 @@ fn lead_at<H: House, O: Sink, B: Bell, E: Ear, G: Gate, R: Threads + Wait + Sync
     }
 }
 
-/// The same, where the first lines have been put.
+/// Leads the board once the first lines have been printed.
 fn lead_begun<H: House, O: Sink, B: Bell, E: Ear, G: Gate, R: Threads + Wait + Sync>(
     means: &Means<R, B, G>,
     leading: Leading,
@@ -288,7 +287,7 @@ fn lead_begun<H: House, O: Sink, B: Bell, E: Ear, G: Gate, R: Threads + Wait + S
     }
 }
 
-/// Hands the doors back, and then that of the feed.
+/// Hands the doors back, then that of the feed.
 fn hand_back<H: House>(house: &mut H, opened: Opened<H::Door>)
     requires lent { HasLentDoors (H.at house.old).lent (length opened.doors.items + 1) }
     requires spare { opened.spare.items ≡ [] }
@@ -310,11 +309,11 @@ fn hand_back<H: House>(house: &mut H, opened: Opened<H::Door>)
     house.shut(spare);
 }
 
-/// Puts the lines that stand before all else.
+/// Prints the first lines.
 ///
 /// # Errors
 ///
-/// The status with which the run ends without them: `WriteFault`, or `NoMemory`, whose line was put.
+/// The status of the run without them: `WriteFault`, or `NoMemory`, whose line was printed.
 fn begin<O: Sink>(alloc: Global, out: &mut O, port: u16, feed: u16) -> Result<(), Status>
     ensures first { OnOk result
         (Appends (O.bytes out.old) (O.bytes out.new) (leading_text port feed)) }
@@ -334,7 +333,7 @@ fn begin<O: Sink>(alloc: Global, out: &mut O, port: u16, feed: u16) -> Result<()
     }
 }
 
-/// The lines that stand before all else.
+/// Returns the first lines.
 fn leading_text(alloc: Global, port: u16, feed: u16) -> Result<String, AllocError>
     ensures { IfOk result (λ text. string_bytes text ≡ leading_text port feed) }
 {

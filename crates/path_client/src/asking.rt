@@ -12,17 +12,17 @@ use query_proto::{Proto, REQUEST_ROOM, Reply, Request, encode_request, fits};
 use std::alloc::Global;
 use wire::{Failed, Link, send_all};
 
-/// Sends a request over a link and hears the answer: of what comes in it takes the answer and no byte more. A request
-/// that the first protocol does not have is sent behind a Hello, once Welcome has answered that. It takes memory for the
-/// answers alone.
+/// Sends a request over a link and receives the answer: it takes the answer from the link, and no byte more. A request
+/// that the first protocol does not have is sent after a Hello, once Welcome has answered it. Only the answers take
+/// memory.
 ///
 /// # Errors
 ///
-/// - `Malformed` exactly where what came in is no answer: a length above 32,780, or a whole frame that no reply has.
-/// - `Closed` exactly where the link ended before a whole answer, with the bytes that came in of it.
-/// - `OldServer` exactly where the answer to the Hello is not Welcome, with its first byte.
-/// - `ReadFault` and `WriteFault` only where the link's count of that direction rose in this call.
-/// - `NoMemory` for want of memory.
+/// - `Malformed` exactly if what came in is not an answer: a length above 32,780, or a whole frame that no reply has.
+/// - `Closed` exactly if the link ended before a whole answer, with the number of bytes of it that came in.
+/// - `OldServer` exactly if the answer to the Hello is not Welcome, with its first byte.
+/// - `ReadFault` and `WriteFault` only if the link's count for that direction rose in this call.
+/// - `NoMemory` if memory runs out.
 pub fn ask<L: Link>(alloc: Global, link: &mut L, request: Request) -> Result<Heard, ClientFault>
     ensures asked { Asked request (L.at link.old).talk result (L.at link.new).talk }
     ensures read_cause { IsErrOf result ClientFault.ReadFault
@@ -56,7 +56,7 @@ fn greet<L: Link>(alloc: Global, link: &mut L) -> Result<(), ClientFault>
     }
 }
 
-/// What the answer to a Hello says.
+/// What the answer to a Hello means.
 fn welcomed(reply: Reply) -> Result<(), ClientFault>
     ensures welcome { OnOk result (reply ≡ Welcome) }
     ensures other { IfErr result (λ _. reply ≢ Welcome) }
@@ -68,7 +68,7 @@ fn welcomed(reply: Reply) -> Result<(), ClientFault>
     }
 }
 
-/// Sends a request and hears the answer, whatever the protocol.
+/// Sends a request and receives the answer, in any protocol.
 fn exchange<L: Link>(alloc: Global, link: &mut L, request: &Request) -> Result<Heard, ClientFault>
     ensures exchanged { Exchanged request.now (L.at link.old).talk result (L.at link.new).talk }
     ensures read_cause { IsErrOf result ClientFault.ReadFault
@@ -83,7 +83,7 @@ fn exchange<L: Link>(alloc: Global, link: &mut L, request: &Request) -> Result<H
     }
 }
 
-/// Sends a request as it is sent, its frame behind its length.
+/// Sends a request, its frame after its length.
 fn send_request<L: Link>(link: &mut L, request: &Request) -> Result<(), Failed>
     ensures whole { OnOk result (SendsRequest request.now (L.at link.old).talk (L.at link.new).talk) }
     ensures part { OnErr result (SendsRequestPart request.now (L.at link.old).talk (L.at link.new).talk) }

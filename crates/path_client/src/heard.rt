@@ -1,4 +1,4 @@
-//! An answer as it is heard.
+//! An answer that was received.
 
 ghost use Rattle.std.specs.Prelude.{◌≡◌, ◌<◌};
 ghost use Rattle.moves.specs.Moves.{number_of};
@@ -35,7 +35,7 @@ impl MoveList {
         &self.moves
     }
 
-    /// No moves. It takes no memory.
+    /// No moves. It allocates nothing.
     pub(crate) fn none(alloc: Global) -> MoveList
         ensures { result ≡ [] }
     {
@@ -57,7 +57,7 @@ impl MoveList {
     }
 }
 
-/// The move with that number.
+/// The move with this number.
 fn move_of(number: u8) -> Move
     requires { number < 8 }
     ensures { number_of result ≡ number }
@@ -70,6 +70,6 @@ fn move_of(number: u8) -> Move
 pub struct Heard {
     /// The reply.
     pub reply: Reply,
-    /// The moves of the path, where the reply is a path; else none.
+    /// The moves of the path if the reply is a path, else none.
     pub moves: MoveList,
 }

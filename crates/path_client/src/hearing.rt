@@ -1,4 +1,4 @@
-//! An answer, from its length to its moves.
+//! Receiving an answer, from its length to its moves.
 
 ghost use Rattle.std.specs.Prelude.{◌≡◌, ◌≤◌, length, IfErr, IfOk, IsErrOf};
 ghost use Rattle.byteorder.specs.Endian.{big_bytes};
@@ -17,8 +17,8 @@ use wire::Link;
 /// How many bytes the length of a reply's frame has.
 const SIZE_BYTES: usize = 4;
 
-/// Hears an answer and takes no byte more. It takes memory for the frame once its length is known and allowed, and for
-/// the moves once the frame is known to be a reply's.
+/// Receives an answer, and takes no byte more. It allocates memory for the frame once its length is known and allowed,
+/// and for the moves once the frame is known to be a reply's.
 pub(crate) fn hear<L: Link>(alloc: Global, link: &mut L) -> Result<Heard, ClientFault>
     ensures heard { IfOk result (λ heard. HearsFrom (L.at link.old).talk (L.at link.new).talk heard.reply heard.moves) }
     ensures fault { IfErr result (HearsNothing (L.at link.old).talk (L.at link.new).talk) }
@@ -31,7 +31,7 @@ pub(crate) fn hear<L: Link>(alloc: Global, link: &mut L) -> Result<Heard, Client
     heard_in(alloc, &frame)
 }
 
-/// Hears the length of an answer's frame.
+/// Receives the length of an answer's frame.
 fn hear_size<L: Link>(link: &mut L) -> Result<usize, ClientFault>
     ensures size { IfOk result (TakesSize (L.at link.old).talk (L.at link.new).talk) }
     ensures fault { IfErr result (HearsNothing (L.at link.old).talk (L.at link.new).talk) }
@@ -47,14 +47,14 @@ fn hear_size<L: Link>(link: &mut L) -> Result<usize, ClientFault>
     Ok(size as usize)
 }
 
-/// The length that these bytes tell.
+/// The length that these bytes encode.
 fn size_of(bytes: &[u8; SIZE_BYTES]) -> u32
     ensures { bytes.now ≡ big_bytes 4 result }
 {
     BigEndian::read_u32(bytes)
 }
 
-/// What a whole frame tells.
+/// What a whole frame encodes.
 fn heard_in(alloc: Global, frame: &[u8]) -> Result<Heard, ClientFault>
     requires { length frame.now ≤ MAX_REPLY }
     ensures heard { IfOk result (λ heard. IsHeardIn frame.now heard.reply heard.moves) }

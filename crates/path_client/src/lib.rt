@@ -1,4 +1,4 @@
-//! A client's side of the talk with a server: one request out, one answer in.
+//! The client's side of a session with a server: one request out, one answer in.
 #![tactic(auto)]
 
 mod asking;

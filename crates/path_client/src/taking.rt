@@ -1,4 +1,4 @@
-//! Bytes that are taken of a link.
+//! Bytes taken from a link.
 
 ghost use Rattle.std.specs.Prelude.{◌≡◌, ◌+◌, ◌<◌, ◌≤◌, ◌^◌, length, take, IfErr, IfOk, IsErrOf, OnOk};
 ghost use Rattle.path_client.specs.Taking.{Takes, TakesPart};
@@ -7,11 +7,11 @@ ghost use Rattle.wire.specs.Talks.{OnlyReads, ReadFails};
 use crate::ClientFault;
 use wire::{Failed, Link};
 
-/// Fills a room with the next bytes that come in, and takes no byte more. So many bytes of the answer are held already.
+/// Fills a room with the next bytes that come in, and takes no byte more. `held` bytes of the answer came in before.
 ///
 /// # Errors
 ///
-/// `Closed`, with the bytes that are held then, exactly where the link ends before the room is full, and `ReadFault`.
+/// `Closed`, with the number of bytes held then, exactly if the link ends before the room is full, and `ReadFault`.
 pub(crate) fn fill<L: Link>(link: &mut L, room: &mut [u8], held: u32) -> Result<(), ClientFault>
     requires { held + length room.old < 2 ^ 32 }
     ensures all { OnOk result (Takes (L.at link.old).talk (L.at link.new).talk room.new) }

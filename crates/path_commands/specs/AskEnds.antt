@@ -36,7 +36,7 @@ pub record IsUnanswered {D C : Type 0} (house : RunHouse D C) (port : ℕ) (said
   pub says : said_of request ≡ said
   pub fails : HearsNoText house port request cause
 
--- the cause of each status other than `Done`; want of memory alone is free
+-- the cause of each status other than `Done`; `NoMemory` needs none
 abbrev pub IsAskCause : {D C : Type 0} → RunHouse D C → ℕ → Said → Status → Type 0
 IsAskCause house port said status.ReadFault = IsUnanswered house port said status.ReadFault
 IsAskCause house port said status.WriteFault = IsUnanswered house port said status.WriteFault

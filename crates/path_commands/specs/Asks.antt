@@ -56,14 +56,15 @@ pub record HearsText {D C : Type 0} (house : RunHouse D C) (port : ℕ) (request
   pub once : CallsOnce house port request (Ok heard)
   pub tells : TellsHeard heard.reply heard.moves text
 
--- what came in is no answer, or ended before an answer was whole, or came of a server that does not know what was asked
+-- what came in is not an answer, or ended before an answer was whole, or came of a server that does not know what was
+-- asked
 abbrev pub IsBad : ClientFault → Type 0
 IsBad fault.Malformed = Unit {0}
 IsBad (fault.Closed have) = Unit {0}
 IsBad (fault.OldServer kind) = Unit {0}
 IsBad _ = ⊥
 
--- why there is no text: each status other than want of memory has its cause
+-- why there is no text: each status other than `NoMemory` has its cause
 abbrev pub HearsNoText : {D C : Type 0} → RunHouse D C → ℕ → Request → Status → Type 0
 HearsNoText house port request status.BadAnswer =
     (why : ClientFault) × IsBad why × CallsOnce house port request (Err why)

@@ -17,14 +17,14 @@ IsPlain word = slice_index word 0 ≢ 45
 abbrev pub standard_build : BuildOptions
 standard_build = record { order = Rows; workers = 1 }
 
--- `path` wants five words: a file, and the column and the row of the start and of the goal
+-- `path` takes five words: a file, and the column and row of the start and the goal
 abbrev pub plain_path : List Text → Option Asked
 plain_path (map ∷ sx ∷ sy ∷ gx ∷ gy ∷ []) = path_from (path_in map)
     (cell_from (coordinate_in sx) (coordinate_in sy))
     (cell_from (coordinate_in gx) (coordinate_in gy)) (Some standard_build)
 plain_path _ = None
 
--- `check` wants one word: a file
+-- `check` takes one word: a file
 abbrev pub plain_check : List Text → Option Asked
 plain_check (map ∷ []) = check_from (path_in map) (Some standard_build)
 plain_check _ = None
@@ -45,7 +45,7 @@ abbrev pub IsOtherLong : Text → Type 0
 IsOtherLong word = (first : ℕ) × (rest : Text) × (word ≡ 45 ∷ 45 ∷ first ∷ rest)
     × IsUnknown (name_and_value (first ∷ rest)).0
 
--- `-n`, `-nvalue` and their kind: a hyphen, and text whose first character is no hyphen
+-- `-n`, `-nvalue` and their kind: a hyphen, and text whose first character is not a hyphen
 abbrev pub IsShort : Text → Type 0
 IsShort word = (rest : Text) × (first : ℕ) × (slice_get (chars rest) 0 ≡ Some first) × (first ≢ 45)
     × (word ≡ 45 ∷ rest)

@@ -1,4 +1,4 @@
--- What the words of a command line ask for.
+-- The request that the words of a command line spell.
 use Rattle.std.specs.Prelude.{◌≡◌, ◌≢◌, ℕ, ◌<◌, ◌≤◌, ◌*◌, ◌==◌, nat_le, List, String, Option, Some, None, codes, if◌then◌else◌, option_and_then}
 use Rattle.std.specs.Global.{Global}
 use Rattle.clap.specs.Walk.{Text}
@@ -50,10 +50,10 @@ pub data Aim : Type 0 where
   replay : Text → Aim
   export : Aim
 
--- What is asked for: something of the first version of a map, with how that is built; a session on a board that
--- begins with the map in a file, with its room; sessions at so many doors of a port on such a board; one request
--- to the server at a port; whether a file is that of a database; such sessions, and a door at another port where
--- followers are fed; and a session on a board that follows the leader at a port, which is asked so often.
+-- What is asked for: something of the first version of a map, with how that is built; a session on a board that begins
+-- with the map in a file, with its room; sessions at this many doors of a port on such a board; one request to the
+-- server at a port; whether a file is that of a database; such sessions, and a door at another port where followers are
+-- fed; and a session on a board that follows the leader at a port, which is asked so often.
 pub data Asked : Type 0 where
   of_map : Source → Aim → BuildOptions → Asked
   talk : Text → ℕ → BuildOptions → Asked
@@ -118,7 +118,7 @@ kind_asked (verify db) = kind.Printed
 kind_asked (lead map doors feed room build) = kind.Lead
 kind_asked (follow port rounds order) = kind.Follow
 
--- so many doors a port may have
+-- a port may have this many doors
 pub record AreDoors (count : ℕ) : Type 0 where
   pub some : 0 < count
   pub few : count ≤ MAX_DOORS
@@ -177,7 +177,7 @@ cell_at values column row = cell_from (coordinate_at values column) (coordinate_
 abbrev pub number_at : NumberKind → Values → Text → Option ℕ
 number_at kind values id = option_and_then (number_as kind) (values id)
 
--- sides with so many cells as a map may have
+-- sides with no more cells than a map may have
 abbrev pub sides_from : Option ℕ → Option ℕ → Option Sides
 sides_from (Some width) (Some height) =
     if nat_le (width * height) MAX_CELLS then Some (record { width = width; height = height })
@@ -189,20 +189,20 @@ unfoldable pub sides_at : Values → Text → Text → Option Sides
 sides_at values width height =
     sides_from (number_at number.Side values width) (number_at number.Side values height)
 
--- what an option says, or the first value where it is not given
+-- the value of an option, or the first value if it is not given
 abbrev pub given_or : {X : Type 0} → X → (Text → Option X) → Option Text → Option X
 given_or standard reader (Some text) = reader text
 given_or standard reader None = Some standard
 
--- the order of the cells, row by row where no other is given
+-- the order of the cells, row by row by default
 abbrev pub order_at : Values → Text → Option OrderKind
 order_at values id = given_or Rows order_in (values id)
 
--- how many threads build, one where no other number is given
+-- how many threads build, one by default
 abbrev pub workers_at : Values → Text → Option ℕ
 workers_at values id = given_or 1 workers_in (values id)
 
--- for how many entries a board takes memory first, 65,536 where no other number is given
+-- how many entries a board reserves memory for, 65,536 by default
 abbrev pub room_at : Values → Text → Option ℕ
 room_at values id = given_or STANDARD_ROOM room_in (values id)
 
@@ -333,7 +333,7 @@ verify_from None = None
 unfoldable pub verify_by : Values → Option Asked
 verify_by values = verify_from (path_at values (codes "DB"))
 
--- the port at which followers are fed: any but that of the doors
+-- the port at which followers are fed: any except that of the doors
 abbrev pub feed_beside : ℕ → Option ℕ → Option ℕ
 feed_beside port (Some feed) = if feed == port then None else Some feed
 feed_beside port None = None
@@ -387,7 +387,7 @@ request_by verb words =
     if is_taken (app_for verb) words
     then asked_by verb (value_of (app_for verb) words) (values_of (app_for verb) words) else None
 
--- what the words of a command line ask for, or None where no command takes them
+-- what the words of a command line ask for, or None if no command takes them
 unfoldable pub request_of : List Text → Option Asked
 request_of words = option_and_then (λ verb. request_by verb words) (verb_of words)
 

@@ -215,7 +215,7 @@ pub record IsAnswerTo (run : Run) (text : List ℕ) : Type 0 where
 
 -- ---- the causes of the other statuses. Want of memory alone is free.
 
--- why the bytes of a file are not read, of which there may be so many
+-- why the bytes of a file, of which there may be this many, are not read
 abbrev pub IsFileCause : RunFile → ℕ → Status → Type 0
 IsFileCause file limit (status.TooLong told) = IsTooLong file limit told
 IsFileCause file limit status.ReadFault = HasFailed file
@@ -253,7 +253,7 @@ abbrev pub GivesNoMap : (Text → RunFile) → Source → Status → Type 0
 GivesNoMap file (in_file name) cause = IsMapFileCause (file name) cause
 GivesNoMap file (by_formula sides seed) cause = IsMadeCause (map_made sides seed) cause
 
--- why nothing is done with a map, for want of another file
+-- why nothing is done with a map: another file is missing or refused
 abbrev pub GivesNoTask : (Text → RunFile) → Aim → Status → Type 0
 GivesNoTask file (scen scenarios) cause = IsScenFileCause (file scenarios) cause
 GivesNoTask file (replay events) cause = IsEventsFileCause (file events) cause

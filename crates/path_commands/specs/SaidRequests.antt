@@ -1,4 +1,4 @@
--- The request that the words of `ask` behind its port spell.
+-- The request that the words of `ask` after its port spell.
 --
 --     query 0 0 2 0      change 1 0 0      build      status      bye      stop
 --

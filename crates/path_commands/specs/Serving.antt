@@ -40,7 +40,7 @@ history_text history =
     ++ line (codes "published " ++ decimal (published_count history))
     ++ line (codes "version " ++ decimal (published_prefix history))
 
--- that, and the line of a fault behind it where a knock failed
+-- that, and the line of a fault after it where a knock failed
 abbrev pub closing_text : List Entry → Bool → List ℕ
 closing_text history failed =
     history_text history ++ cond failed (status_text status.ReadFault) []
@@ -61,7 +61,7 @@ pub record PutsPart (before after : Option (List ℕ)) (text : List ℕ) (ended 
   pub is : ended ≡ status.WriteFault
   pub put : PutsPrefix before after text
 
--- one of both
+-- either of the two
 abbrev pub Puts : Option (List ℕ) → Option (List ℕ) → List ℕ → Status → Status → Type 0
 Puts before after text told ended =
     PutsWhole before after text told ended ⊎ PutsPart before after text ended
@@ -70,7 +70,7 @@ Puts before after text told ended =
 abbrev pub PutsLine : Option (List ℕ) → Option (List ℕ) → Status → Status → Type 0
 PutsLine before after told ended = Puts before after (status_text told) told ended
 
--- the line of this status was put, or that of want of memory
+-- the line of this status was printed, or that of `NoMemory`
 abbrev pub PutsCause : Option (List ℕ) → Option (List ℕ) → Status → Status → Type 0
 PutsCause before after told ended =
     PutsLine before after told ended ⊎ PutsLine before after status.NoMemory ended
@@ -156,12 +156,12 @@ pub record LeavesBoard {D C : Type 0} (house : RunHouse D C) (ear : RunEar) (doo
 
 module _ {D C : Type 0} (house : RunHouse D C) (ear : RunEar) (served : List D → Boarded → Bool → Type 0)
     (doors : List D) where
-  -- one of both
+  -- either of the two
   abbrev pub EndsBegun : Option (List ℕ) → Option (List ℕ) → Status → Type 0
   EndsBegun before after ended =
       ServesBoard house served before after ended ⊎ LeavesBoard house ear doors before after ended
 
-  -- The first text was put. What is put then stands behind it.
+  -- The first text was put. What is put then follows it.
   pub record Begins (first : List ℕ) (before after : Option (List ℕ)) (ended : Status) : Type 0 where
     pub begun : Option (List ℕ)
     pub put : Appends before begun first
@@ -173,7 +173,7 @@ module _ {D C : Type 0} (house : RunHouse D C) (ear : RunEar) (served : List D �
     pub heard : IsUnrung ear
     pub put : FailsToBegin before after first ended
 
-  -- one of both
+  -- either of the two
   abbrev pub EndsAt : List ℕ → Option (List ℕ) → Option (List ℕ) → Status → Type 0
   EndsAt first before after ended = Begins first before after ended ⊎ FailsAtOnce first before after ended
 

@@ -1,4 +1,4 @@
--- What is said of each status.
+-- The line and the exit status of each status.
 use Rattle.std.specs.Prelude.{ℕ, List, [], ◌++◌, codes}
 use Rattle.std.specs.Fmt.{decimal}
 use Rattle.map_read.specs.Faults.{fault_text}

@@ -42,8 +42,8 @@ abbrev pub place_for : Map → OrderKind → ℕ → Place
 place_for map order room =
     record { pass = 0; start = map; order = order; room = room; shared = None }
 
--- a session was held over the input as the one pass of this board, and ended so; the history that it
--- leaves is legal, and all entries behind those of the board are its own
+-- a session was held over the input as the one pass of this board, and ended so; the history that
+-- it leaves is legal, and all entries after those of the board are its own
 pub record HoldsTalk (board : Boarded) (input : RunInput) (ended : Result Ended SessionFault) : Type 0 where
   pub last : Standing
   pub conversed : Conversed (place_for board.start board.order board.room)

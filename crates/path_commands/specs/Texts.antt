@@ -49,7 +49,7 @@ check_text version =
     line (codes "size " ++ decimal version.map.width ++ codes " " ++ decimal version.map.height)
     ++ size_text version
 
--- what `near` prints behind what `check` prints: how many runs all near rows have, and the greatest near radius
+-- what `near` prints after what `check` prints: how many runs all near rows have, and the greatest near radius
 abbrev pub near_text : ℕ → ℕ → List ℕ
 near_text runs widest = line (codes "near " ++ decimal runs) ++ line (codes "widest " ++ decimal widest)
 

@@ -35,7 +35,7 @@ texts_of = map string_bytes
 abbrev pub required_rule : Text → Rule
 required_rule id = record (new_rule id) { required = true; action = Some Set }
 
--- such an argument with one or more values, which stands behind the others
+-- such an argument with one or more values, which follows the others
 abbrev pub several_rule : Text → Rule
 several_rule id = record (required_rule id) { range = Some (record { start_inclusive = 1; end_inclusive = usize_max }) }
 
@@ -83,7 +83,7 @@ pub record HasValues (app : App) (words : List Text) (matches : ArgMatches) : Ty
 abbrev pub is_number : Text → Bool
 is_number text = nat_lt 0 (length text) && (nat_le (length text) 10 && list_all is_ascii_digit text)
 
--- the number that the digits write, so leading zeros are allowed
+-- the number that the digits spell, with leading zeros allowed
 unfoldable pub number_in : Text → Option ℕ
 number_in text = if is_number text then Some (digits_value 10 text) else None
 
@@ -113,7 +113,7 @@ abbrev pub between : ℕ → ℕ → Option ℕ → Option ℕ
 between low high (Some value) = if nat_le low value && nat_le value high then Some value else None
 between low high None = None
 
--- the number of that kind that the text writes
+-- the number of that kind that the text spells
 unfoldable pub number_as : NumberKind → Text → Option ℕ
 number_as kind text = between (least kind) (most kind) (number_in text)
 
@@ -130,11 +130,11 @@ coordinate_in = number_as number.Coordinate
 abbrev pub workers_in : Text → Option ℕ
 workers_in = number_as number.Workers
 
--- for how many entries a board takes memory first: a number from 0 to 2,097,153
+-- how many entries a board reserves memory for: a number from 0 to 2,097,153
 abbrev pub room_in : Text → Option ℕ
 room_in = number_as number.Room
 
--- so many threads may build
+-- this many threads may build a database
 pub record AreWorkers (workers : ℕ) : Type 0 where
   pub some : 0 < workers
   pub few : workers ≤ MAX_WORKERS

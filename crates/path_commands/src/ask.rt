@@ -16,8 +16,8 @@ use path_client::{ClientFault, Heard};
 use std::alloc::Global;
 use wire::{Failed, House, Sink};
 
-/// Asks the server at a port, and puts the text of its answer, or the line of the status with which the
-/// run ends without one. The link is hung up before anything is put.
+/// Asks the server at a port and prints its answer, or else the line of the status. The link is
+/// closed before anything is printed.
 pub fn ask<O: Sink, H: House>(alloc: Global, asked: AskAsked, out: &mut O, house: &mut H) -> Status
     requires uncalled { (H.at house.old).called ≡ None }
     requires unlent { HasGivenNone (H.at house.old).lent }
@@ -40,7 +40,7 @@ pub fn ask<O: Sink, H: House>(alloc: Global, asked: AskAsked, out: &mut O, house
     }
 }
 
-/// The text of the answer of the server at the port.
+/// Returns the text of the answer of the server at the port.
 fn hear<H: House>(alloc: Global, asked: AskAsked, house: &mut H) -> Result<String, Status>
     requires uncalled { (H.at house.old).called ≡ None }
     requires unlent { HasGivenNone (H.at house.old).lent }
@@ -58,14 +58,14 @@ fn hear<H: House>(alloc: Global, asked: AskAsked, house: &mut H) -> Result<Strin
     ask_at(alloc, house, asked.port, asked.asking.request())
 }
 
-/// Asks the server at the port, and gives the text of its answer. The link is hung up by then.
+/// Asks the server at the port and returns the text of its answer. The link is closed by then.
 ///
 /// # Errors
 ///
-/// - `BadAnswer` exactly where what came in is no answer, or ended before one was whole.
-/// - `ReadFault` where nobody answers at the port or the link failed to receive.
-/// - `WriteFault` where the link failed to send.
-/// - `NoMemory` for want of memory.
+/// - `BadAnswer` exactly if what came in is not an answer or ended early.
+/// - `ReadFault` if nobody answers at the port or the link failed to receive.
+/// - `WriteFault` if the link failed to send.
+/// - `NoMemory` if memory ran out.
 fn ask_at<H: House>(
     alloc: Global,
     house: &mut H,
@@ -89,11 +89,11 @@ fn ask_at<H: House>(
     }
 }
 
-/// Calls at the port, asks over the link, and hangs it up.
+/// Connects to the port, asks over the link, and closes it.
 ///
 /// # Errors
 ///
-/// `Failed` where nobody answers at the port.
+/// `Failed` if nobody answers at the port.
 fn call_once<H: House>(
     alloc: Global,
     house: &mut H,

@@ -1,4 +1,4 @@
-//! What words ask of a server.
+//! The requests that the words of `ask` can spell.
 
 ghost use Rattle.std.specs.Prelude.{◌≡◌, ◌∷◌, [], Bool, Option, None, Some, MatchOption, map, option_map};
 ghost use Rattle.path_commands.specs.SaidRequests.{change_said, first_cell, first_coordinate, first_passable, named_said, query_said};
@@ -9,10 +9,10 @@ use edit_log::{CellChange, Edit};
 use moves::{Cell, Terrain};
 use query_proto::Request;
 
-/// What words can ask of a server: a request of the first protocol.
+/// A request of the first protocol, which words can spell.
 #[derive(Clone, Copy, Debug, PartialEq, Eq)]
 pub enum Asking {
-    /// A best path between two cells.
+    /// A shortest path between two cells.
     Query {
         /// The cell that the path begins with.
         start: Cell,
@@ -32,7 +32,7 @@ pub enum Asking {
 }
 
 impl Asking {
-    /// The request that asks for it.
+    /// Returns the request that asks for it.
     pub fn request(self) -> Request
         ensures { said_of result ≡ said_by self }
     {
@@ -47,7 +47,7 @@ impl Asking {
     }
 }
 
-/// What the words ask for; `None` exactly where they ask for nothing.
+/// Returns the request that the words spell; `None` exactly if they spell none.
 #[tactic(auto, unfolding(crate::specs::SaidRequests::request_said))]
 pub fn asking_in(words: &[&str]) -> Option<Asking>
     ensures { option_map said_by result ≡ request_said (spelled words.now) }
@@ -56,7 +56,7 @@ pub fn asking_in(words: &[&str]) -> Option<Asking>
     asking_named(name, words)
 }
 
-/// What is asked for by that name, with the words after it.
+/// Returns the request of this name, with the words after it.
 fn asking_named(name: &str, words: &[&str]) -> Option<Asking>
     ensures { option_map said_by result ≡ named_said name.now (spelled words.now) }
 {
@@ -84,7 +84,7 @@ fn asking_named(name: &str, words: &[&str]) -> Option<Asking>
     None
 }
 
-/// The query that the words after `query` spell.
+/// Returns the query that the words after `query` spell.
 #[tactic(auto, unfolding(crate::specs::SaidRequests::query_said))]
 fn query_in(words: &[&str]) -> Option<Asking>
     ensures { option_map said_by result ≡ query_said (spelled words.now) }
@@ -97,7 +97,7 @@ fn query_in(words: &[&str]) -> Option<Asking>
     Some(Asking::Query { start, goal })
 }
 
-/// The change that the words after `change` spell.
+/// Returns the change that the words after `change` spell.
 #[tactic(auto, unfolding(crate::specs::SaidRequests::change_said))]
 fn change_in(words: &[&str]) -> Option<Asking>
     ensures { option_map said_by result ≡ change_said (spelled words.now) }
@@ -111,7 +111,7 @@ fn change_in(words: &[&str]) -> Option<Asking>
     Some(Asking::Change(CellChange { cell, terrain }))
 }
 
-/// The cell in the first two words, its column before its row, and the words after it.
+/// Returns the cell in the first two words, its column before its row, and the words after it.
 #[tactic(auto, unfolding(crate::specs::SaidRequests::first_cell))]
 fn first_cell<'w, 'a>(words: &'w [&'a str]) -> Option<(Cell, &'w [&'a str])>
     ensures { MatchOption result (first_cell (spelled words.now) ≡ None)
@@ -122,7 +122,7 @@ fn first_cell<'w, 'a>(words: &'w [&'a str]) -> Option<(Cell, &'w [&'a str])>
     Some((Cell { x, y }, words))
 }
 
-/// The column or the row in the first word, and the words after it.
+/// Returns the column or the row in the first word, and the words after it.
 fn first_coordinate<'w, 'a>(words: &'w [&'a str]) -> Option<(u16, &'w [&'a str])>
     ensures { MatchOption result (first_coordinate (spelled words.now) ≡ None)
         (λ first. first_coordinate (spelled words.now) ≡ Some (first.0, spelled first.1.now)) }
@@ -132,7 +132,7 @@ fn first_coordinate<'w, 'a>(words: &'w [&'a str]) -> Option<(u16, &'w [&'a str])
     Some((number, words))
 }
 
-/// Whether a cell is land, in the first word, and the words after it.
+/// Returns whether a cell is land, in the first word, and the words after it.
 fn first_passable<'w, 'a>(words: &'w [&'a str]) -> Option<(bool, &'w [&'a str])>
     ensures { MatchOption result (first_passable (spelled words.now) ≡ None)
         (λ first. first_passable (spelled words.now) ≡ Some (first.0, spelled first.1.now)) }
@@ -147,7 +147,7 @@ fn first_passable<'w, 'a>(words: &'w [&'a str]) -> Option<(bool, &'w [&'a str])>
     None
 }
 
-/// The first word, and the words after it.
+/// Returns the first word, and the words after it.
 fn cut_word<'w, 'a>(words: &'w [&'a str]) -> Option<(&'a str, &'w [&'a str])>
     ensures { MatchOption result (spelled words.now ≡ [])
         (λ cut. spelled words.now ≡ cut.0.now ∷ spelled cut.1.now) }

@@ -8,7 +8,8 @@ use std::alloc::{AllocError, Global};
 use std::fmt::Write;
 use versions::{Totals, Version};
 
-/// The sides of the map, and the numbers of passable cells, of components and of runs, a line each.
+/// Returns the sides of the map, and the numbers of passable cells, of components and of runs, a
+/// line each.
 pub fn answer_check(alloc: Global, version: &Version) -> Result<String, AllocError>
     ensures { IfOk result (λ text. string_bytes text ≡ check_text version.now) }
 {

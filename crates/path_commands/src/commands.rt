@@ -15,19 +15,19 @@ use std::fmt::Write;
 /// A command of the program.
 #[derive(Clone, Copy, Debug, PartialEq, Eq)]
 pub enum Verb {
-    /// A best path between two cells of a map.
+    /// A shortest path between two cells of a map.
     Path,
     /// Whether a file is a map, and its size.
     Check,
-    /// How many runs a map has where compass moves need none, and how far these are right.
+    /// How many runs a map has once compass moves need none, and how far compass moves are right.
     Near,
-    /// A best path between two cells of a map, by compass moves where they are right.
+    /// A shortest path between two cells of a map, by compass moves wherever they are right.
     NearPath,
-    /// What a map says of a file of scenarios.
+    /// The results of a file of scenarios on a map.
     Scen,
-    /// How large a map is that is made of two sides and a seed, and what queries on it come to.
+    /// The size of a map made from two sides and a seed, and the results of queries on it.
     Made,
-    /// What a file of events prints, on a board that begins with a map.
+    /// The output of a file of events, on a board that begins with a map.
     Replay,
     /// A session on a board that begins with a map.
     Talk,
@@ -45,10 +45,10 @@ pub enum Verb {
     Follow,
 }
 
-/// What a command is for, as far as its end differs from those of others.
+/// The kind of a command, by how its run ends.
 #[derive(Clone, Copy, Debug, PartialEq, Eq)]
 pub enum Kind {
-    /// What it comes to is printed. So is the line of words that name no command.
+    /// The result is printed. So is the line for words that do not name a command.
     Printed,
     /// `talk`: a session over the input.
     Talk,
@@ -69,7 +69,7 @@ pub enum Field {
     Argument(&'static str, Value),
     /// An option `--NAME VALUE`, which may be left out.
     Setting(&'static str, Value),
-    /// An argument of this name that has one or more values, behind all others.
+    /// An argument of this name with one or more values, after all others.
     Several(&'static str),
 }
 
@@ -180,7 +180,7 @@ impl Verb {
         Verb::Follow,
     ];
 
-    /// The word that names the command.
+    /// Returns the word that names the command.
     pub fn name(self) -> &'static str
         ensures { result.now ≡ verb_name self }
     {
@@ -202,7 +202,7 @@ impl Verb {
         }
     }
 
-    /// What it is for, as far as its end differs from those of others.
+    /// Returns its kind, by how its run ends.
     pub fn kind(self) -> Kind
         ensures { result ≡ verb_kind self }
     {
@@ -218,7 +218,7 @@ impl Verb {
         }
     }
 
-    /// Its arguments in order, and its options.
+    /// Returns its arguments in order, then its options.
     pub fn fields(self) -> &'static [Field]
         ensures rules { map rule_for result.now ≡ verb_rules self }
         ensures shown { flat_map field_text result.now ≡ verb_synopsis self }
@@ -239,34 +239,32 @@ impl Verb {
         }
     }
 
-    /// What it does, in a line.
+    /// Returns what it does, in one line.
     pub(crate) fn purpose(self) -> &'static str {
         match self {
-            Verb::Path =>
-                "prints the cost, the length and the moves of an optimal path, or unreachable",
+            Verb::Path => "prints the cost, length and moves of an optimal path, or unreachable",
             Verb::Check =>
-                "prints the sides, the passable cells, the components and the runs of a map",
-            Verb::Scen =>
-                "compares the lengths of a scenario file with those of the map, line by line",
-            Verb::Made => "measures the map that a formula makes of two sides and a seed",
-            Verb::Replay => "prints what edits, builds and queries of a file come to, line by line",
-            Verb::Talk => "answers frames of requests on standard input until it ends",
+                "prints the size of a map and its numbers of passable cells, components and runs",
+            Verb::Scen => "checks each length in a scenario file against the map",
+            Verb::Made => "measures the map that a formula makes from two sides and a seed",
+            Verb::Replay => "runs the edits, builds and queries of a file and prints their results",
+            Verb::Talk => "answers request frames on standard input until it ends",
             Verb::Serve => "answers the same requests over TCP at a port of this machine",
-            Verb::Ask => "prints what a server answers to one request",
-            Verb::Export => "puts the file of the map's database on standard output",
+            Verb::Ask => "sends one request to a server and prints the answer",
+            Verb::Export => "writes the map's database file to standard output",
             Verb::Verify =>
-                "checks the file of a database without a search: each path that it spells is optimal",
+                "checks that every path in a database file is optimal, without a search",
             Verb::Near =>
-                "prints what check prints, and how many runs are left where the compass is right",
-            Verb::NearPath => "prints an optimal path that goes by the compass where that is right",
+                "prints what check prints, and how many runs the compass does not replace",
+            Verb::NearPath =>
+                "prints an optimal path that follows the compass wherever it is right",
             Verb::Lead =>
-                "serves as serve does, and feeds followers its accepted edits at a port of their own",
-            Verb::Follow =>
-                "takes the accepted edits of a leader, and then answers requests as talk does",
+                "serves like serve, and sends accepted edits to followers at another port",
+            Verb::Follow => "takes the accepted edits of a leader, then answers requests like talk",
         }
     }
 
-    /// How it may be called.
+    /// Returns an example call.
     pub(crate) fn example(self) -> &'static str {
         match self {
             Verb::Path => "path_server path maps/tutorial.map 2 2 37 17",
@@ -286,7 +284,7 @@ impl Verb {
         }
     }
 
-    /// The command of this name, byte by byte.
+    /// Returns the command with exactly this name.
     #[tactic(auto, unfolding(crate::specs::Commands::verb_named))]
     pub fn named(name: &str) -> Option<Verb>
         ensures { result ≡ verb_named name.now }
@@ -295,7 +293,7 @@ impl Verb {
     }
 }
 
-/// The first of these commands that has the name.
+/// Returns the first of these commands that has the name.
 fn first_named(verbs: &[Verb], name: &str) -> Option<Verb>
     ensures { result ≡ find (λ verb. bytes_eq (verb_name verb) name.now) verbs.now }
 {
@@ -303,14 +301,14 @@ fn first_named(verbs: &[Verb], name: &str) -> Option<Verb>
     verb_at(verbs, place)
 }
 
-/// The command at that place.
+/// Returns the command at that place.
 fn verb_at(verbs: &[Verb], place: usize) -> Option<Verb>
     ensures { result ≡ slice_get verbs.now place }
 {
     verbs.get(place).copied()
 }
 
-/// The place of the first of these commands that has the name.
+/// Returns the place of the first of these commands that has the name.
 fn first_place(verbs: &[Verb], name: &str) -> Option<usize>
     ensures { result ≡ position (λ verb. bytes_eq (verb_name verb) name.now) verbs.now }
 {
@@ -318,35 +316,35 @@ fn first_place(verbs: &[Verb], name: &str) -> Option<usize>
 }
 
 impl Field {
-    /// What its value is for.
+    /// Returns what its value means.
     pub(crate) fn meaning(self) -> &'static str {
         let (Field::Argument(id, _) | Field::Setting(id, _) | Field::Several(id)) = self;
         match id {
-            "MAP" => "the map, in the format of MovingAI",
-            "DB" => "the file of a database, as export puts it",
-            "SX" => "the column of the start, from the left",
-            "SY" => "the row of the start, from above",
+            "MAP" => "the map, in MovingAI format",
+            "DB" => "the database file, as written by export",
+            "SX" => "the column of the start, counted from the left",
+            "SY" => "the row of the start, counted from the top",
             "GX" => "the column of the goal",
             "GY" => "the row of the goal",
-            "SCEN" => "the scenarios, in the format of MovingAI",
-            "EVENTS" => "the events, one a line",
+            "SCEN" => "the scenarios, in MovingAI format",
+            "EVENTS" => "the events, one per line",
             "W" => "how many columns the map has",
             "H" => "how many rows it has",
-            "SEED" => "what the formula mixes in",
-            "PORT" => "the port of this machine, at 127.0.0.1",
-            "DOORS" => "how many connections are served side by side",
-            "FEED" => "the port at which followers are fed, another than PORT",
-            "ROUNDS" => "how often the leader is asked for edits",
+            "SEED" => "the seed of the formula",
+            "PORT" => "the port on this machine (127.0.0.1)",
+            "DOORS" => "how many connections are served at once",
+            "FEED" => "the port for followers, different from PORT",
+            "ROUNDS" => "how many times the leader is asked for edits",
             "WORDS" => {
                 "query SX SY GX GY, change X Y 0 (blocked) or 1 (passable), build, status, bye or stop"
             }
             "order" => "the order of the cells in the database",
             "workers" => "how many threads build it",
-            _ => "for how many entries of edits and versions memory is taken first",
+            _ => "how many edits and versions to reserve memory for at the start",
         }
     }
 
-    /// What clap is told of it.
+    /// Returns the argument as clap reads it.
     fn arg<'a>(self, alloc: Global) -> Arg<'a>
         ensures rule { rule_of result ≡ rule_for self }
         ensures local { result.global ≡ false }
@@ -359,7 +357,7 @@ impl Field {
     }
 }
 
-/// What clap is told of an argument that has one or more values.
+/// Returns an argument with one or more values, as clap reads it.
 fn several<'a>(alloc: Global, id: &'a str) -> Arg<'a>
     ensures rule { rule_of result ≡ several_rule id.entry.now }
     ensures local { result.global ≡ false }
@@ -385,7 +383,7 @@ impl fmt::Display for Field {
 }
 
 impl Value {
-    /// Whether the text is such a value.
+    /// Returns whether the text is such a value.
     pub fn takes(self, text: &str) -> bool
         ensures { result ≡ is_value self text.now }
     {
@@ -399,7 +397,7 @@ impl Value {
     /// Writes what such a value is, in words.
     pub fn push_wanted(self, text: &mut String) -> Result<(), AllocError> {
         match self {
-            Value::File => text.push_str("the name of a file"),
+            Value::File => text.push_str("a file name"),
             Value::Number(kind) => {
                 let (least, most) = (kind.least(), kind.most());
                 write!(text, "a number from {least} to {most}")
@@ -409,7 +407,7 @@ impl Value {
     }
 }
 
-/// How a value of an option is shown.
+/// Shows the form of an option's value.
 impl fmt::Display for Value {
     ghost use Rattle.std.specs.Prelude.{Some};
 
@@ -424,7 +422,7 @@ impl fmt::Display for Value {
     }
 }
 
-/// The command as clap reads it: its arguments and options, and not even those for help and for the
+/// Returns the command as clap reads it: its arguments and options, without the flags for help and
 /// version.
 pub fn command<'a>(alloc: Global, verb: Verb) -> Result<Command<'a>, AllocError>
     ensures { IfOk result (λ command. app_of command ≡ app_for verb) }

@@ -23,8 +23,7 @@ use version_build::{build, plan};
 use versions::Version;
 use wire::{Bell, Files};
 
-/// The version of a map that comes after no edit, built as the options say. It is the same one for
-/// any number of threads.
+/// Returns the version of a map before any edit, built as the options say. The number of threads does not change it.
 pub fn first_version<R: Threads + Sync, B: Bell, G: Watch>(
     means: &Means<R, B, G>,
     grid: Grid,
@@ -42,8 +41,8 @@ pub fn first_version<R: Threads + Sync, B: Bell, G: Watch>(
     Ok(version)
 }
 
-/// The near version of that version, both built in one go as the options say. It is the same one for
-/// any number of threads.
+/// Returns the near version of the first version, both built together as the options say. The number of threads does
+/// not change them.
 pub fn first_near<R: Threads + Sync, B: Bell, G: Watch>(
     means: &Means<R, B, G>,
     grid: Grid,
@@ -67,7 +66,7 @@ pub fn first_near<R: Threads + Sync, B: Bell, G: Watch>(
     near
 }
 
-/// The board that begins with the map in the file of that name, with this room.
+/// Returns the board that begins with the map in the file of that name, with this room.
 pub fn first_board<R: Threads + Sync, F: Files, B: Bell, G: Watch>(
     means: &Means<R, B, G>,
     files: &mut F,
@@ -87,7 +86,7 @@ pub fn first_board<R: Threads + Sync, F: Files, B: Bell, G: Watch>(
     Ok(board_with(means.alloc, version, room)?)
 }
 
-/// A board with no entries, whose first version this is, with this room.
+/// Returns a board with no entries, whose first version this is, with this room.
 fn board_with(alloc: Global, version: Version, room: u32) -> Result<Board, AllocError>
     requires unedited { version.prefix ≡ 0 }
     requires room { room ≤ MAX_ENTRIES }

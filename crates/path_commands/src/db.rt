@@ -16,7 +16,7 @@ use std::fmt::Write;
 use versions::Version;
 use wire::{Files, Sink};
 
-/// Puts the file of a version, piece by piece.
+/// Prints the file of a version, piece by piece.
 pub fn put_file<O: Sink>(out: &mut O, version: &Version) -> Status
     ensures whole { result ≢ Status.WriteFault
         → (result ≡ Status.Done) × Appends (O.bytes out.old) (O.bytes out.new) (file_of version.now) }
@@ -30,7 +30,7 @@ pub fn put_file<O: Sink>(out: &mut O, version: &Version) -> Status
     }
 }
 
-/// The version whose file has that name, checked without a search.
+/// Returns the version in the file of that name, checked without a search.
 pub fn read_version<F: Files>(alloc: Global, files: &mut F, name: &str) -> Result<Version, Status>
     ensures version { IfOk result (λ version. HoldsVersion
         (file_over (F.at files.old) (F.at files.new) name.now) version) }
@@ -41,7 +41,7 @@ pub fn read_version<F: Files>(alloc: Global, files: &mut F, name: &str) -> Resul
     Ok(load_db(alloc, bytes.as_slice())?)
 }
 
-/// How many edits a version comes after, and the numbers of its cells, components and runs, a line each.
+/// Returns the number of edits before a version and the numbers of its cells, components and runs, a line each.
 pub fn answer_verify(alloc: Global, version: &Version) -> Result<String, AllocError>
     ensures { IfOk result (λ text. string_bytes text ≡ version_text version.now) }
 {

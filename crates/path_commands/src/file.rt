@@ -7,7 +7,7 @@ use crate::status::Status;
 use std::alloc::Global;
 use wire::{FileError, Files};
 
-/// The bytes of the file of that name, which may have `limit` of them.
+/// Returns the bytes of the file of that name, at most `limit` of them.
 pub fn read_file<F: Files>(
     alloc: Global,
     files: &mut F,

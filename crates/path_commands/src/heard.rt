@@ -16,7 +16,7 @@ use std::alloc::{AllocError, Global};
 use std::fmt::Write;
 use versions::{End, QueryRefusal};
 
-/// The text that tells an answer, each line of it ended by a line feed.
+/// Returns the text of an answer. Each line ends with a line feed.
 pub fn heard_text(alloc: Global, heard: &Heard) -> Result<String, AllocError>
     requires { AreMovesOf heard.now.reply heard.now.moves }
     ensures { IfOk result (λ text. TellsHeard heard.now.reply heard.now.moves (string_bytes text)) }
@@ -27,7 +27,7 @@ pub fn heard_text(alloc: Global, heard: &Heard) -> Result<String, AllocError>
     }
 }
 
-/// The version that found a path, and the path.
+/// Returns the version that found a path, and the path.
 fn found_text(alloc: Global, version: u32, cost: Cost, moves: &[Move]) -> Result<String, AllocError>
     requires straight { cost.straight ≤ MAX_STEPS }
     requires diagonal { cost.diagonal ≤ MAX_STEPS }
@@ -41,7 +41,7 @@ fn found_text(alloc: Global, version: u32, cost: Cost, moves: &[Move]) -> Result
     Ok(text)
 }
 
-/// The cost, the length and the moves of a path, a line each.
+/// Returns the cost, the length and the moves of a path, a line each.
 pub(crate) fn path_of(alloc: Global, cost: Cost, moves: &[Move]) -> Result<String, AllocError>
     requires straight { cost.straight ≤ MAX_STEPS }
     requires diagonal { cost.diagonal ≤ MAX_STEPS }
@@ -64,7 +64,7 @@ fn push_names(text: &mut String, moves: &[Move]) -> Result<(), AllocError>
     Ok(())
 }
 
-/// What is printed of a reply, but for the path.
+/// Returns the text of a reply without its path.
 fn other_text(alloc: Global, reply: Reply) -> Result<String, AllocError>
     ensures { IfOk result (λ text. string_bytes text ≡ reply_text reply) }
 {
@@ -73,7 +73,7 @@ fn other_text(alloc: Global, reply: Reply) -> Result<String, AllocError>
     Ok(text)
 }
 
-/// Writes what is printed of a reply, but for the path.
+/// Writes the text of a reply without its path.
 fn push_reply(text: &mut String, reply: Reply) -> Result<(), AllocError>
     ensures { IfOk result (λ _. string_bytes text.new ≡ string_bytes text.old ++ reply_text reply) }
 {
@@ -104,7 +104,7 @@ fn push_reply(text: &mut String, reply: Reply) -> Result<(), AllocError>
     }
 }
 
-/// Writes a version, which its number of edits tells.
+/// Writes a version, identified by the number of edits before it.
 fn push_version(text: &mut String, version: u32) -> Result<(), AllocError>
     ensures { IfOk result (λ _.
         string_bytes text.new ≡ string_bytes text.old ++ version_line version) }
@@ -159,7 +159,7 @@ fn push_board(
     write!(text, " runs {runs}\n")
 }
 
-/// The refusal that a reply tells.
+/// Returns the refusal of a reply.
 fn refusal_of(why: QueryWhy) -> QueryRefusal
     ensures { result ≡ refusal_of why }
 {

@@ -1,5 +1,5 @@
-//! What a person is told on standard error, beside the line on standard output: what is wrong with
-//! the words or with the file, and what would be right.
+//! The advice on standard error that goes with the line on standard output: what is wrong with the
+//! command line or the file, and what was expected.
 
 ghost use Rattle.std.specs.Prelude.{◌≡◌, ◌++◌, [], IfOk, codes, flat_map, string_bytes};
 ghost use Rattle.path_commands.specs.Commands.{field_text, verb_name, verb_synopsis};
@@ -29,8 +29,8 @@ use std::io::ErrorKind;
 use versions::{End, QueryRefusal};
 use wire::DoorsAsked;
 
-/// What to tell of a run over these words that ended so, by what was seen outside. The text is empty
-/// where the work was done, and ends with a line feed where it is not.
+/// Returns the advice for a run with these words and this status, using what was seen of its files
+/// and ports. The text is empty if the run succeeded, and otherwise ends with a line feed.
 pub fn advice(
     alloc: Global,
     words: &[String],
@@ -63,7 +63,7 @@ pub fn advice(
     Ok(text)
 }
 
-/// What to tell where the arguments could not be read.
+/// Returns the advice for arguments that could not be read.
 pub fn argument_advice(error: RequestError) -> &'static str {
     match error {
         RequestError::Usage => "path_server: an argument is not UTF-8 text\n",
@@ -71,7 +71,7 @@ pub fn argument_advice(error: RequestError) -> &'static str {
     }
 }
 
-/// How the input of a session broke off that the command of this name held.
+/// Writes how the input of the session of this command broke off.
 fn push_broken(text: &mut String, name: &str, fault: SessionFault) -> Result<(), AllocError> {
     match fault {
         SessionFault::Torn { have, want } => {
@@ -83,14 +83,14 @@ fn push_broken(text: &mut String, name: &str, fault: SessionFault) -> Result<(),
             let (short, long) = (frame_limit(Proto::One), frame_limit(Proto::Two));
             write!(
                 text,
-                "{length} bytes is longer than {short}, and {long} behind a Hello\n"
+                "{length} bytes; the limit is {short}, or {long} after a Hello\n"
             )
         }
         SessionFault::ReadFault | SessionFault::WriteFault => Ok(()),
     }
 }
 
-/// What is wrong with a file or a door that was asked for, or with the query of a map.
+/// Writes what is wrong with a file, a port or a query that was asked for.
 fn push_on_file(
     text: &mut String,
     request: Request,
@@ -124,7 +124,7 @@ fn push_on_file(
     }
 }
 
-/// Why a source gives no map.
+/// Writes why there is no map.
 fn push_on_source(
     text: &mut String,
     source: MapSource,
@@ -137,7 +137,7 @@ fn push_on_source(
     }
 }
 
-/// What is wrong with what a map was asked for.
+/// Writes what is wrong with the scenarios, the events or the query.
 fn push_on_aim(
     text: &mut String,
     asked: MapAsked,
@@ -162,69 +162,68 @@ fn push_on_aim(
     }
 }
 
-/// What is wrong with the doors of a port, in the system's words where it refused the port.
+/// Writes why the doors of a port failed, in the system's words if it refused the port.
 fn push_door_fault(
     text: &mut String,
     doors: DoorsAsked,
-    refusal: Option<io::Error>,
+    refusal: Option<(u16, io::Error)>,
 ) -> Result<(), AllocError> {
-    let DoorsAsked { port, count } = doors;
-    let Some(error) = refusal else {
-        return write!(text, "path_server serve: a door of port {port} failed\n");
+    let Some((port, error)) = refusal else {
+        let port = doors.port;
+        return write!(text, "path_server serve: accept failed at port {port}\n");
     };
     write!(text, "path_server serve: port {port} ")?;
-    match error.kind() {
-        ErrorKind::AddrInUse => text.push_str("is taken")?,
-        ErrorKind::PermissionDenied => text.push_str("is forbidden")?,
-        _ => write!(text, "cannot have {count} doors")?,
-    }
-    write!(text, ": {error}\n")
+    push_port_fault(text, doors.count, error)
 }
 
-/// The same of the doors of a leader, of which one is at a port of its own.
+/// Writes the same for a leader, which has one door at a port of its own.
 fn push_feed_fault(
     text: &mut String,
     doors: DoorsAsked,
     feed: u16,
-    refusal: Option<io::Error>,
+    refusal: Option<(u16, io::Error)>,
 ) -> Result<(), AllocError> {
     let DoorsAsked { port, count } = doors;
-    let Some(error) = refusal else {
+    let Some((refused, error)) = refusal else {
         return write!(
             text,
-            "path_server lead: a door of port {port} or {feed} failed\n"
+            "path_server lead: accept failed at port {port} or {feed}\n"
         );
     };
-    write!(text, "path_server lead: port {port} or {feed} ")?;
+    write!(text, "path_server lead: port {refused} ")?;
+    push_port_fault(text, if refused == feed { 1 } else { count }, error)
+}
+
+/// Writes why the system refused a port with this many doors.
+fn push_port_fault(text: &mut String, count: u32, error: io::Error) -> Result<(), AllocError> {
     match error.kind() {
         ErrorKind::AddrInUse => text.push_str("is taken")?,
         ErrorKind::PermissionDenied => text.push_str("is forbidden")?,
-        _ => write!(text, "cannot have {count} doors and one")?,
+        _ if count == 1 => text.push_str("cannot be opened")?,
+        _ => write!(text, "cannot be opened for {count} doors")?,
     }
     write!(text, ": {error}\n")
 }
 
 // ---- connections that are called
 
-/// What is wrong with what came in from a server, or with the connection to it.
+/// Writes what is wrong with the answer of a server or the connection to it.
 fn push_on_server(text: &mut String, asked: AskAsked, status: &Status) -> Result<(), AllocError> {
     let AskAsked { port, .. } = asked;
     match status {
         Status::ReadFault => {
-            write!(
-                text,
-                "path_server ask: nobody answers at port {port}, or no longer\n"
-            )
+            text.push_str("path_server ask: no server at port ")?;
+            write!(text, "{port}, or the connection was lost\n")
         }
         Status::BadAnswer => {
-            text.push_str("path_server ask: what came in is no answer, ")?;
-            write!(text, "or ended before it was whole, at port {port}\n")
+            text.push_str("path_server ask: invalid or incomplete answer ")?;
+            write!(text, "from port {port}\n")
         }
         _ => Ok(()),
     }
 }
 
-/// What is wrong with what came in from a leader, with the leader, or with the connection to it.
+/// Writes what is wrong with a leader, its feed or the connection to it.
 fn push_on_leader(
     text: &mut String,
     asked: FollowAsked,
@@ -233,16 +232,16 @@ fn push_on_leader(
     let FollowAsked { port, .. } = asked;
     match status {
         Status::ReadFault => {
-            write!(text, "path_server follow: nobody answers at port {port}, ")?;
-            text.push_str("or no longer, or the input failed\n")
+            write!(text, "path_server follow: no leader at port {port}, ")?;
+            text.push_str("or the connection or the input failed\n")
         }
         Status::BadAnswer => {
-            text.push_str("path_server follow: what came in is no feed, ")?;
-            write!(text, "or ended before it was whole, at port {port}\n")
+            text.push_str("path_server follow: invalid or incomplete feed ")?;
+            write!(text, "from port {port}\n")
         }
         Status::LeaderMemory => {
             text.push_str("path_server follow: the leader at port ")?;
-            write!(text, "{port} has no memory for its edits\n")
+            write!(text, "{port} is out of memory\n")
         }
         _ => Ok(()),
     }
@@ -250,7 +249,7 @@ fn push_on_leader(
 
 // ---- files
 
-/// The name of the file that is read behind so many others.
+/// Returns the name of the file that is read after this many others.
 fn file_at<'a>(request: Request<'a>, others: u32) -> &'a str {
     if others > 0
         && let Some(file) = second_file(request)
@@ -260,7 +259,7 @@ fn file_at<'a>(request: Request<'a>, others: u32) -> &'a str {
     first_file(request)
 }
 
-/// The name of the file that is read behind the map's.
+/// Returns the name of the file that is read after the map.
 fn second_file<'a>(request: Request<'a>) -> Option<&'a str> {
     let Request::OfMap(asked) = request else {
         return None;
@@ -272,7 +271,7 @@ fn second_file<'a>(request: Request<'a>) -> Option<&'a str> {
     }
 }
 
-/// The name of the file that is read first; none where a map is made, and where a port is called.
+/// Returns the name of the file that is read first; empty if the command reads none.
 fn first_file<'a>(request: Request<'a>) -> &'a str {
     match request {
         Request::OfMap(asked) => source_file(asked.source),
@@ -284,7 +283,7 @@ fn first_file<'a>(request: Request<'a>) -> &'a str {
     }
 }
 
-/// The name of the map's file; none where the map is made.
+/// Returns the name of the map's file; empty if the map is made by formula.
 fn source_file<'a>(source: MapSource<'a>) -> &'a str {
     match source {
         MapSource::File(map) => map,
@@ -292,7 +291,7 @@ fn source_file<'a>(source: MapSource<'a>) -> &'a str {
     }
 }
 
-/// Why a file was not read.
+/// Writes why a file was not read.
 fn push_read_fault(
     text: &mut String,
     file: &str,
@@ -302,11 +301,12 @@ fn push_read_fault(
     match reason {
         Some(ErrorKind::NotFound) => text.push_str("no such file\n"),
         Some(reason) => write!(text, "{reason}\n"),
-        None => text.push_str("it cannot be read\n"),
+        None => text.push_str("cannot be read\n"),
     }
 }
 
-/// Ends a line on how a file should begin, by what it is where its first bytes are none of a text.
+/// Ends a line on how a file should begin with what the file is, if its first bytes show that it is
+/// not text.
 fn push_sort(text: &mut String, seen: Seen) -> Result<(), AllocError> {
     match seen.sort() {
         Some(sort) => write!(text, ", found {sort}\n"),
@@ -314,10 +314,10 @@ fn push_sort(text: &mut String, seen: Seen) -> Result<(), AllocError> {
     }
 }
 
-/// How many lines stand before the first row of a map, and 1 more: lines are numbered from 1.
+/// The line of the first row of a map, numbered from 1.
 const FIRST_ROW: u32 = 5;
 
-/// The line at which a map is refused, and what was expected there.
+/// Writes the line at which a map is refused, and what was expected there.
 fn push_map_fault(
     text: &mut String,
     file: &str,
@@ -348,18 +348,18 @@ fn push_map_fault(
             write!(text, "one of . G S W @ O T at column {x}, found ")?;
             push_byte(text, byte)
         }
-        MapFault::MissingRows { found } => write!(text, "a row, found {found} rows\n"),
+        MapFault::MissingRows { found } => write!(text, "another row, found {found} rows\n"),
         MapFault::Extra { .. } => text.push_str("nothing after the last row\n"),
         MapFault::TooManyCells { x, .. } => {
             write!(
                 text,
-                "at most {MAX_PASSABLE} passable cells, one more at column {x}\n"
+                "at most {MAX_PASSABLE} passable cells, one too many at column {x}\n"
             )
         }
     }
 }
 
-/// A byte of a map: the letter, or the number where it is none that can be printed.
+/// Writes a byte of a map: the character if it can be printed, else the number.
 fn push_byte(text: &mut String, byte: u8) -> Result<(), AllocError> {
     match byte {
         b'!'..=b'~' => {
@@ -372,18 +372,21 @@ fn push_byte(text: &mut String, byte: u8) -> Result<(), AllocError> {
     }
 }
 
-/// Why a map is not made.
+/// Writes why a map is not made.
 fn push_made_fault(text: &mut String, fault: MapFault) -> Result<(), AllocError> {
     match fault {
         MapFault::TooManyCells { x, y } => {
             write!(text, "path_server made: expected at most {MAX_PASSABLE} ")?;
-            write!(text, "passable cells, one more at column {x} and row {y}\n")
+            write!(
+                text,
+                "passable cells, one too many at column {x} and row {y}\n"
+            )
         }
         _ => Ok(()),
     }
 }
 
-/// The line at which scenarios are refused, and what was expected there.
+/// Writes the line at which scenarios are refused, and what was expected there.
 fn push_scenario_fault(
     text: &mut String,
     file: &str,
@@ -407,7 +410,7 @@ fn push_scenario_fault(
     }
 }
 
-/// What is wrong with the file of a database.
+/// Writes what is wrong with a database file.
 fn push_db_fault(
     text: &mut String,
     file: &str,
@@ -417,7 +420,7 @@ fn push_db_fault(
     write!(text, "{file}: ")?;
     match fault {
         DbFault::Magic => {
-            text.push_str("expected PATHDB01 at its front")?;
+            text.push_str("expected PATHDB01 at the start")?;
             push_sort(text, seen)
         }
         DbFault::Walk { .. } | DbFault::Worse { .. } | DbFault::Loose { .. } => {
@@ -427,32 +430,32 @@ fn push_db_fault(
     }
 }
 
-/// What is wrong with a field behind the first.
+/// Writes what is wrong with a field after the first.
 fn push_field_fault(text: &mut String, fault: DbFault) -> Result<(), AllocError> {
     match fault {
         DbFault::Size => push_sides_wanted(text),
         DbFault::Kind { byte } => {
-            write!(text, "expected order 0, rows, or 1, dfs, found {byte}\n")
+            write!(text, "expected order 0 (rows) or 1 (dfs), found {byte}\n")
         }
         DbFault::Terrain { place, byte } => write!(
             text,
             "expected terrain 0, 1 or 2 at cell {place}, found {byte}\n"
         ),
         DbFault::TooManyCells { place } => push_cells_wanted(text, place),
-        DbFault::Cut { have } => write!(text, "it ends too soon, after {have} bytes\n"),
+        DbFault::Cut { have } => write!(text, "ends too soon, after {have} bytes\n"),
         DbFault::Runs { comp, source } => {
             write!(text, "component {comp}, row {source}: ")?;
-            text.push_str("expected runs whose starts rise from 0, one a cell at most\n")
+            text.push_str("expected rising run starts from 0, at most one per cell\n")
         }
         DbFault::Extra { from } => write!(
             text,
-            "expected nothing after the last row, from byte {from} on\n"
+            "expected the end after the last row, at byte {from}\n"
         ),
         _ => Ok(()),
     }
 }
 
-/// What the sides of a map may be.
+/// Writes the limits of the sides of a map.
 fn push_sides_wanted(text: &mut String) -> Result<(), AllocError> {
     write!(
         text,
@@ -460,15 +463,15 @@ fn push_sides_wanted(text: &mut String) -> Result<(), AllocError> {
     )
 }
 
-/// How many passable cells a map may have, of which this place has one more.
+/// Writes the limit of passable cells, and the cell that exceeds it.
 fn push_cells_wanted(text: &mut String, place: u32) -> Result<(), AllocError> {
     write!(
         text,
-        "expected at most {MAX_PASSABLE} passable cells, one more at cell {place}\n"
+        "expected at most {MAX_PASSABLE} passable cells, one too many at cell {place}\n"
     )
 }
 
-/// What is wrong with a row.
+/// Writes what is wrong with a row.
 fn push_row_fault(text: &mut String, fault: DbFault) -> Result<(), AllocError> {
     match fault {
         DbFault::Walk {
@@ -477,7 +480,7 @@ fn push_row_fault(text: &mut String, fault: DbFault) -> Result<(), AllocError> {
             source,
         } => {
             push_walk(text, comp, target, source)?;
-            text.push_str("the rows lead astray\n")
+            text.push_str("the rows do not lead there\n")
         }
         DbFault::Worse {
             comp,
@@ -485,7 +488,7 @@ fn push_row_fault(text: &mut String, fault: DbFault) -> Result<(), AllocError> {
             source,
         } => {
             push_walk(text, comp, target, source)?;
-            text.push_str("another way is shorter\n")
+            text.push_str("a shorter path exists\n")
         }
         DbFault::Loose {
             comp,
@@ -493,19 +496,19 @@ fn push_row_fault(text: &mut String, fault: DbFault) -> Result<(), AllocError> {
             source,
         } => {
             push_walk(text, comp, target, source)?;
-            text.push_str("a run ends too soon, or keeps another move than the least\n")
+            text.push_str("a run ends too soon, or its move is not the least\n")
         }
         _ => Ok(()),
     }
 }
 
-/// From which place of a component to which.
+/// Writes the component and the two cells of a walk.
 fn push_walk(text: &mut String, comp: u32, target: u32, source: u32) -> Result<(), AllocError> {
     write!(text, "component {comp}, from cell {source} ")?;
     write!(text, "to cell {target}: ")
 }
 
-/// The line at which events are refused, and what an event is.
+/// Writes the line at which events are refused, and the forms of an event.
 fn push_events_fault(
     text: &mut String,
     file: &str,
@@ -521,7 +524,8 @@ fn push_events_fault(
     text.push_str("\n")
 }
 
-/// What is expected in a field of a scenario, of which the second is a name and the last a length.
+/// Returns what is expected in a field of a scenario. The second field is a name and the last a
+/// length.
 fn field_wanted(field: u32) -> &'static str {
     match field {
         1 | 3 | 4 => "a number from 0 to 4294967295",
@@ -530,7 +534,7 @@ fn field_wanted(field: u32) -> &'static str {
     }
 }
 
-/// The line of the file, from 1 on, at which a map is refused.
+/// Returns the line of the file, from 1, at which a map is refused.
 fn fault_line(fault: MapFault) -> u32 {
     match fault {
         MapFault::Header { line } | MapFault::Size { line } => line,
@@ -540,7 +544,7 @@ fn fault_line(fault: MapFault) -> u32 {
     }
 }
 
-/// Which end of a query is refused, and why.
+/// Writes which end of a query is refused, and why.
 fn push_refusal(
     text: &mut String,
     file: &str,
@@ -573,8 +577,8 @@ fn push_end(
 
 // ---- words
 
-/// What is wrong with the words, and what the command that they name takes; where they name none,
-/// what there is. Who asks for help gets a page.
+/// Writes what is wrong with the words and the usage of the command that they name, or else the
+/// list of commands. A request for help gets a help page.
 fn push_usage(text: &mut String, alloc: Global, words: &[String]) -> Result<(), AllocError> {
     match (first_verb(words), words.first()) {
         (Some(verb), _) if asks_behind_first(words) => push_page_of(text, verb),
@@ -587,7 +591,7 @@ fn push_usage(text: &mut String, alloc: Global, words: &[String]) -> Result<(), 
     }
 }
 
-/// Whether a word behind the first asks for help.
+/// Returns whether a word after the first asks for help.
 fn asks_behind_first(words: &[String]) -> bool {
     words
         .iter()
@@ -595,7 +599,7 @@ fn asks_behind_first(words: &[String]) -> bool {
         .any(|word| matches!(word.as_str(), "--help" | "-h"))
 }
 
-/// What is told of a first word that names no command.
+/// Writes the advice for a first word that is not a command.
 fn push_on_name(text: &mut String, name: &str) -> Result<(), AllocError> {
     if asks_for_help(name) {
         return push_page(text);
@@ -603,21 +607,21 @@ fn push_on_name(text: &mut String, name: &str) -> Result<(), AllocError> {
     if asks_for_version(name) {
         return push_version(text);
     }
-    write!(text, "path_server: '{name}' is no command")?;
+    write!(text, "path_server: unknown command '{name}'")?;
     match nearest(name) {
         Some(verb) => {
             let meant = verb.name();
-            write!(text, "; is '{meant}' meant?\n")?;
+            write!(text, "; did you mean '{meant}'?\n")?;
             push_synopsis(text, "usage: ", verb)
         }
         None => {
-            text.push_str("; there are:\n")?;
+            text.push_str("; the commands are:\n")?;
             push_commands(text)
         }
     }
 }
 
-/// Each command, a line each.
+/// Writes the usage of every command, one per line.
 fn push_commands(text: &mut String) -> Result<(), AllocError> {
     for verb in Verb::ALL {
         push_synopsis(text, "  ", verb)?;
@@ -625,7 +629,7 @@ fn push_commands(text: &mut String) -> Result<(), AllocError> {
     Ok(())
 }
 
-/// The line of a command, with its arguments and options, after some text.
+/// Writes the usage line of a command after the text `before`.
 pub(crate) fn push_synopsis(text: &mut String, before: &str, verb: Verb) -> Result<(), AllocError>
     ensures { IfOk result (λ _. string_bytes text.new ≡ string_bytes text.old ++ line
         (before.now ++ codes "path_server " ++ verb_name verb ++ verb_synopsis verb)) }
@@ -637,7 +641,7 @@ pub(crate) fn push_synopsis(text: &mut String, before: &str, verb: Verb) -> Resu
     text.push_str("\n")
 }
 
-/// The arguments and options.
+/// Writes the arguments and options.
 fn push_fields(text: &mut String, fields: &[Field]) -> Result<(), AllocError>
     ensures { IfOk result (λ _.
         string_bytes text.new ≡ string_bytes text.old ++ flat_map field_text fields.now) }
@@ -648,7 +652,7 @@ fn push_fields(text: &mut String, fields: &[Field]) -> Result<(), AllocError>
     Ok(())
 }
 
-/// Which word is wrong, and why.
+/// Writes which word is wrong, and why.
 fn push_wrong_word(
     text: &mut String,
     alloc: Global,
@@ -666,7 +670,7 @@ fn push_wrong_word(
     }
 }
 
-/// The message of a refusal up to its first empty line, in one line and without its first word.
+/// Writes the message up to its first empty line, as one line and without the leading `error: `.
 fn push_first_part(text: &mut String, message: &str) -> Result<(), AllocError> {
     for line in message.split('\n') {
         let line = line.trim();
@@ -679,7 +683,7 @@ fn push_first_part(text: &mut String, message: &str) -> Result<(), AllocError> {
     text.push_str("\n")
 }
 
-/// The first value that does not pass its reader, and what it should be.
+/// Writes the first value that is not valid, and what was expected.
 fn push_wrong_value(
     text: &mut String,
     verb: Verb,
@@ -702,14 +706,14 @@ fn push_wrong_value(
     push_wrong_values(text, verb)
 }
 
-/// What the values of a command should be together, where each by itself is right.
+/// Writes what is wrong with the values of a command taken together, when each by itself is valid.
 fn push_wrong_values(text: &mut String, verb: Verb) -> Result<(), AllocError> {
     match verb {
         Verb::Ask => {
             text.push_str("path_server ask: WORDS: expected query SX SY GX GY, ")?;
             text.push_str("change X Y 0, change X Y 1, build, status, bye or stop\n")
         }
-        Verb::Lead => text.push_str("path_server lead: PORT FEED: expected two ports\n"),
+        Verb::Lead => text.push_str("path_server lead: PORT FEED: expected different ports\n"),
         _ => {
             text.push_str("path_server made: W H: ")?;
             write!(text, "expected at most {MAX_CELLS} cells\n")

@@ -1,4 +1,4 @@
-//! The commands of the program: what the words of a command line ask for, what each command does, and
+//! The commands of the program: the request that a command line spells, what each command does, and
 //! the texts and statuses with which a run ends.
 #![tactic(auto)]
 

@@ -17,7 +17,7 @@ use scen_run::{Made, QueryTotals, made_map, measure_queries};
 use std::alloc::{AllocError, Global};
 use versions::Version;
 
-/// The map that is made of the sides and the seed.
+/// Returns the map that is made of the sides and the seed.
 pub fn made_grid(alloc: Global, sides: Sides, seed: u32) -> Result<Grid, Status>
     requires { IsWithinLimits sides.width sides.height }
     ensures grid { IfOk result (λ grid. IsMade (map_made sides seed) (Map grid)) }
@@ -30,8 +30,8 @@ pub fn made_grid(alloc: Global, sides: Sides, seed: u32) -> Result<Grid, Status>
     }
 }
 
-/// The numbers of passable cells, of components and of runs, and what the queries of the seed come
-/// to, a line each.
+/// Returns the numbers of passable cells, of components and of runs, and what the queries of the
+/// seed come to, a line each.
 pub fn answer_made(alloc: Global, version: &Version, seed: u32) -> Result<String, AllocError>
     ensures { IfOk result (λ text. TellsTotals version.now seed (string_bytes text)) }
 {

@@ -11,7 +11,7 @@ use moves::Grid;
 use std::alloc::Global;
 use wire::Files;
 
-/// The map in the file of that name.
+/// Returns the map in the file of that name.
 pub fn read_grid<F: Files>(alloc: Global, files: &mut F, name: &str) -> Result<Grid, Status>
     ensures grid { IfOk result
         (HoldsMap (file_over (F.at files.old) (F.at files.new) name.now)) }

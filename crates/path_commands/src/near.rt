@@ -1,5 +1,5 @@
-//! `near MAP` and `nearpath MAP SX SY GX GY`: a map's database with near rows, whose paths go by the compass where that is
-//! right.
+//! `near MAP` and `nearpath MAP SX SY GX GY`: a map's database with near rows, whose paths follow the compass wherever
+//! it is right.
 
 ghost use Rattle.std.specs.Prelude.{◌≡◌, ◌≤◌, IfErr, IfOk, string_bytes};
 ghost use Rattle.near_rows.specs.NearWalks.{HasFewAhead};
@@ -15,7 +15,7 @@ use root_cost::{Cost, MAX_STEPS};
 use std::alloc::{AllocError, Global};
 use std::fmt::Write;
 
-/// What `check` tells, and then how many runs all near rows have, and the greatest near radius, a line each.
+/// Returns what `check` prints, then the number of runs of all near rows and the greatest near radius, a line each.
 pub fn answer_near(alloc: Global, near: &NearVersion) -> Result<String, AllocError>
     ensures { IfOk result (λ text. TellsNear near.now.version (string_bytes text)) }
 {
@@ -34,7 +34,7 @@ fn push_near(text: &mut String, near: &NearVersion) -> Result<(), AllocError>
     Ok(())
 }
 
-/// The text that tells the near walk of a near version between two cells, or that no path exists.
+/// Returns the text of the near walk between two cells, or of no path.
 pub fn answer_near_path(
     alloc: Global,
     near: &NearVersion,
@@ -45,19 +45,19 @@ pub fn answer_near_path(
         TellsNearAnswer near.entry.now.version start goal (string_bytes text)) }
     ensures refused { IfErr result (IsPathCause near.entry.now.version start goal) }
 {
-    // That it is the near version of a version is known from here.
+    // From here on, it is known to be the near version of a version.
     near.version();
     match NearWalk::start(near, start, goal)? {
         None => Ok(unreachable_text(alloc)?),
         Some(mut walk) => {
-            // A path exists, and so it has a cost.
+            // A path exists, so it has a cost.
             let cost = measure(near, start, goal)?.unwrap();
             Ok(near_path_text(alloc, cost, &mut walk)?)
         }
     }
 }
 
-/// The cost, the length and the moves that are ahead of a walk, a line each. The walk is at its goal then.
+/// Returns the cost, the length and the remaining moves of a walk, a line each. The walk is at its goal afterwards.
 fn near_path_text(alloc: Global, cost: Cost, walk: &mut NearWalk) -> Result<String, AllocError>
     requires straight { cost.straight ≤ MAX_STEPS }
     requires diagonal { cost.diagonal ≤ MAX_STEPS }
@@ -70,7 +70,7 @@ fn near_path_text(alloc: Global, cost: Cost, walk: &mut NearWalk) -> Result<Stri
     Ok(text)
 }
 
-/// Writes the names of the moves that are ahead of a walk, a space before each, as they are read.
+/// Writes the names of the remaining moves of a walk, each after a space.
 fn push_near_moves(text: &mut String, walk: &mut NearWalk) -> Result<(), AllocError>
     requires { HasFewAhead walk.old }
     ensures { IfOk result (λ _.

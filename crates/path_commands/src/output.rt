@@ -1,4 +1,4 @@
-//! What a run says on its output: a text, or the line of the status with which it ends.
+//! The output of a run: a text, or the line of its status.
 
 ghost use Rattle.std.specs.Prelude.{◌≡◌, ◌≢◌, ◌⊎◌};
 ghost use Rattle.std.specs.Io.KnownBytes.{Appends};
@@ -12,7 +12,7 @@ use crate::status::Status;
 use std::alloc::Global;
 use wire::{Sink, put_all};
 
-/// Puts the line of a status; where there is no memory for it, that of want of memory.
+/// Prints the line of a status, or that of `NoMemory` if memory runs out.
 pub fn refuse<O: Sink>(alloc: Global, out: &mut O, status: Status) -> Status
     requires done { status ≢ Status.Done }
     requires write { status ≢ Status.WriteFault }
@@ -30,7 +30,7 @@ pub fn refuse<O: Sink>(alloc: Global, out: &mut O, status: Status) -> Status
     }
 }
 
-/// Puts a text, and says that status where all of it was taken.
+/// Prints a text, and returns the given status if all of it was taken.
 pub fn put<O: Sink>(out: &mut O, text: &[u8], status: Status) -> Status
     requires { status ≢ Status.WriteFault }
     ensures whole { result ≢ Status.WriteFault

@@ -16,8 +16,8 @@ use std::alloc::{AllocError, Global};
 use std::fmt::Write;
 use walk_rows::walk_between;
 
-/// The text that tells the walk between two cells, or that no path exists. It is what the map's first
-/// version answers, of which no more rows are built than those of the cells on the walk.
+/// Returns the text of the walk between two cells, or of no path. It is the answer of the map's
+/// first version, of which only the rows of the cells on the walk are built.
 pub fn answer_path(
     alloc: Global,
     grid: &Grid,
@@ -36,7 +36,7 @@ pub fn answer_path(
     }
 }
 
-/// What the moves of a path cost.
+/// Returns the cost of the moves of a path.
 fn cost_of(moves: &[Move]) -> Cost
     requires { length moves.now < MAX_PASSABLE }
     ensures cost { result ≡ cost_of moves.now }
@@ -50,7 +50,7 @@ fn cost_of(moves: &[Move]) -> Cost
     cost
 }
 
-/// The cost and the length of a path, a line each, and the word before its moves.
+/// Returns the cost and the length of a path, a line each, and the word before its moves.
 pub fn head_text(alloc: Global, cost: Cost) -> Result<String, AllocError>
     requires straight { cost.straight ≤ MAX_STEPS }
     requires diagonal { cost.diagonal ≤ MAX_STEPS }
@@ -65,7 +65,7 @@ pub fn head_text(alloc: Global, cost: Cost) -> Result<String, AllocError>
     Ok(text)
 }
 
-/// What is printed where no path exists.
+/// Returns the text for no path.
 pub fn unreachable_text(alloc: Global) -> Result<String, AllocError>
     ensures { IfOk result (λ text. string_bytes text ≡ unreachable_text) }
 {

@@ -1,5 +1,5 @@
-//! What a person is told beside the results of scenarios: where stated lengths are not those that were found, and which
-//! scenarios are for a map of another size.
+//! The remarks on the results of scenarios: which stated lengths differ from those found, and which scenarios are for a
+//! map of another size.
 
 ghost use Rattle.scen_run.specs.Reports.{AreShort, HasLength, IsShort};
 
@@ -10,7 +10,7 @@ use scen_run::LineResult;
 use std::alloc::{AllocError, Global};
 use std::fmt::Write;
 
-/// How many scenarios of each kind are named.
+/// The most scenarios of each kind that are listed.
 const NAMED: usize = 10;
 
 /// How many scenarios differ, and how many are for a map of another size.
@@ -21,7 +21,7 @@ struct Counts {
 }
 
 impl Counts {
-    /// The counts with one result more.
+    /// Returns the counts with one result more.
     fn with(self, said: LineResult) -> Counts {
         match said {
             LineResult::Differs { .. } => Counts {
@@ -36,7 +36,7 @@ impl Counts {
         }
     }
 
-    /// Whether one more result like this is named.
+    /// Returns whether one more result of this kind is listed.
     fn names(self, said: LineResult) -> bool {
         match said {
             LineResult::Differs { .. } => self.differs < NAMED,
@@ -46,8 +46,8 @@ impl Counts {
     }
 }
 
-/// The lines on the results of scenarios on a map; none where no scenario differs and none is for a map of another
-/// size.
+/// Returns the remarks on the results of scenarios on a map. The text is empty if no scenario differs and none is for a
+/// map of another size.
 pub(crate) fn scenario_remarks(
     alloc: Global,
     grid: &Grid,
@@ -72,7 +72,7 @@ pub(crate) fn scenario_remarks(
     Ok(text)
 }
 
-/// The line on the scenario at a place, where its result is one on which there is something to say.
+/// Writes the remark on the scenario at this index, if its result calls for one.
 fn push_remark(
     text: &mut String,
     place: usize,
@@ -95,13 +95,13 @@ fn push_remark(
     }
 }
 
-/// Which scenario a line is on, by its number from 1.
+/// Writes the number of the scenario, from 1.
 fn push_number(text: &mut String, place: usize) -> Result<(), AllocError> {
     let number = place.saturating_add(1);
     write!(text, "path_server scen: scenario {number}: ")
 }
 
-/// The stated length and the one that was found.
+/// Writes the stated length and the one found.
 fn push_lengths(text: &mut String, nano: u64, cost: Cost) -> Result<(), AllocError>
     requires { HasLength cost }
 {
@@ -109,27 +109,27 @@ fn push_lengths(text: &mut String, nano: u64, cost: Cost) -> Result<(), AllocErr
         micro: nano / 1_000,
     };
     let found = cost.length();
-    write!(text, "stated {stated}, found {found}\n")
+    write!(text, "stated length {stated}, found {found}\n")
 }
 
-/// The stated sides and those of the map.
+/// Writes the stated size and that of the map.
 fn push_sides(text: &mut String, scenario: &ScenLine, grid: &Grid) -> Result<(), AllocError> {
     let (width, height) = (scenario.width, scenario.height);
-    write!(text, "stated a map of {width} by {height}, ")?;
+    write!(text, "stated map size {width} by {height}, ")?;
     let (width, height) = (grid.width(), grid.height());
     write!(text, "found {width} by {height}\n")
 }
 
-/// How many there are of each kind, where there are any.
+/// Writes how many there are of each kind, if there are any.
 fn push_counts(text: &mut String, counts: Counts) -> Result<(), AllocError> {
     let Counts { differs, scaled } = counts;
     if differs == 0 && scaled == 0 {
         return Ok(());
     }
-    write!(text, "path_server scen: of another length {differs}, ")?;
-    write!(text, "for a map of another size {scaled}")?;
+    write!(text, "path_server scen: {differs} of another length, ")?;
+    write!(text, "{scaled} for a map of another size")?;
     if differs > NAMED || scaled > NAMED {
-        write!(text, "; of each at most {NAMED} are named")?;
+        write!(text, "; only {NAMED} of each are listed")?;
     }
     text.push_str("\n")
 }

@@ -14,7 +14,7 @@ use text_lines::Text;
 use versions::Version;
 use wire::Files;
 
-/// The events in the file of that name.
+/// Returns the events in the file of that name.
 pub fn read_event_file<F: Files>(alloc: Global, files: &mut F, name: &str) -> Result<Events, Status>
     ensures events { IfOk result (λ events. HoldsEvents
         (file_over (F.at files.old) (F.at files.new) name.now) events) }
@@ -30,7 +30,7 @@ pub fn read_event_file<F: Files>(alloc: Global, files: &mut F, name: &str) -> Re
     }
 }
 
-/// The lines that the events print on a board with no entries, of which this is the first version.
+/// Returns the lines that the events print on a board with no entries, whose first version this is.
 pub fn answer_replay(alloc: Global, version: Version, events: &Events) -> Result<Text, AllocError>
     requires unedited { version.prefix ≡ 0 }
     requires passes { HavePasses events.now }

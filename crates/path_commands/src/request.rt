@@ -1,4 +1,4 @@
-//! What the words of a command line ask for.
+//! The request that the words of a command line spell.
 ghost use Rattle.std.specs.Prelude.{◌≡◌, ◌≢◌, ◌≤◌, IfErr, IfOk, IfSome, None, Some, false, option_map};
 ghost use Rattle.clap.specs.Words.{first_value, found_of, kind_of};
 ghost use Rattle.path_commands.specs.declared.request.RequestError.TheVariants.{NoMemory, Usage};
@@ -27,7 +27,7 @@ use moves::{Cell, MAX_CELLS};
 use std::alloc::{AllocError, Global};
 use wire::DoorsAsked;
 
-/// What the words of a command line ask for.
+/// The request that the words of a command line spell.
 #[derive(Clone, Copy, Debug, PartialEq, Eq)]
 pub enum Request<'a> {
     /// What the first version of a map answers.
@@ -74,7 +74,7 @@ pub enum MapSource<'a> {
 /// What the first version of a map is to answer.
 #[derive(Clone, Copy, Debug, PartialEq, Eq)]
 pub enum MapAim<'a> {
-    /// A best path between two cells.
+    /// A shortest path between two cells.
     Path {
         /// The cell that the path begins with.
         start: Cell,
@@ -83,9 +83,9 @@ pub enum MapAim<'a> {
     },
     /// The size.
     Check,
-    /// How many runs are left where compass moves need none.
+    /// How many runs are left once compass moves need none.
     Near,
-    /// A best path between two cells, by compass moves where they are right.
+    /// A shortest path between two cells, by compass moves wherever they are right.
     NearPath {
         /// The cell that the path begins with.
         start: Cell,
@@ -107,8 +107,7 @@ pub enum MapAim<'a> {
 pub struct TalkAsked<'a> {
     /// The name of the map's file, which is not empty.
     pub map: &'a str,
-    /// For how many entries the board takes memory first, at most
-    /// [`MAX_ENTRIES`](path_core::MAX_ENTRIES).
+    /// How many entries the board reserves memory for at the start, at most [`MAX_ENTRIES`](path_core::MAX_ENTRIES).
     pub room: u32,
     /// How the versions are built.
     pub build: BuildOptions,
@@ -119,11 +118,9 @@ pub struct TalkAsked<'a> {
 pub struct ServeAsked<'a> {
     /// The name of the map's file, which is not empty.
     pub map: &'a str,
-    /// The port, from 1 on, and how many doors it has, from 1 to
-    /// [`MAX_DOORS`](session::MAX_DOORS).
+    /// The port, from 1, and its number of doors, from 1 to [`MAX_DOORS`](session::MAX_DOORS).
     pub doors: DoorsAsked,
-    /// For how many entries the board takes memory first, at most
-    /// [`MAX_ENTRIES`](path_core::MAX_ENTRIES).
+    /// How many entries the board reserves memory for at the start, at most [`MAX_ENTRIES`](path_core::MAX_ENTRIES).
     pub room: u32,
     /// How the versions are built.
     pub build: BuildOptions,
@@ -132,7 +129,7 @@ pub struct ServeAsked<'a> {
 /// One request to the server at a port.
 #[derive(Clone, Copy, Debug, PartialEq, Eq)]
 pub struct AskAsked {
-    /// The port, from 1 on.
+    /// The port, from 1.
     pub port: u16,
     /// What is asked for.
     pub asking: Asking,
@@ -143,13 +140,11 @@ pub struct AskAsked {
 pub struct LeadAsked<'a> {
     /// The name of the map's file, which is not empty.
     pub map: &'a str,
-    /// The port, from 1 on, and how many doors it has, from 1 to
-    /// [`MAX_DOORS`](session::MAX_DOORS).
+    /// The port, from 1, and its number of doors, from 1 to [`MAX_DOORS`](session::MAX_DOORS).
     pub doors: DoorsAsked,
-    /// The port at which followers are fed, from 1 on, another than that of the doors.
+    /// The port at which followers are fed, from 1; not the port of the doors.
     pub feed: u16,
-    /// For how many entries the board takes memory first, at most
-    /// [`MAX_ENTRIES`](path_core::MAX_ENTRIES).
+    /// How many entries the board reserves memory for at the start, at most [`MAX_ENTRIES`](path_core::MAX_ENTRIES).
     pub room: u32,
     /// How the versions are built.
     pub build: BuildOptions,
@@ -158,7 +153,7 @@ pub struct LeadAsked<'a> {
 /// A session on a board that follows the leader at a port.
 #[derive(Clone, Copy, Debug, PartialEq, Eq)]
 pub struct FollowAsked {
-    /// The port, from 1 on.
+    /// The port, from 1.
     pub port: u16,
     /// How often the leader is asked for edits, at most [`MAX_ROUNDS`](crate::words::MAX_ROUNDS).
     pub rounds: u32,
@@ -179,13 +174,13 @@ pub struct Sides {
 /// How a database is built.
 #[derive(Clone, Copy, Debug, PartialEq, Eq)]
 pub struct BuildOptions {
-    /// The order of the cells of a component; row by row where no other is given.
+    /// The order of the cells of a component; row by row by default.
     pub order: OrderKind,
-    /// How many threads build, from 1 to 64; one where no other number is given.
+    /// How many threads build, from 1 to 64; one by default.
     pub workers: u32,
 }
 
-/// Why the words of a command line ask for nothing.
+/// Why the words of a command line are refused.
 #[derive(Clone, Copy, Debug, PartialEq, Eq)]
 pub enum RequestError {
     /// No command takes the words.
@@ -213,12 +208,12 @@ impl From<Error> for RequestError {
     }
 }
 
-/// Words that ask for nothing, and what is known of them.
+/// Why words are refused, and the kind of command they name.
 #[derive(Clone, Copy, Debug, PartialEq, Eq)]
 pub struct Refusal {
-    /// The kind of the command that the first word names; that of a printed one where it names none.
+    /// The kind of the command that the first word names; `Printed` if it names none.
     pub kind: Kind,
-    /// Why they ask for nothing.
+    /// Why they are refused.
     pub error: RequestError,
 }
 
@@ -226,8 +221,8 @@ pub struct Refusal {
 ///
 /// # Errors
 ///
-/// - `Usage` only where no command takes the words.
-/// - `NoMemory` for want of memory.
+/// - `Usage` only if no command takes the words.
+/// - `NoMemory` if memory ran out.
 #[tactic(auto, unfolding(crate::specs::Requests::request_of))]
 pub fn read_request<'a>(alloc: Global, words: &'a [String]) -> Result<Request<'a>, Refusal>
     ensures request { IfOk result (λ request.
@@ -254,7 +249,7 @@ pub fn read_request<'a>(alloc: Global, words: &'a [String]) -> Result<Request<'a
     }
 }
 
-/// The command that the first word names.
+/// Returns the command that the first word names.
 pub fn first_verb(words: &[String]) -> Option<Verb>
     ensures { result ≡ verb_of (texts_of words.now) }
 {
@@ -275,7 +270,7 @@ fn read_as<'a>(alloc: Global, verb: Verb, words: &'a [String]) -> Result<Request
     asked_of(verb, &matches).ok_or(RequestError::Usage)
 }
 
-/// Reads the words as this command takes them: the first word stands in the program's place.
+/// Reads the words as this command takes them. The first word takes the place of the program's name.
 fn parse<'a>(alloc: Global, verb: Verb, words: &'a [String]) -> Result<ArgMatches<'a>, RequestError>
     ensures values { IfOk result (HasValues (app_for verb) (texts_of words.entry.now)) }
     ensures usage { result ≡ Err RequestError.Usage
@@ -285,7 +280,7 @@ fn parse<'a>(alloc: Global, verb: Verb, words: &'a [String]) -> Result<ArgMatche
     Ok(command.try_get_matches_from(words)?)
 }
 
-/// What the command makes of its values, where each passes its reader.
+/// Returns the request that the command makes of its values, if each is valid.
 fn asked_of<'a>(verb: Verb, matches: &ArgMatches<'a>) -> Option<Request<'a>>
     ensures asked { option_map asked result
         ≡ asked_by verb (first_value (found_of matches.now)) (every_value (found_of matches.now)) }
@@ -310,7 +305,7 @@ fn asked_of<'a>(verb: Verb, matches: &ArgMatches<'a>) -> Option<Request<'a>>
     }
 }
 
-/// What `path` asks for.
+/// Returns what `path` asks for.
 #[tactic(auto, unfolding(crate::specs::Requests::path_by))]
 fn path_asked<'a>(matches: &ArgMatches<'a>) -> Option<Request<'a>>
     ensures asked { option_map asked result ≡ path_by (first_value (found_of matches.now)) }
@@ -328,7 +323,7 @@ fn path_asked<'a>(matches: &ArgMatches<'a>) -> Option<Request<'a>>
     }))
 }
 
-/// What `check` asks for.
+/// Returns what `check` asks for.
 #[tactic(auto, unfolding(crate::specs::Requests::check_by))]
 fn check_asked<'a>(matches: &ArgMatches<'a>) -> Option<Request<'a>>
     ensures asked { option_map asked result ≡ check_by (first_value (found_of matches.now)) }
@@ -344,7 +339,7 @@ fn check_asked<'a>(matches: &ArgMatches<'a>) -> Option<Request<'a>>
     }))
 }
 
-/// What `near` asks for.
+/// Returns what `near` asks for.
 #[tactic(auto, unfolding(crate::specs::Requests::near_by))]
 fn near_asked<'a>(matches: &ArgMatches<'a>) -> Option<Request<'a>>
     ensures asked { option_map asked result ≡ near_by (first_value (found_of matches.now)) }
@@ -360,7 +355,7 @@ fn near_asked<'a>(matches: &ArgMatches<'a>) -> Option<Request<'a>>
     }))
 }
 
-/// What `nearpath` asks for.
+/// Returns what `nearpath` asks for.
 #[tactic(auto, unfolding(crate::specs::Requests::nearpath_by))]
 fn nearpath_asked<'a>(matches: &ArgMatches<'a>) -> Option<Request<'a>>
     ensures asked { option_map asked result ≡ nearpath_by (first_value (found_of matches.now)) }
@@ -378,7 +373,7 @@ fn nearpath_asked<'a>(matches: &ArgMatches<'a>) -> Option<Request<'a>>
     }))
 }
 
-/// What `scen` asks for.
+/// Returns what `scen` asks for.
 #[tactic(auto, unfolding(crate::specs::Requests::scen_by))]
 fn scen_asked<'a>(matches: &ArgMatches<'a>) -> Option<Request<'a>>
     ensures asked { option_map asked result ≡ scen_by (first_value (found_of matches.now)) }
@@ -395,7 +390,7 @@ fn scen_asked<'a>(matches: &ArgMatches<'a>) -> Option<Request<'a>>
     }))
 }
 
-/// What `made` asks for.
+/// Returns what `made` asks for.
 #[tactic(auto, unfolding(crate::specs::Requests::made_by))]
 fn made_asked<'a>(matches: &ArgMatches<'a>) -> Option<Request<'a>>
     ensures asked { option_map asked result ≡ made_by (first_value (found_of matches.now)) }
@@ -412,7 +407,7 @@ fn made_asked<'a>(matches: &ArgMatches<'a>) -> Option<Request<'a>>
     }))
 }
 
-/// What `replay` asks for.
+/// Returns what `replay` asks for.
 #[tactic(auto, unfolding(crate::specs::Requests::replay_by))]
 fn replay_asked<'a>(matches: &ArgMatches<'a>) -> Option<Request<'a>>
     ensures asked { option_map asked result ≡ replay_by (first_value (found_of matches.now)) }
@@ -429,7 +424,7 @@ fn replay_asked<'a>(matches: &ArgMatches<'a>) -> Option<Request<'a>>
     }))
 }
 
-/// What `talk` asks for.
+/// Returns what `talk` asks for.
 #[tactic(auto, unfolding(crate::specs::Requests::talk_by))]
 fn talk_asked<'a>(matches: &ArgMatches<'a>) -> Option<Request<'a>>
     ensures asked { option_map asked result ≡ talk_by (first_value (found_of matches.now)) }
@@ -442,7 +437,7 @@ fn talk_asked<'a>(matches: &ArgMatches<'a>) -> Option<Request<'a>>
     Some(Request::Talk(TalkAsked { map, room, build }))
 }
 
-/// What `serve` asks for.
+/// Returns what `serve` asks for.
 #[tactic(auto, unfolding(crate::specs::Requests::serve_by))]
 fn serve_asked<'a>(matches: &ArgMatches<'a>) -> Option<Request<'a>>
     ensures asked { option_map asked result ≡ serve_by (first_value (found_of matches.now)) }
@@ -461,7 +456,7 @@ fn serve_asked<'a>(matches: &ArgMatches<'a>) -> Option<Request<'a>>
     }))
 }
 
-/// The doors of which the one argument names the port, and the other how many they are.
+/// Returns the doors: one argument is the port, the other the number of doors.
 #[tactic(auto, unfolding(crate::specs::Requests::doors_at))]
 fn doors_at(matches: &ArgMatches<'_>, port: &str, count: &str) -> Option<DoorsAsked>
     ensures doors { result ≡ doors_at (first_value (found_of matches.now)) port.now count.now }
@@ -472,7 +467,7 @@ fn doors_at(matches: &ArgMatches<'_>, port: &str, count: &str) -> Option<DoorsAs
     Some(DoorsAsked { port, count })
 }
 
-/// What `ask` asks for.
+/// Returns what `ask` asks for.
 #[tactic(auto, unfolding(crate::specs::Requests::ask_by))]
 fn ask_asked<'a>(matches: &ArgMatches<'a>) -> Option<Request<'a>>
     ensures asked { option_map asked result
@@ -485,7 +480,7 @@ fn ask_asked<'a>(matches: &ArgMatches<'a>) -> Option<Request<'a>>
     Some(Request::Ask(AskAsked { port, asking }))
 }
 
-/// What `export` asks for.
+/// Returns what `export` asks for.
 #[tactic(auto, unfolding(crate::specs::Requests::export_by))]
 fn export_asked<'a>(matches: &ArgMatches<'a>) -> Option<Request<'a>>
     ensures asked { option_map asked result ≡ export_by (first_value (found_of matches.now)) }
@@ -501,7 +496,7 @@ fn export_asked<'a>(matches: &ArgMatches<'a>) -> Option<Request<'a>>
     }))
 }
 
-/// What `verify` asks for.
+/// Returns what `verify` asks for.
 #[tactic(auto, unfolding(crate::specs::Requests::verify_by))]
 fn verify_asked<'a>(matches: &ArgMatches<'a>) -> Option<Request<'a>>
     ensures asked { option_map asked result ≡ verify_by (first_value (found_of matches.now)) }
@@ -512,7 +507,7 @@ fn verify_asked<'a>(matches: &ArgMatches<'a>) -> Option<Request<'a>>
     Some(Request::Verify(db))
 }
 
-/// What `lead` asks for.
+/// Returns what `lead` asks for.
 #[tactic(auto, unfolding(crate::specs::Requests::lead_by))]
 fn lead_asked<'a>(matches: &ArgMatches<'a>) -> Option<Request<'a>>
     ensures asked { option_map asked result ≡ lead_by (first_value (found_of matches.now)) }
@@ -533,7 +528,7 @@ fn lead_asked<'a>(matches: &ArgMatches<'a>) -> Option<Request<'a>>
     }))
 }
 
-/// The port that the argument `id` names; `None` too where it is that of the doors.
+/// Returns the port that the argument `id` names; `None` also if it is the port of the doors.
 fn feed_at(matches: &ArgMatches<'_>, doors: DoorsAsked, id: &str) -> Option<u16>
     ensures port { result ≡ feed_at (first_value (found_of matches.now)) (Some doors) id.now }
     ensures other { IfSome result (λ feed. feed ≢ doors.port) }
@@ -542,7 +537,7 @@ fn feed_at(matches: &ArgMatches<'_>, doors: DoorsAsked, id: &str) -> Option<u16>
     if feed == doors.port { None } else { Some(feed) }
 }
 
-/// What `follow` asks for.
+/// Returns what `follow` asks for.
 #[tactic(auto, unfolding(crate::specs::Requests::follow_by))]
 fn follow_asked<'a>(matches: &ArgMatches<'a>) -> Option<Request<'a>>
     ensures asked { option_map asked result ≡ follow_by (first_value (found_of matches.now)) }
@@ -559,21 +554,21 @@ fn follow_asked<'a>(matches: &ArgMatches<'a>) -> Option<Request<'a>>
     }))
 }
 
-/// The port that the argument `id` names.
+/// Returns the port that the argument `id` names.
 fn port_at(matches: &ArgMatches<'_>, id: &str) -> Option<u16>
     ensures { result ≡ number_at NumberKind.Port (first_value (found_of matches.now)) id.now }
 {
     Some(number_at(matches, NumberKind::Port, id)? as u16)
 }
 
-/// What the values of the argument `id` ask for.
+/// Returns what the values of the argument `id` ask for.
 fn asking_at(matches: &ArgMatches<'_>, id: &str) -> Option<Asking>
     ensures { option_map said_by result ≡ said_at (every_value (found_of matches.now)) id.now }
 {
     asking_in(matches.get_strs(id)?)
 }
 
-/// The file that the argument `id` names.
+/// Returns the file that the argument `id` names.
 fn file_at<'a>(matches: &ArgMatches<'a>, id: &str) -> Option<&'a str>
     ensures { option_map (λ name. name.now) result
         ≡ path_at (first_value (found_of matches.now)) id.now }
@@ -581,14 +576,14 @@ fn file_at<'a>(matches: &ArgMatches<'a>, id: &str) -> Option<&'a str>
     file_name(matches.get_str(id)?)
 }
 
-/// The column or the row that the argument `id` names.
+/// Returns the column or the row that the argument `id` names.
 fn coordinate_at(matches: &ArgMatches<'_>, id: &str) -> Option<u16>
     ensures { result ≡ coordinate_at (first_value (found_of matches.now)) id.now }
 {
     coordinate(matches.get_str(id)?)
 }
 
-/// The cell whose column the one argument names, and whose row the other.
+/// Returns the cell whose column and row two arguments name.
 #[tactic(auto, unfolding(crate::specs::Requests::cell_at))]
 fn cell_at(matches: &ArgMatches<'_>, column: &str, row: &str) -> Option<Cell>
     ensures { result ≡ cell_at (first_value (found_of matches.now)) column.now row.now }
@@ -598,7 +593,7 @@ fn cell_at(matches: &ArgMatches<'_>, column: &str, row: &str) -> Option<Cell>
     Some(Cell { x, y })
 }
 
-/// The number of that kind that the argument `id` names.
+/// Returns the number of that kind that the argument `id` names.
 fn number_at(matches: &ArgMatches<'_>, kind: NumberKind, id: &str) -> Option<u32>
     ensures number { result ≡ number_at kind (first_value (found_of matches.now)) id.now }
     ensures range { IfSome result (IsOfKind kind) }
@@ -606,7 +601,7 @@ fn number_at(matches: &ArgMatches<'_>, kind: NumberKind, id: &str) -> Option<u32
     kind.read(matches.get_str(id)?)
 }
 
-/// The sides of which the one argument names the width, and the other the height.
+/// Returns the sides whose width and height two arguments name.
 #[tactic(auto, unfolding(crate::specs::Requests::sides_at))]
 fn sides_at(matches: &ArgMatches<'_>, width: &str, height: &str) -> Option<Sides>
     ensures sides { result ≡ sides_at (first_value (found_of matches.now)) width.now height.now }
@@ -620,7 +615,7 @@ fn sides_at(matches: &ArgMatches<'_>, width: &str, height: &str) -> Option<Sides
     Some(Sides { width, height })
 }
 
-/// What `--order` and `--workers` say.
+/// Returns the values of `--order` and `--workers`, or their defaults.
 #[tactic(auto, unfolding(crate::specs::Requests::build_at))]
 fn build_at(matches: &ArgMatches<'_>) -> Option<BuildOptions>
     ensures options { result ≡ build_at (first_value (found_of matches.now)) }
@@ -631,7 +626,7 @@ fn build_at(matches: &ArgMatches<'_>) -> Option<BuildOptions>
     Some(BuildOptions { order, workers })
 }
 
-/// The order that the option `id` names; row by row where it is not given.
+/// Returns the order that the option `id` names; row by row by default.
 fn order_at(matches: &ArgMatches<'_>, id: &str) -> Option<OrderKind>
     ensures { result ≡ order_at (first_value (found_of matches.now)) id.now }
 {
@@ -641,7 +636,7 @@ fn order_at(matches: &ArgMatches<'_>, id: &str) -> Option<OrderKind>
     }
 }
 
-/// The room that the option `id` names; [`STANDARD_ROOM`] where it is not given.
+/// Returns the room that the option `id` names; [`STANDARD_ROOM`] by default.
 fn room_at(matches: &ArgMatches<'_>, id: &str) -> Option<u32>
     ensures number { result ≡ room_at (first_value (found_of matches.now)) id.now }
     ensures range { IfSome result (λ room. room ≤ MAX_ENTRIES) }
@@ -652,7 +647,7 @@ fn room_at(matches: &ArgMatches<'_>, id: &str) -> Option<u32>
     }
 }
 
-/// The number of threads that the option `id` names; one where it is not given.
+/// Returns the number of threads that the option `id` names; one by default.
 fn workers_at(matches: &ArgMatches<'_>, id: &str) -> Option<u32>
     ensures number { result ≡ workers_at (first_value (found_of matches.now)) id.now }
     ensures range { IfSome result AreWorkers }

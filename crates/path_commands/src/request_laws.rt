@@ -1,4 +1,4 @@
-//! Laws of what command lines ask for, which hold of the definitions by themselves: no code runs.
+//! Laws of the definitions of command lines. No code runs.
 ghost use Rattle.std.specs.Prelude.{◌≡◌};
 ghost use Rattle.path_commands.specs.PlainWords.{OtherOptionsAreRefused, PlainWordsAreRead};
 
@@ -11,15 +11,15 @@ use path_replay::{MAX_EVENTS_BYTES, PASSES};
 use scen_read::MAX_SCEN_BYTES;
 use scen_run::queries::QUERIES;
 
-/// How long files may be, in bytes.
+/// The longest files, in bytes.
 pub fn file_limits_are_these()
     ensures map { MAX_MAP_BYTES ≡ 2097152 }
     ensures scenarios { MAX_SCEN_BYTES ≡ 16777216 }
     ensures events { MAX_EVENTS_BYTES ≡ 16777216 }
 {}
 
-/// How many edits and entries a board may have, and for how many entries it takes memory first where
-/// no other number is given; how many passes a replay may have, and how many threads build.
+/// The most edits and entries of a board, the default number of entries to reserve memory for, the
+/// most passes of a replay, and the most threads of a build.
 pub fn board_limits_are_these()
     ensures edits { MAX_EDITS ≡ 1048576 }
     ensures entries { MAX_ENTRIES ≡ 2097153 }
@@ -33,13 +33,13 @@ pub fn made_maps_get_these_queries()
     ensures { QUERIES ≡ 16 }
 {}
 
-/// Words of which none begins with a hyphen go to the arguments of `path` and of `check` in order,
-/// and one too few or too many asks for nothing.
+/// Words without a leading hyphen go to the arguments of `path` and `check` in order; one too few
+/// or too many is refused.
 pub fn plain_words_are_read()
     ensures { PlainWordsAreRead }
 {}
 
-/// An option but `--order` and `--workers` is refused after such words, whatever follows it.
+/// Any option except `--order` and `--workers` is refused after such words, whatever follows it.
 pub fn other_options_are_refused()
     ensures { OtherOptionsAreRefused }
 {}

@@ -1,4 +1,4 @@
-//! `scen MAP SCEN`: what a map's database says of a file of scenarios.
+//! `scen MAP SCEN`: the results of a file of scenarios on a map.
 ghost use Rattle.std.specs.Prelude.{IfErr, IfOk, string_bytes};
 ghost use Rattle.scen_run.specs.Reports.{AreShort};
 ghost use Rattle.scen_run.specs.Results.{HaveLengths};
@@ -17,7 +17,7 @@ use std::thread::Threads;
 use versions::Version;
 use wire::{Bell, Files};
 
-/// The scenarios in the file of that name.
+/// Returns the scenarios in the file of that name.
 pub fn read_scenarios<F: Files>(
     alloc: Global,
     files: &mut F,
@@ -37,8 +37,8 @@ pub fn read_scenarios<F: Files>(
     }
 }
 
-/// The report on what the version says of the scenarios. The lines are shared among threads. Whoever
-/// looks on is told where stated lengths are not those that were found.
+/// Returns the report on the scenarios. Threads share the lines. The gate is told which stated
+/// lengths differ from those found.
 pub fn answer_scen<B: Bell, G: Watch, R: Threads + Sync>(
     means: &Means<R, B, G>,
     version: &Version,
@@ -53,7 +53,7 @@ pub fn answer_scen<B: Bell, G: Watch, R: Threads + Sync>(
     report(means.alloc, results.as_slice())
 }
 
-/// Tells who looks on of the results, where there is memory for it.
+/// Tells the gate of the results, if memory allows.
 fn remark<B: Bell, G: Watch, R>(
     means: &Means<R, B, G>,
     version: &Version,

@@ -22,8 +22,8 @@ use std::sync::Wait;
 use std::thread::Threads;
 use wire::{Bell, Ear, Files, House, Sink};
 
-/// Serves a board that begins with a map at the doors that are asked for. Where there is no such board, the
-/// line of the cause is put, and the house is left alone.
+/// Serves a board that begins with a map at the doors that are asked for. If there is no such board, prints the line of
+/// the cause and does not use the house.
 pub fn serve<F: Files, H: House, O: Sink, B: Bell, E: Ear, G: Watch, R: Threads + Wait + Sync>(
     means: &Means<R, B, G>,
     asked: ServeAsked<'_>,
@@ -56,7 +56,7 @@ pub fn serve<F: Files, H: House, O: Sink, B: Bell, E: Ear, G: Watch, R: Threads 
     }
 }
 
-/// The board, and the doors at which it is to be served.
+/// Returns the board, and the doors at which it is to be served.
 fn open<F: Files, B: Bell, G: Watch, R: Threads + Sync>(
     means: &Means<R, B, G>,
     asked: ServeAsked<'_>,

@@ -1,4 +1,4 @@
-//! A board that is served at the doors of a house, beside one builder.
+//! A board that is served at the doors of a house, with one builder.
 
 ghost use Rattle.std.specs.Prelude.{◌≡◌, ◌≢◌, ◌<◌, ◌≤◌, ◌∷◌, [], false, IfErr, IfOk, IsTrue, OnOk, string_bytes};
 ghost use Rattle.std.specs.Io.KnownBytes.{Appends};
@@ -44,14 +44,14 @@ struct Opened<D: Door> {
     workers: u32,
 }
 
-/// Serves a board at doors of the house, side by side, and builds its versions beside them. What is put is a line
-/// before the first knock, and lines that tell the board's history when all is over. The doors are handed back by then.
+/// Serves a board at doors of the house, in parallel, and builds its versions at the same time. Prints a line before
+/// the first knock, and lines on the board's history at the end. The doors are returned by then.
 ///
 /// # Errors
 ///
-/// - `ReadFault` where the house could not open the doors, or a knock at one failed.
-/// - `WriteFault` where the output did not take all. Without the first line no door is served.
-/// - `NoMemory` for want of memory.
+/// - `ReadFault` if the house could not open the doors, or a knock at one failed.
+/// - `WriteFault` if the output did not take all. Without the first line no door is served.
+/// - `NoMemory` if memory ran out.
 pub fn serve_on<H: House, O: Sink, B: Bell, E: Ear, G: Gate, R: Threads + Wait + Sync>(
     means: &Means<R, B, G>,
     opening: Opening,
@@ -119,7 +119,7 @@ fn serve_at<H: House, O: Sink, B: Bell, E: Ear, G: Gate, R: Threads + Wait + Syn
     }
 }
 
-/// The same, where the first line has been put.
+/// Serves the board once the first line has been printed.
 fn serve_begun<H: House, O: Sink, B: Bell, E: Ear, G: Gate, R: Threads + Wait + Sync>(
     means: &Means<R, B, G>,
     opened: Opened<H::Door>,
@@ -160,11 +160,11 @@ fn serve_begun<H: House, O: Sink, B: Bell, E: Ear, G: Gate, R: Threads + Wait + 
     }
 }
 
-/// Puts the line that stands before all else.
+/// Prints the first line.
 ///
 /// # Errors
 ///
-/// The status with which the run ends without it: `WriteFault`, or `NoMemory`, whose line was put.
+/// The status of the run without it: `WriteFault`, or `NoMemory`, whose line was printed.
 fn begin<O: Sink>(alloc: Global, out: &mut O, port: u16) -> Result<(), Status>
     ensures first { OnOk result (Appends (O.bytes out.old) (O.bytes out.new) (serving_text port)) }
     ensures failed { IfErr result
@@ -183,7 +183,7 @@ fn begin<O: Sink>(alloc: Global, out: &mut O, port: u16) -> Result<(), Status>
     }
 }
 
-/// Puts the lines that tell a board's history, and that of a fault behind them where a knock failed.
+/// Prints the lines on a board's history, followed by that of a fault if a knock failed.
 pub fn put_closing<O: Sink>(alloc: Global, out: &mut O, board: &Board, failed: bool) -> Status
     ensures put { PutsClosing (O.bytes out.old) (O.bytes out.new) board.now.history failed result }
     ensures fault { result ≡ Status.ReadFault → IsTrue failed }
@@ -200,7 +200,7 @@ pub fn put_closing<O: Sink>(alloc: Global, out: &mut O, board: &Board, failed: b
     put(out, text.as_bytes(), status)
 }
 
-/// Puts the line of a status; where there is no memory for it, that of want of memory.
+/// Prints the line of a status, or that of `NoMemory` if memory runs out.
 pub fn put_cause<O: Sink>(alloc: Global, out: &mut O, status: Status) -> Status
     requires { status ≢ Status.WriteFault }
     ensures put { PutsCause (O.bytes out.old) (O.bytes out.new) status result }
@@ -213,7 +213,7 @@ pub fn put_cause<O: Sink>(alloc: Global, out: &mut O, status: Status) -> Status
     }
 }
 
-/// Puts the line of want of memory.
+/// Prints the line of `NoMemory`.
 pub fn put_no_memory<O: Sink>(out: &mut O) -> Status
     ensures put { PutsLine (O.bytes out.old) (O.bytes out.new) Status.NoMemory result }
     ensures fault { result ≢ Status.ReadFault }
@@ -223,7 +223,7 @@ pub fn put_no_memory<O: Sink>(out: &mut O) -> Status
     put(out, b"out of memory\n", Status::NoMemory)
 }
 
-/// Puts a text, and says that status where all of it was taken.
+/// Prints a text, and returns the given status if all of it was taken.
 fn put<O: Sink>(out: &mut O, text: &[u8], status: Status) -> Status
     requires { status ≢ Status.WriteFault }
     ensures put { Puts (O.bytes out.old) (O.bytes out.new) text.now status result }
@@ -237,7 +237,7 @@ fn put<O: Sink>(out: &mut O, text: &[u8], status: Status) -> Status
     }
 }
 
-/// The line that stands before all else.
+/// Returns the first line.
 pub fn serving_text(alloc: Global, port: u16) -> Result<String, AllocError>
     ensures { IfOk result (λ text. string_bytes text ≡ serving_text port) }
 {
@@ -246,7 +246,7 @@ pub fn serving_text(alloc: Global, port: u16) -> Result<String, AllocError>
     Ok(text)
 }
 
-/// The lines that tell a board's history, and that of a fault behind them where a knock failed.
+/// Returns the lines on a board's history, followed by that of a fault if a knock failed.
 fn closing_text(alloc: Global, board: &Board, failed: bool) -> Result<String, AllocError>
     ensures { IfOk result (λ text. string_bytes text ≡ closing_text board.now.history failed) }
 {
@@ -257,7 +257,7 @@ fn closing_text(alloc: Global, board: &Board, failed: bool) -> Result<String, Al
     Ok(text)
 }
 
-/// How many edits were accepted and how many versions published, and which version is the last, a line each.
+/// Writes the numbers of accepted edits and published versions, and the last version, a line each.
 fn history_text(alloc: Global, board: &Board) -> Result<String, AllocError>
     ensures { IfOk result (λ text. string_bytes text ≡ history_text board.now.history) }
 {

@@ -23,11 +23,11 @@ pub enum Status {
     Done,
     /// No command takes the words.
     Usage,
-    /// The file is not a map's.
+    /// The file is not a map.
     Map(MapFault),
-    /// The file is no list of scenarios.
+    /// The file is not a list of scenarios.
     Scen(ScenFault),
-    /// An end of the path that is asked for lies outside or is blocked.
+    /// The start or goal of the path is outside the map or blocked.
     Query(QueryRefusal),
     /// The file could not be read.
     ReadFault,
@@ -42,21 +42,21 @@ pub enum Status {
     },
     /// The input of a session ended inside a frame, or a frame was too long.
     Broken(SessionFault),
-    /// The file is no list of events.
+    /// The file is not a list of events.
     Events {
         /// The first line, from 1, that is neither blank nor an event.
         line: u32,
     },
-    /// What a server answered is no answer, or ended before it was whole.
+    /// The server's answer is not valid or ended early.
     BadAnswer,
-    /// The file is not that of a database.
+    /// The file is not a database.
     Db(DbFault),
-    /// A leader had no memory for the edits that it was asked for.
+    /// The leader ran out of memory.
     LeaderMemory,
 }
 
 impl Status {
-    /// The exit status of the process.
+    /// Returns the exit status of the process.
     pub fn code(&self) -> u8
         ensures { result ≡ status_code self.now }
     {
@@ -200,8 +200,8 @@ impl From<ClientFault> for Status {
     }
 }
 
-/// The line that is printed of the status, without its end; nothing where the work was done, the
-/// output fails or a session broke off.
+/// Shows the line of the status, without its line feed; nothing if the work was done, the output
+/// failed or a session broke off.
 impl fmt::Display for Status {
     ghost use Rattle.std.specs.Prelude.{Some};
     ghost use Rattle.path_commands.specs.Statuses.{status_words};
@@ -229,7 +229,7 @@ impl fmt::Display for Status {
     }
 }
 
-/// The line of a status.
+/// Returns the line of a status.
 pub fn status_text(alloc: Global, status: &Status) -> Result<String, AllocError>
     ensures { IfOk result (λ text. string_bytes text ≡ status_text status.now) }
 {

@@ -12,9 +12,8 @@ use std::io;
 use std::io::ErrorKind;
 use std::process::ExitCode;
 
-/// The words of the command line: the arguments after the program's own name, which is the first.
-/// Where the arguments could not be read, memory ran out, or one of them is no text, which no
-/// command takes.
+/// Returns the words of the command line: the arguments after the program's own name. Fails if
+/// memory ran out, or if an argument is not UTF-8 text, which no command takes.
 pub fn command_words(arguments: &io::Result<Vec<String>>) -> Result<&[String], RequestError>
     ensures { AreWordsOf arguments.now result }
 {
@@ -24,15 +23,15 @@ pub fn command_words(arguments: &io::Result<Vec<String>>) -> Result<&[String], R
     }
 }
 
-/// Whether this is the name of a command that puts a line on standard output where its words are
-/// refused: of any but `talk`.
+/// Returns whether this is the name of a command that prints a line on standard output when its
+/// words are refused: any except `talk`.
 pub fn is_printed_name(name: &[u8]) -> bool
     ensures { IsTrue result → name.now ≢ codes "talk" }
 {
     name != b"talk".as_slice() && Verb::ALL.iter().any(|verb| verb.name().as_bytes() == name)
 }
 
-/// All words but the first.
+/// Returns all words but the first.
 fn behind_first(words: &[String]) -> &[String]
     ensures { result.now ≡ drop 1 words.now }
 {
@@ -42,7 +41,7 @@ fn behind_first(words: &[String]) -> &[String]
     }
 }
 
-/// Why the arguments were not read.
+/// Returns why the arguments were not read.
 fn argument_error(error: &io::Error) -> RequestError
     ensures { IsErrorOf error.now result }
 {
@@ -52,7 +51,7 @@ fn argument_error(error: &io::Error) -> RequestError
     }
 }
 
-/// The exit status of the process.
+/// Returns the exit status of the process.
 pub fn exit_code(status: &Status) -> ExitCode
     ensures { exit_status result ≡ status_code status.now }
 {

@@ -18,8 +18,8 @@ use std::sync::Wait;
 use std::thread::Threads;
 use wire::{Bell, Files, Link};
 
-/// Holds a session over the input, on a board that begins with a map, and says how it ended. Nothing is
-/// taken or sent where there is no such board.
+/// Holds a session over the input, on a board that begins with a map, and returns how it ended.
+/// Nothing is read or sent if there is no such board.
 pub fn talk<F: Files, L: Link, B: Bell, G: Watch, R: Threads + Wait + Sync>(
     means: &Means<R, B, G>,
     asked: TalkAsked<'_>,
@@ -39,7 +39,7 @@ pub fn talk<F: Files, L: Link, B: Bell, G: Watch, R: Threads + Wait + Sync>(
     }
 }
 
-/// Holds a session over the input, as the one pass of a board, and says how it ended.
+/// Holds a session over the input, as the only pass of a board, and returns how it ended.
 pub fn hold<L: Link, B: Bell, G: Gate, R: Threads + Wait + Sync>(
     means: &Means<R, B, G>,
     board: Board,
@@ -56,11 +56,11 @@ pub fn hold<L: Link, B: Bell, G: Gate, R: Threads + Wait + Sync>(
     }
 }
 
-/// Holds a session over the input, as the one pass of a board.
+/// Holds a session over the input, as the only pass of a board.
 ///
 /// # Errors
 ///
-/// Those of `serve_link`.
+/// The errors of `serve_link`.
 fn converse<L: Link, B: Bell, G: Gate, R: Threads + Wait + Sync>(
     means: &Means<R, B, G>,
     board: Board,
@@ -74,7 +74,7 @@ fn converse<L: Link, B: Bell, G: Gate, R: Threads + Wait + Sync>(
 {
     let mut desk = Lone { board, pass: 0 };
     let ended = serve_link(means.rt, means.alloc, &mut desk, input, workers, means.gate);
-    // That the history is legal is known from here.
+    // From here on, the history is known to be legal.
     let _entries = desk.board.entries();
     ended
 }

@@ -1,4 +1,4 @@
-//! What is done with the first version of a map, once all files are read.
+//! What to do with the first version of a map, once all files are read.
 ghost use Rattle.std.specs.Prelude.{IfErr, IfOk};
 ghost use Rattle.path_commands.specs.Requests.{aim_of};
 ghost use Rattle.path_commands.specs.Runs.{GivesNoTask, GivesTask, MayBeDone, file_over};
@@ -13,41 +13,41 @@ use scen_read::ScenLine;
 use std::alloc::Global;
 use wire::Files;
 
-/// What is done with the first version of a map.
+/// What to do with the first version of a map.
 #[derive(Drop)]
 pub enum Task {
-    /// A path between two cells is told.
+    /// Prints a path between two cells.
     Path {
         /// The cell that the path begins with.
         start: Cell,
         /// The cell that the path ends with.
         goal: Cell,
     },
-    /// The size is told.
+    /// Prints the size.
     Check,
-    /// The size is told, and that of what is near.
+    /// Prints the size, and that of the near rows.
     Near,
-    /// A path between two cells is told, by compass moves where they are right.
+    /// Prints a path between two cells, by compass moves wherever they are right.
     NearPath {
         /// The cell that the path begins with.
         start: Cell,
         /// The cell that the path ends with.
         goal: Cell,
     },
-    /// The results of scenarios are told.
+    /// Prints the results of scenarios.
     Scen(Vec<ScenLine>),
-    /// The size is told, and what the queries of a seed come to.
+    /// Prints the size, and the results of the queries of a seed.
     Made {
         /// The seed.
         seed: u32,
     },
-    /// The lines of events are told.
+    /// Prints the lines of events.
     Replay(Events),
-    /// The file of the database is put.
+    /// Writes the database file.
     Export,
 }
 
-/// What is to be done, with what the second file says where there is one.
+/// Returns what to do, with the contents of the second file if there is one.
 pub fn task_for<F: Files>(alloc: Global, files: &mut F, aim: MapAim) -> Result<Task, Status>
     ensures task { IfOk result
         (GivesTask (file_over (F.at files.old) (F.at files.new)) (aim_of aim.entry)) }

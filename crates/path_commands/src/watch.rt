@@ -1,16 +1,17 @@
-//! Who looks on while a run goes on.
+//! Reports on a run while it goes on.
 
 use build_pool::Gate;
 
-/// A gate that is also told how far a run is, and what a person may want to know beside the output. Nothing
-/// is promised of it.
+/// A gate that is also told how far a run is, and remarks that do not belong on the output. Its contracts promise
+/// nothing.
 pub trait Watch: Gate {
-    /// The first version of the map is begun, with so many rows. The gate is told of those that are built.
+    /// Called when the build of the first version begins, with its number of rows. The gate hears of each row as it is
+    /// built.
     fn begin(&self, _rows: u32) {}
 
-    /// That version is there, or memory ran out for it.
+    /// Called when that version is built, or memory ran out.
     fn end(&self) {}
 
-    /// Lines on what is put, each with its line feed.
+    /// Called with remarks on the output, each line ended by a line feed.
     fn remark(&self, _lines: String) {}
 }

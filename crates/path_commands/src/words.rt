@@ -11,24 +11,24 @@ use moves::MAX_SIDE;
 use path_core::MAX_ENTRIES;
 use session::MAX_DOORS;
 
-/// For how many entries a board takes memory first, where no other number is given.
+/// How many entries a board reserves memory for by default.
 pub const STANDARD_ROOM: u32 = 65_536;
 
-/// How often a follower asks at most: as often as one feed answers.
+/// The most asks of a follower: as many as one feed answers.
 pub const MAX_ROUNDS: u32 = 1_048_576;
 
-/// What a number of a command says, and with it from where to where it may go.
+/// What a number of a command means, which also sets its range.
 #[derive(Clone, Copy, Debug, PartialEq, Eq)]
 pub enum NumberKind {
     /// A column or a row.
     Coordinate,
     /// A side of a map.
     Side,
-    /// What a map is made of beside its sides.
+    /// What a map is made from, other than its sides.
     Seed,
     /// How many threads build.
     Workers,
-    /// For how many entries a board takes memory first.
+    /// How many entries a board reserves memory for at the start.
     Room,
     /// A port of this machine.
     Port,
@@ -39,7 +39,7 @@ pub enum NumberKind {
 }
 
 impl NumberKind {
-    /// The least number of this kind.
+    /// Returns the least number of this kind.
     pub fn least(self) -> u32
         ensures { result ≡ least self }
     {
@@ -50,7 +50,7 @@ impl NumberKind {
         }
     }
 
-    /// The greatest number of this kind.
+    /// Returns the greatest number of this kind.
     pub fn most(self) -> u32
         ensures { result ≡ most self }
     {
@@ -65,7 +65,7 @@ impl NumberKind {
         }
     }
 
-    /// The number of this kind that the text writes; `None` exactly where it writes none.
+    /// Returns the number of this kind that the text spells; `None` exactly if it spells none.
     #[tactic(auto, unfolding(crate::specs::Words::number_as))]
     pub fn read(self, text: &str) -> Option<u32>
         ensures number { result ≡ number_as self text.now }
@@ -79,22 +79,22 @@ impl NumberKind {
     }
 }
 
-/// Whether the text is one to ten decimal digits and nothing else.
+/// Returns whether the text is one to ten decimal digits and nothing else.
 fn is_number(text: &str) -> bool
     ensures { result ≡ is_number text.now }
 {
     !text.is_empty() && text.len() <= 10 && are_digits(text)
 }
 
-/// Whether each byte is a decimal digit.
+/// Returns whether each byte is a decimal digit.
 fn are_digits(text: &str) -> bool
     ensures { result ≡ list_all is_ascii_digit text.now }
 {
     text.bytes().all(|byte| byte.is_ascii_digit())
 }
 
-/// The number that one to ten decimal digits write, leading zeros allowed; `None` exactly where the
-/// text is anything else.
+/// Returns the number that one to ten decimal digits spell, with leading zeros allowed; `None`
+/// exactly if the text is anything else.
 pub fn number(text: &str) -> Option<u64>
     ensures { result ≡ number_in text.now }
 {
@@ -105,16 +105,16 @@ pub fn number(text: &str) -> Option<u64>
     }
 }
 
-/// The column or row that the text spells, from 0 to 65,535; `None` exactly where it is no number
-/// or a greater one.
+/// Returns the column or row that the text spells, from 0 to 65,535; `None` exactly if it is not a
+/// number in that range.
 pub fn coordinate(text: &str) -> Option<u16>
     ensures { result ≡ coordinate_in text.now }
 {
     Some(NumberKind::Coordinate.read(text)? as u16)
 }
 
-/// The number of threads that the text spells, from 1 to 64; `None` exactly where it is no number
-/// or another one.
+/// Returns the number of threads that the text spells, from 1 to 64; `None` exactly if it is not a
+/// number in that range.
 pub fn workers(text: &str) -> Option<u32>
     ensures number { result ≡ workers_in text.now }
     ensures range { IfSome result AreWorkers }
@@ -122,7 +122,7 @@ pub fn workers(text: &str) -> Option<u32>
     NumberKind::Workers.read(text)
 }
 
-/// The order that the text names; `None` exactly where it is neither `rows` nor `dfs`.
+/// Returns the order that the text names; `None` exactly if it is neither `rows` nor `dfs`.
 pub fn order(text: &str) -> Option<OrderKind>
     ensures { result ≡ order_in text.now }
 {
@@ -135,7 +135,7 @@ pub fn order(text: &str) -> Option<OrderKind>
     }
 }
 
-/// The name of a file: any text that is not empty.
+/// Returns the name of a file: any text that is not empty.
 pub fn file_name(text: &str) -> Option<&str>
     ensures { option_map (λ name. name.now) result ≡ path_in text.now }
 {

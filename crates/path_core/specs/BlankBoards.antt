@@ -1,4 +1,4 @@
--- Boards of three blocked cells, on which edits that block change nothing. Only tests have them.
+-- Boards of three blocked cells, on which edits that block cells change nothing. Only tests use them.
 use Rattle.std.specs.Prelude.{ℕ, []}
 use Rattle.moves.specs.Maps.{blocked_map}
 use Rattle.cell_order.specs.declared.OrderKind.TheVariants.{Rows}
@@ -6,7 +6,7 @@ use Rattle.versions.specs.Databases.{Versioned, version_of}
 use Rattle.path_core.specs.Boards.{Boarded}
 use Rattle.path_core.specs.Histories.{IsVersionAt}
 
--- the version of three blocked cells after so many edits
+-- the version of three blocked cells after this number of edits
 unfoldable pub blank_after : ℕ → Versioned
 blank_after prefix = version_of (blocked_map 3 1) prefix Rows []
 

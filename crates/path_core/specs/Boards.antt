@@ -1,4 +1,4 @@
--- A board as its callers see it, and what is made of it.
+-- A board as its callers see it, and how it changes.
 use Rattle.std.specs.Prelude.{◌≡◌, ℕ, ◌≤◌, List, [], ◌∷◌, ◌++◌}
 use Rattle.moves.specs.Maps.{Map}
 use Rattle.cell_order.specs.declared.OrderKind.{OrderKind}
@@ -7,8 +7,8 @@ use Rattle.path_core.specs.declared.entry.Entry.{Entry}
 use Rattle.path_core.specs.declared.entry.Entry.TheVariants.{Publish}
 use Rattle.path_core.specs.Histories.{accepted_count, IsVersionAt}
 
--- its first map, the order of its versions, its history, the version that is published, and its room: while the history
--- has fewer entries than that, each further one is entered without memory
+-- its first map, the order of its versions, its history, the published version, and its room: while the history has
+-- fewer entries than that, entering another takes no memory
 pub record Boarded : Type 0 where
   pub start : Map
   pub order : OrderKind
@@ -16,7 +16,7 @@ pub record Boarded : Type 0 where
   pub version : Versioned
   pub room : ℕ
 
--- the board of these four, whose order is that of its version
+-- the board with these four parts, whose order is that of its version
 abbrev pub board_of : Map → List Entry → Versioned → ℕ → Boarded
 board_of start history version room =
     record { start = start; order = version.order; history = history; version = version; room = room }
@@ -25,7 +25,7 @@ board_of start history version room =
 abbrev pub new_board : Map → Versioned → ℕ → Boarded
 new_board start version room = board_of start [] version room
 
--- the board with one entry more
+-- the board with one more entry
 abbrev pub with_entry : Boarded → Entry → Boarded
 with_entry board entry = record board { history = board.history ++ entry ∷ [] }
 
@@ -38,8 +38,8 @@ pub record IsFirst (start : Map) (version : Versioned) : Type 0 where
   pub map : version.map ≡ start
   pub none : version.prefix ≡ 0
 
--- The version may be published at a history, if no later one is: it is that of a prefix of the accepted edits, in the
--- board's order.
+-- The version may be published after a history, unless a later one already is: it is that of a prefix of the accepted
+-- edits, in the board's order.
 pub record MayBePublished (start : Map) (order : OrderKind) (history : List Entry) (version : Versioned) : Type 0 where
   pub accepted : version.prefix ≤ accepted_count history
   pub is : IsVersionAt start order history version.prefix version

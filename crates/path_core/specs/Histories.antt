@@ -18,21 +18,21 @@ edit_of (Accept pass edit) = edit ∷ []
 edit_of (Publish pass prefix) = []
 edit_of (Halt pass) = []
 
--- the edits that were accepted, in their order
+-- the accepted edits in order
 abbrev pub edits_of : List Entry → List Edit
 edits_of history = flat_map edit_of history
 
--- how many edits were accepted
+-- the number of accepted edits
 abbrev pub accepted_count : List Entry → ℕ
 accepted_count history = length (edits_of history)
 
--- the prefix of the version that is published after an entry, by that of the version before it
+-- the prefix of the published version after an entry, given that before it
 abbrev pub prefix_after : ℕ → Entry → ℕ
 prefix_after before (Accept pass edit) = before
 prefix_after before (Publish pass prefix) = prefix
 prefix_after before (Halt pass) = before
 
--- the prefix of the version that was published last: how many edits it comes after, and 0 where none was published
+-- the prefix of the version published last: how many edits it includes, or 0 if none was published
 abbrev pub published_prefix : List Entry → ℕ
 published_prefix history = fold prefix_after 0 history
 
@@ -42,7 +42,7 @@ is_publication (Accept pass edit) = false
 is_publication (Publish pass prefix) = true
 is_publication (Halt pass) = false
 
--- how many versions were published
+-- the number of published versions
 abbrev pub published_count : List Entry → ℕ
 published_count history = count_by is_publication history
 
@@ -56,7 +56,7 @@ is_halt (Halt pass) = true
 abbrev pub IsHalting : List Entry → Type 0
 IsHalting history = IsTrue (list_any is_halt history)
 
--- the map after so many of the accepted edits
+-- the map after this number of the accepted edits
 abbrev pub map_at : Map → List Entry → ℕ → Map
 map_at start history prefix = map_after start (take prefix (edits_of history))
 
@@ -64,7 +64,7 @@ map_at start history prefix = map_after start (take prefix (edits_of history))
 abbrev pub map_now : Map → List Entry → Map
 map_now start history = map_after start (edits_of history)
 
--- the version of a history at a prefix: that of the map after so many edits, in the board's order
+-- the version of a history at a prefix: that of the map after this number of edits, in the board's order
 pub record IsVersionAt (start : Map) (kind : OrderKind) (history : List Entry) (prefix : ℕ) (version : Versioned) : Type 0 where
   pub map : version.map ≡ map_at start history prefix
   pub after : version.prefix ≡ prefix
@@ -77,12 +77,13 @@ MayFollow start history (Accept pass edit) = MayBeAccepted (map_now start histor
 MayFollow start history (Publish pass prefix) = (published_prefix history < prefix) × (prefix ≤ accepted_count history)
 MayFollow start history (Halt pass) = IsHalting history → ⊥
 
--- a history is legal where each entry may come after those before it
+-- a history is legal if each entry may come after those before it
 unfoldable pub IsLegal : Map → List Entry → Type 0
 IsLegal start history =
     (before : List Entry) (entry : Entry) (later : List Entry) → history ≡ before ++ entry ∷ later → MayFollow start before entry
 
--- The answer to a query at a history, by the version at a prefix. The answer at a history is that at its published prefix.
+-- The answer to a query after a history, by the version at a prefix. The answer after a history is that at its
+-- published prefix.
 pub record IsAnswerAt (start : Map) (kind : OrderKind) (history : List Entry) (prefix : ℕ)
     (from goal : Cell) (answer : Answer) : Type 0 where
   pub version : Versioned

@@ -10,7 +10,7 @@ use Rattle.path_core.specs.declared.entry.Entry.{Entry}
 use Rattle.path_core.specs.Histories.{accepted_count, is_halt, map_at, published_prefix, IsAnswerAt, IsLegal, IsVersionAt, MayFollow}
 use Rattle.path_core.specs.Boards.{MayBePublished}
 
--- a history is legal step by step: with one entry more just where it is legal and the entry may follow
+-- a history is legal step by step: with one more entry exactly if it is legal and the entry may follow
 pub record IsLegalByStep (start : Map) : Type 0 where
   pub none : IsLegal start []
   pub step : (history : List Entry) (entry : Entry)
@@ -19,12 +19,12 @@ pub record IsLegalByStep (start : Map) : Type 0 where
 abbrev pub LegalStepByStep : Type 0
 LegalStepByStep = (start : Map) → IsLegalByStep start
 
--- what a legal history begins with is legal
+-- each beginning of a legal history is legal
 abbrev pub BeginningsAreLegal : Type 0
 BeginningsAreLegal = (start : Map) (history more : List Entry) → IsLegal start (history ++ more) → IsLegal start history
 
--- in a legal history the published version comes after accepted edits alone, at most one halt is entered, and there are
--- only so many entries
+-- in a legal history the published version includes only accepted edits, at most one halt is entered, and there are at
+-- most MAX_ENTRIES entries
 pub record IsBounded (history : List Entry) : Type 0 where
   pub published : published_prefix history ≤ accepted_count history
   pub halts : count_by is_halt history ≤ 1
@@ -38,8 +38,8 @@ abbrev pub PublishedPrefixesRise : Type 0
 PublishedPrefixesRise = (start : Map) (history more : List Entry) → IsLegal start (history ++ more)
     → published_prefix history ≤ published_prefix (history ++ more)
 
--- Accepted edits stay as a history grows: so does the map after so many of them, its version, the leave to publish it, and
--- the answer to a query.
+-- Accepted edits stay as a history grows, and so do the map after any number of them, its version, whether that may be
+-- published, and the answer to a query.
 pub record IsLasting (start : Map) (order : OrderKind) (history more : List Entry) : Type 0 where
   pub accepted : accepted_count history ≤ accepted_count (history ++ more)
   pub maps : (prefix : ℕ) → prefix ≤ accepted_count history → map_at start (history ++ more) prefix ≡ map_at start history prefix

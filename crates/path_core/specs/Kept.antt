@@ -1,4 +1,4 @@
--- What a board keeps beside its history, so that nothing need be found anew.
+-- What a board keeps besides its history, so that it is not computed again.
 use Rattle.std.specs.Prelude.{◌≡◌, ◌↔◌, ℕ, ◌+◌, ◌≤◌, Bool, List, length, All, IsTrue}
 use Rattle.moves.specs.Maps.{Map}
 use Rattle.edit_log.specs.EditLists.{EditLog}
@@ -8,7 +8,7 @@ use Rattle.path_core.specs.Boards.{Boarded}
 use Rattle.path_core.specs.Histories.{edits_of, map_now, published_count, published_prefix, IsHalting, IsLegal, IsVersionAt}
 use Rattle.path_core.specs.KeptEntries.{IsPlaced}
 
--- the running map, the accepted edits, the number of publications and whether a halt was entered are those of the history
+-- the current map, the accepted edits, the number of publications and whether a halt was entered fit the history
 pub record IsKept (board : Boarded) (map : Map) (edits : EditLog) (kept : List KeptEntry)
     (published : ℕ) (halting : Bool) (capacity : ℕ) : Type 0 where
   pub legal : IsLegal board.start board.history

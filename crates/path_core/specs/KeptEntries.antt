@@ -6,7 +6,7 @@ use Rattle.path_core.specs.declared.entry.Entry.TheVariants.{Accept, Publish, Ha
 use Rattle.path_core.specs.declared.kept_entry.KeptEntry.{KeptEntry}
 use Rattle.path_core.specs.declared.kept_entry.KeptEntry.TheVariants.{Accept as KeptAccept, Publish as KeptPublish, Halt as KeptHalt}
 
--- the entry that is kept, with these accepted edits
+-- the entry that is kept, given these accepted edits
 abbrev pub entry_of : List Edit → KeptEntry → Entry
 entry_of edits (KeptAccept pass place) = Accept pass (slice_index_or edits place [])
 entry_of edits (KeptPublish pass prefix) = Publish pass prefix
@@ -16,7 +16,7 @@ entry_of edits (KeptHalt pass) = Halt pass
 abbrev pub entries_of : List Edit → List KeptEntry → List Entry
 entries_of edits kept = map (entry_of edits) kept
 
--- there is an edit at the place, of so many
+-- if the entry accepts an edit, its place is below this number of edits
 abbrev pub IsPlaced : ℕ → KeptEntry → Type 0
 IsPlaced count (KeptAccept pass place) = place < count
 IsPlaced count (KeptPublish pass prefix) = Unit {0}

@@ -9,12 +9,12 @@ pass_of (Accept pass edit) = pass
 pass_of (Publish pass prefix) = pass
 pass_of (Halt pass) = pass
 
--- the one history begins with the other
+-- one history begins with the other
 pub record BeginsWith (history first : List Entry) : Type 0 where
   pub rest : List Entry
   pub is : history ≡ first ++ rest
 
--- others may have added entries, and the pass none
+-- others may have added entries, but the pass has added none
 pub record OthersAdd (pass : ℕ) (old new : List Entry) : Type 0 where
   pub more : List Entry
   pub grown : new ≡ old ++ more

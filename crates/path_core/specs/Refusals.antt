@@ -1,4 +1,4 @@
--- Why a board refuses what it is given, by cases in their order.
+-- Why a board refuses what it is given, as cases tried in order.
 use Rattle.std.specs.Prelude.{◌≡◌, ℕ, ◌<◌, ◌≤◌, length}
 use Rattle.edit_log.specs.declared.edit.Edit.{Edit}
 use Rattle.edit_log.specs.Verdicts.{IsRefusal, MayBeAccepted}
@@ -9,11 +9,11 @@ use Rattle.path_core.specs.declared.error.PublishError.TheVariants.{Overtaken, N
 use Rattle.path_core.specs.Boards.{Boarded}
 use Rattle.path_core.specs.Histories.{accepted_count, map_now, published_prefix}
 
--- the board has used up its room, so a further entry may want memory
+-- the board has used up its room, so another entry may need memory
 abbrev pub IsRoomUsed : Boarded → Type 0
 IsRoomUsed board = board.room ≤ length board.history
 
--- the edit may be accepted at the board's map
+-- the edit may be accepted on the board's map
 abbrev pub MayBeSubmitted : Boarded → Edit → Type 0
 MayBeSubmitted board edit = MayBeAccepted (map_now board.start board.history) (accepted_count board.history) edit
 
@@ -22,7 +22,7 @@ abbrev pub IsSubmitError : Boarded → Edit → SubmitError → Type 0
 IsSubmitError board edit (Refused why) = IsRefusal (map_now board.start board.history) (accepted_count board.history) edit why
 IsSubmitError board edit NoMemory = MayBeSubmitted board edit × IsRoomUsed board
 
--- why a version of that prefix is not published
+-- why a version with that prefix is not published
 abbrev pub IsPublishError : Boarded → ℕ → PublishError → Type 0
 IsPublishError board prefix (Overtaken by) = (by ≡ published_prefix board.history) × (prefix ≤ by)
 IsPublishError board prefix NoMemoryFor = (published_prefix board.history < prefix) × IsRoomUsed board

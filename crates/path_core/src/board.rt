@@ -25,29 +25,29 @@ use versions::{Totals, Version};
 /// What a pass sees at a glance.
 #[derive(Clone, Copy, Debug, PartialEq, Eq)]
 pub struct Look {
-    /// How many edits the published version comes after, at most 1,048,576.
+    /// How many edits the published version includes, at most 1,048,576.
     pub prefix: u32,
     /// How large the published version is.
     pub totals: Totals,
     /// How many edits were accepted, at most 1,048,576.
     pub accepted: u32,
-    /// Whether the board halts.
+    /// Whether the board is halting.
     pub halting: bool,
-    /// Whether whoever looks holds the published version; here it is at hand.
+    /// Whether the caller holds the published version; it is always at hand here.
     pub held: bool,
 }
 
-/// What is to be built: the edits that a version lacks.
+/// What must be built: the edits that a version lacks.
 #[derive(Debug, Drop)]
 pub struct Job {
     /// How many edits were accepted, at most 1,048,576.
     pub prefix: u32,
-    /// Those past the known ones.
+    /// The edits past the known ones.
     pub edits: EditList,
 }
 
-/// A map that is edited, and the versions of it that are published. Contracts see its first map, the order of its
-/// versions, its history, the published version, and the room that it took memory for.
+/// A map that is edited, and its published versions. Contracts see the first map, the order of the
+/// versions, the history, the published version, and the room for which memory was taken.
 #[derive(Drop)]
 pub struct Board {
     start: Grid,
@@ -77,11 +77,12 @@ impl Model for Board {
 }
 
 impl Board {
-    /// A board of that map with no entries, whose published version is the first one. It has no room.
+    /// Returns a board of that map with no entries and no room. Its published version is the first
+    /// one.
     ///
     /// # Errors
     ///
-    /// `AllocError` where memory runs out. The grid and the version are dropped then.
+    /// `AllocError` if memory runs out. The grid and the version are then dropped.
     pub fn start(alloc: Global, grid: Grid, version: Arc<Version>) -> Result<Board, AllocError>
         requires first { IsFirst grid (arc_value version) }
         ensures { IfOk result (λ board. board ≡ new_board grid (arc_value version) 0) }
@@ -89,11 +90,11 @@ impl Board {
         Board::start_with(alloc, grid, version, 0)
     }
 
-    /// A board with room for so many entries: it takes the memory for them now.
+    /// Returns a board with room for `room` entries. It takes the memory for them now.
     ///
     /// # Errors
     ///
-    /// `AllocError` where memory runs out. The grid and the version are dropped then.
+    /// `AllocError` if memory runs out. The grid and the version are then dropped.
     pub fn start_with(
         alloc: Global,
         grid: Grid,
@@ -104,7 +105,7 @@ impl Board {
         requires room { room ≤ MAX_ENTRIES }
         ensures { IfOk result (λ board. board ≡ new_board grid (arc_value version) room) }
     {
-        // That the version is one is known from here.
+        // From here it is known that this is a version of its map.
         version.grid();
         let mut edits = EditList::new(alloc);
         edits.reserve(room)?;
@@ -120,14 +121,15 @@ impl Board {
         })
     }
 
-    /// Enters an edit, and gives how many edits are accepted then.
+    /// Enters an edit, and returns the number of edits accepted by then.
     ///
-    /// The cost does not grow with the number of accepted edits, apart from memory that is taken anew now and then.
+    /// The cost does not grow with the number of accepted edits, except when memory is reallocated
+    /// now and then.
     ///
     /// # Errors
     ///
-    /// The first cause to refuse the edit at the board's map, and else want of memory where the room is used up. The
-    /// board is as before.
+    /// The first reason to refuse the edit on the board's map, otherwise out of memory, which
+    /// happens only if the room is used up. The board is then unchanged.
     pub fn submit(&mut self, pass: u32, edit: Edit) -> Result<u32, SubmitError>
         ensures may { OnOk result (MayBeSubmitted self.old edit) }
         ensures entered { OnOk result (self.new ≡ with_entry self.old (Accept pass edit)) }
@@ -146,12 +148,13 @@ impl Board {
         Ok(self.edits.len())
     }
 
-    /// Publishes a version, and gives how many edits it comes after.
+    /// Publishes a version, and returns the number of edits that it includes.
     ///
     /// # Errors
     ///
-    /// `Overtaken` where the published version comes after as many edits or more, and else want of memory where the
-    /// room is used up. The board is as before, and the version is dropped.
+    /// `Overtaken` if the published version includes as many edits or more, otherwise out of
+    /// memory, which happens only if the room is used up. The board is then unchanged, and the
+    /// version is dropped.
     pub fn publish(&mut self, pass: u32, version: Arc<Version>) -> Result<u32, PublishError>
         requires may { MayBePublished self.old.start self.old.order self.old.history (arc_value version) }
         ensures newer { OnOk result (published_prefix self.old.history < (arc_value version).prefix) }
@@ -173,13 +176,13 @@ impl Board {
         Ok(prefix)
     }
 
-    /// Enters a halt, and gives whether it did: a board that halts already stays as it is. Edits and versions are taken
-    /// as before.
+    /// Enters a halt, and returns whether it did: a board that is already halting stays as it is.
+    /// Edits and versions are still taken.
     ///
     /// # Errors
     ///
-    /// `AllocError` where memory runs out, which it does only where the room is used up and the board does not halt
-    /// already. The board is as before.
+    /// `AllocError` if memory runs out, which happens only if the room is used up and the board is
+    /// not already halting. The board is then unchanged.
     pub fn halt(&mut self, pass: u32) -> Result<bool, AllocError>
         ensures first { IfOk result (λ halted. IsFalse halted ↔ IsHalting self.old.history) }
         ensures entered { IfOk result (λ halted.
@@ -197,7 +200,7 @@ impl Board {
         Ok(true)
     }
 
-    /// What there is to see now.
+    /// Returns what there is to see now.
     pub fn look(&self) -> Look
         ensures { IsLook self.now result }
     {
@@ -210,7 +213,7 @@ impl Board {
         }
     }
 
-    /// The published version.
+    /// Returns the published version.
     pub fn version(&self) -> &Version
         ensures value { result.now ≡ self.now.version }
         ensures version { IsVersionAt self.now.start self.now.order self.now.history
@@ -219,22 +222,22 @@ impl Board {
         &self.version
     }
 
-    /// The published version, to be held.
+    /// Returns the published version for the caller to hold.
     ///
     /// # Errors
     ///
-    /// `AllocError` where it is held too often to be counted.
+    /// `AllocError` if it is held too often to be counted.
     pub fn copy_version(&self) -> Result<Arc<Version>, AllocError>
         ensures { IfOk result (λ copy. arc_value copy ≡ self.now.version) }
     {
         self.version.clone()
     }
 
-    /// The accepted edits past the known ones. Where all are known it takes no memory.
+    /// Returns the accepted edits past the first `known`. If all are known, it takes no memory.
     ///
     /// # Errors
     ///
-    /// `AllocError` where memory runs out.
+    /// `AllocError` if memory runs out.
     pub fn job(&self, known: u32) -> Result<Job, AllocError>
         requires { known ≤ accepted_count self.now.history }
         ensures job { IfOk result (IsJob self.now known) }
@@ -246,7 +249,7 @@ impl Board {
         })
     }
 
-    /// How many entries there are, at most [`MAX_ENTRIES`](crate::MAX_ENTRIES).
+    /// Returns the number of entries, at most [`MAX_ENTRIES`](crate::MAX_ENTRIES).
     pub fn entries(&self) -> u32
         ensures count { result ≡ length self.now.history }
         ensures legal { IsLegal self.now.start self.now.history }
@@ -255,7 +258,7 @@ impl Board {
         self.entries.len() as u32
     }
 
-    /// The entry at that place; `None` exactly past the end.
+    /// Returns the entry at that place, or `None` past the end.
     pub fn entry(&self, place: u32) -> Option<Entry>
         ensures { result ≡ slice_get self.now.history place }
     {
@@ -270,21 +273,22 @@ impl Board {
         Some(entry)
     }
 
-    /// How many edits were accepted, at most 1,048,576.
+    /// Returns the number of accepted edits, at most 1,048,576.
     pub fn accepted(&self) -> u32
         ensures { result ≡ accepted_count self.now.history }
     {
         self.edits.len()
     }
 
-    /// How many versions were published, the first one not counted; at most 1,048,576.
+    /// Returns the number of published versions without the first one, at most 1,048,576.
     pub fn published(&self) -> u32
         ensures { result ≡ published_count self.now.history }
     {
         self.published
     }
 
-    /// How many entries the board took memory for when it was made, at most [`MAX_ENTRIES`](crate::MAX_ENTRIES).
+    /// Returns the number of entries for which the board took memory when it was made, at most
+    /// [`MAX_ENTRIES`](crate::MAX_ENTRIES).
     pub fn room(&self) -> u32
         ensures room { result ≡ self.now.room }
         ensures limit { result ≤ MAX_ENTRIES }
@@ -292,7 +296,7 @@ impl Board {
         self.room
     }
 
-    /// The order of the cells in each of its versions.
+    /// Returns the order of the cells in each of its versions.
     pub fn kind(&self) -> OrderKind
         ensures { result ≡ self.now.order }
     {

@@ -12,11 +12,11 @@ pub enum Entry {
         /// The edit.
         edit: Edit,
     },
-    /// The version after so many accepted edits was published.
+    /// The version after `prefix` accepted edits was published.
     Publish {
         /// The pass.
         pass: u32,
-        /// How many edits the version comes after, from 1 to 1,048,576.
+        /// How many edits the version includes, from 1 to 1,048,576.
         prefix: u32,
     },
     /// The board began to halt.

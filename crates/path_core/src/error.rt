@@ -6,7 +6,7 @@ use std::alloc::AllocError;
 /// Why an edit is not entered.
 #[derive(Clone, Copy, Debug, PartialEq, Eq)]
 pub enum SubmitError {
-    /// The edit may not be accepted at the board's map.
+    /// The edit may not be accepted on the board's map.
     Refused(EditRefusal),
     /// Memory ran out.
     NoMemory,
@@ -37,9 +37,9 @@ impl From<AllocError> for SubmitError {
 /// Why a version is not published.
 #[derive(Clone, Copy, Debug, PartialEq, Eq)]
 pub enum PublishError {
-    /// The published version comes after as many edits or more.
+    /// The published version includes as many edits or more.
     Overtaken {
-        /// How many edits the published version comes after, at most 1,048,576.
+        /// How many edits the published version includes, at most 1,048,576.
         by: u32,
     },
     /// Memory ran out.

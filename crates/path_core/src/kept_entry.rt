@@ -1,6 +1,6 @@
 //! How a board keeps its entries.
 
-/// An entry as it is kept. The edit of one that accepts stands in the list of accepted edits.
+/// An entry as it is kept. The edit that it accepts is in the list of accepted edits.
 #[derive(Clone, Copy, Debug, PartialEq, Eq)]
 pub(crate) enum KeptEntry {
     /// An edit was accepted.
@@ -10,11 +10,11 @@ pub(crate) enum KeptEntry {
         /// The place of the edit among the accepted ones.
         place: u32,
     },
-    /// The version after so many accepted edits was published.
+    /// The version after `prefix` accepted edits was published.
     Publish {
         /// The pass.
         pass: u32,
-        /// How many edits the version comes after.
+        /// How many edits the version includes.
         prefix: u32,
     },
     /// The board began to halt.

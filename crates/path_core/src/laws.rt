@@ -1,4 +1,4 @@
-//! Laws of histories, for proofs. None of these functions does anything: each one's contract is a law.
+//! Laws of histories, for proofs. These functions do nothing: each contract is a law.
 
 ghost use Rattle.path_core.specs.HistoryLaws.{AcceptedEditsStay, BeginningsAreLegal, LegalHistoriesAreBounded};
 ghost use Rattle.path_core.specs.HistoryLaws.{LegalStepByStep, PublishedPrefixesRise};
@@ -8,12 +8,13 @@ pub fn legal_step_by_step()
     ensures { LegalStepByStep }
 {}
 
-/// What a legal history begins with is legal.
+/// Each beginning of a legal history is legal.
 pub fn beginnings_are_legal()
     ensures { BeginningsAreLegal }
 {}
 
-/// A legal history publishes only what was accepted, halts at most once, and has at most so many entries.
+/// A legal history publishes only what was accepted, halts at most once, and has at most
+/// [`MAX_ENTRIES`](crate::MAX_ENTRIES) entries.
 pub fn legal_histories_are_bounded()
     ensures { LegalHistoriesAreBounded }
 {}
@@ -23,7 +24,7 @@ pub fn published_prefixes_rise()
     ensures { PublishedPrefixesRise }
 {}
 
-/// Accepted edits stay as a history grows, and with them their maps, versions and answers.
+/// Accepted edits stay as a history grows, and so do their maps, versions and answers.
 pub fn accepted_edits_stay()
     ensures { AcceptedEditsStay }
 {}

@@ -1,5 +1,13 @@
-//! The board: the edits of a map that were accepted, the versions of it that were published, and whether it halts, in
-//! one list of entries. Each call that adds one is a step of a legal history.
+//! The board: the accepted edits of a map, its published versions, and whether it is halting, in
+//! one list of entries. Each call that adds an entry is a step of a legal history.
+//!
+//! For example, a cell is blocked, a version is published, and then the board halts. Written as a
+//! test case:
+//!
+//! ```text
+//! board | @@@ | 3 | submit 0 0 0 0\nbegin 0\npublish 0\nhalt 0\n
+//! room 3, 1 accepted, version 1, halting: 0 edits 0 0 blocked, 0 publishes 1, 0 halts
+//! ```
 #![tactic(auto)]
 
 pub mod board;
@@ -13,5 +21,6 @@ use edit_log::MAX_EDITS;
 pub use entry::Entry;
 pub use error::{PublishError, SubmitError};
 
-/// The most entries that a board has: an edit and a publication each as often as edits are accepted, and one halt.
+/// The most entries that a board may have: an edit and a publication for each accepted edit, and
+/// one halt.
 pub const MAX_ENTRIES: u32 = 2 * MAX_EDITS + 1;

@@ -1,5 +1,4 @@
-//! The top call: all that the program does, over the files, the input, the output, the house and the
-//! ear that are handed in.
+//! The whole program, over given files, input, output, house and ear.
 #![tactic(auto)]
 
 ghost use Rattle.std.specs.Prelude.{◌≡◌, ◌≢◌, [], false, IfErr, IfOk, None, string_bytes};
@@ -23,6 +22,8 @@ ghost use Rattle.path_run.specs.Answering.{PutsAnswer, bytes_of};
 ghost use Rattle.path_run.specs.RunEnds.{AsksServer, FollowsLeader, LeadsSessions, Prints};
 ghost use Rattle.path_run.specs.RunEnds.{ServesSessions, Talks, output_over};
 
+mod spoken;
+
 use moves::{Cell, Grid};
 use node_commands::{follow, lead};
 use path_commands::ask::ask;
@@ -34,6 +35,7 @@ use path_commands::{
     answer_scen, answer_verify, first_near, first_version, made_grid, put, put_file, read_grid,
     read_request, read_version, refuse, task_for,
 };
+pub use spoken::{frames_are_messages, speech};
 use std::alloc::Global;
 use std::sync::Wait;
 use std::thread::Threads;
@@ -41,16 +43,14 @@ use text_lines::Text;
 use versions::Version;
 use wire::{Bell, Ear, Files, House, Link, Sink};
 
-/// Does what the words of a command line ask for, which are those after the program's own name, and
-/// says how it ended. The words are read once. Each piece of a build passes the gate, which is told how far
-/// the first version is.
+/// Does what the words of a command line ask for, and returns how it ended. The words are those after the program's own
+/// name, and are read once. Each piece of a build passes the gate, which is told how far the first version is.
 ///
-/// `talk` holds a session over the input, and puts nothing on the output. `serve` holds sessions at
-/// doors of the house, and builds at each ring of the ear; `lead` does so and feeds followers at one door
-/// more. `ask` calls once at the port of a server, over the house, and hangs up before it puts what it
-/// heard. `follow` calls once at the port of a leader, and then holds a session over the input. Any other
-/// command leaves these alone, and the text that is right for the end was put: with `Done` the answer, with
-/// any other status its line. Only with `WriteFault` it is less than a whole text, and the output has failed.
+/// `talk` holds a session over the input, and prints nothing. `serve` holds sessions at doors of the house, and builds
+/// at each ring of the ear; `lead` also feeds followers at one more door. `ask` connects once to the port of a server,
+/// and closes the link before it prints the answer. `follow` connects once to the port of a leader, and then holds a
+/// session over the input. Any other command uses none of these and prints one text: with `Done` the answer, with any
+/// other status its line. Only with `WriteFault` is the text incomplete, and the output has failed.
 pub fn run<
     F: Files,
     O: Sink,
@@ -122,7 +122,7 @@ pub fn run<
     }
 }
 
-/// Ends a run whose words ask for nothing: the line of the status is put, but for words that name `talk`.
+/// Ends a run whose words are refused: prints the line of the status, unless the words name `talk`.
 fn end_refused<O: Sink>(alloc: Global, out: &mut O, refusal: Refusal) -> Status
     ensures silent { refusal.kind ≡ Kind.Talk → out.new ≡ out.old }
     ensures status { refusal.kind ≡ Kind.Talk → result ≡ status_of refusal.error }
@@ -138,7 +138,7 @@ fn end_refused<O: Sink>(alloc: Global, out: &mut O, refusal: Refusal) -> Status
     refuse(alloc, out, status)
 }
 
-/// Puts an answer, or the line of the status that stands for it.
+/// Prints an answer, or the line of its status.
 fn print<O: Sink>(alloc: Global, answer: Result<Printed, Status>, out: &mut O) -> Status
     requires done { IfErr answer (λ status. status ≢ Status.Done) }
     requires write { IfErr answer (λ status. status ≢ Status.WriteFault) }
@@ -152,14 +152,14 @@ fn print<O: Sink>(alloc: Global, answer: Result<Printed, Status>, out: &mut O) -
     }
 }
 
-/// What is put where the work is done: a text, or the file of a version.
+/// What is printed if the work is done: a text, or the file of a version.
 #[derive(Drop)]
 enum Printed {
     Text(Text),
     File(Version),
 }
 
-/// What tells the size of the version whose file has that name.
+/// Returns the text with the size of the version in the file of that name.
 fn verify<F: Files>(alloc: Global, files: &mut F, name: &str) -> Result<Printed, Status>
     ensures done { IfOk result (λ printed. TellsVersion
         (file_over (F.at files.old) (F.at files.new) name.now) (bytes_of printed)) }
@@ -171,7 +171,7 @@ fn verify<F: Files>(alloc: Global, files: &mut F, name: &str) -> Result<Printed,
     Ok(Printed::Text(as_text(text)))
 }
 
-/// What answers what was asked of the first version of a map.
+/// Returns the answer of the first version of a map.
 fn answer<F: Files, B: Bell, G: Watch, R: Threads + Sync>(
     means: &Means<R, B, G>,
     asked: MapAsked<'_>,
@@ -191,7 +191,7 @@ fn answer<F: Files, B: Bell, G: Watch, R: Threads + Sync>(
     printed_for(means, grid, asked.build, task)
 }
 
-/// What answers what was asked of the first version of a map: the file of that version, or a text.
+/// Returns the answer of the first version of a map: the file of that version, or a text.
 fn printed_for<B: Bell, G: Watch, R: Threads + Sync>(
     means: &Means<R, B, G>,
     grid: Grid,
@@ -210,7 +210,7 @@ fn printed_for<B: Bell, G: Watch, R: Threads + Sync>(
     }
 }
 
-/// The file of the first version of a map.
+/// Returns the file of the first version of a map.
 fn file_for<B: Bell, G: Watch, R: Threads + Sync>(
     means: &Means<R, B, G>,
     grid: Grid,
@@ -222,14 +222,14 @@ fn file_for<B: Bell, G: Watch, R: Threads + Sync>(
         IsFirstAnswer grid options.order Task.Export (bytes_of printed)) }
     ensures refused { IfErr result (IsFirstCause grid options.order Task.Export) }
 {
-    // That the map lies inside the limits is known from its width.
+    // From its width, the map is known to be inside the limits.
     let _ = grid.width();
     let version = first_version(means, grid, options)?;
     Ok(Printed::File(version))
 }
 
-/// The text that answers what was asked of the first version of a map, built as the options say. For a
-/// path no version is built, and for a near path its near version.
+/// Returns the text of the answer of the first version of a map, built as the options say. A path needs no version, and
+/// a near path the near version.
 fn answer_for<B: Bell, G: Watch, R: Threads + Sync>(
     means: &Means<R, B, G>,
     grid: Grid,
@@ -243,7 +243,7 @@ fn answer_for<B: Bell, G: Watch, R: Threads + Sync>(
     ensures done { IfOk result (IsFirstAnswer grid options.order task) }
     ensures refused { IfErr result (IsFirstCause grid options.order task) }
 {
-    // That the map lies inside the limits is known from its width.
+    // From its width, the map is known to be inside the limits.
     let _ = grid.width();
     match task {
         Task::Path { start, goal } => {
@@ -259,7 +259,7 @@ fn answer_for<B: Bell, G: Watch, R: Threads + Sync>(
     }
 }
 
-/// The text that tells how large the first version of a map and its near version are.
+/// Returns the text with the sizes of the first version of a map and its near version.
 fn near_for<B: Bell, G: Watch, R: Threads + Sync>(
     means: &Means<R, B, G>,
     grid: Grid,
@@ -270,14 +270,14 @@ fn near_for<B: Bell, G: Watch, R: Threads + Sync>(
     ensures done { IfOk result (IsFirstAnswer grid options.order Task.Near) }
     ensures refused { IfErr result (IsFirstCause grid options.order Task.Near) }
 {
-    // That the map lies inside the limits is known from its width.
+    // From its width, the map is known to be inside the limits.
     let _ = grid.width();
     let near = first_near(means, grid, options)?;
     let text = answer_near(means.alloc, &near)?;
     Ok(as_text(text))
 }
 
-/// The text that tells the near walk between two cells of a map, or that no path exists.
+/// Returns the text of the near walk between two cells of a map, or of no path.
 fn near_path_for<B: Bell, G: Watch, R: Threads + Sync>(
     means: &Means<R, B, G>,
     grid: Grid,
@@ -290,14 +290,14 @@ fn near_path_for<B: Bell, G: Watch, R: Threads + Sync>(
     ensures done { IfOk result (IsFirstAnswer grid options.order (Task.NearPath start goal)) }
     ensures refused { IfErr result (IsFirstCause grid options.order (Task.NearPath start goal)) }
 {
-    // That the map lies inside the limits is known from its width.
+    // From its width, the map is known to be inside the limits.
     let _ = grid.width();
     let near = first_near(means, grid, options)?;
     let text = answer_near_path(means.alloc, &near, start, goal)?;
     Ok(as_text(text))
 }
 
-/// The map that a source gives.
+/// Returns the map that a source gives.
 fn grid_for<F: Files>(alloc: Global, files: &mut F, source: MapSource<'_>) -> Result<Grid, Status>
     requires { HasSides (source_of source) }
     ensures grid { IfOk result
@@ -313,7 +313,7 @@ fn grid_for<F: Files>(alloc: Global, files: &mut F, source: MapSource<'_>) -> Re
     }
 }
 
-/// The text that answers what was asked of the version.
+/// Returns the text of the version's answer.
 fn answer_on<B: Bell, G: Watch, R: Threads + Sync>(
     means: &Means<R, B, G>,
     version: Version,
@@ -335,7 +335,7 @@ fn answer_on<B: Bell, G: Watch, R: Threads + Sync>(
     }
 }
 
-/// The bytes of a string.
+/// Returns the bytes of a string.
 fn as_text(text: String) -> Text
     ensures { result ≡ string_bytes text }
 {

@@ -7,38 +7,41 @@ mod watcher;
 use path_commands::{
     Seen, Status, advice, argument_advice, command_words, exit_code, is_printed_name, refuse,
 };
-use path_run::run;
+use path_run::{run, speech};
 use std::env::{Env, FillError};
 use std::io::IsTerminal;
 use std::process::ExitCode;
+use std::sync::atomic::AtomicU64;
 use std::{env, io};
 use watcher::Watcher;
-use wire::{HostFiles, Journal, Showing, StdLink, StdSink, TcpHouse, ToldBell};
+use wire::{Hands, HostFiles, Journal, Showing, StdLink, StdSink, TcpHouse, ToldBell, put_error};
 
 /// No name of a command has more bytes.
 const NAME_ROOM: usize = 16;
 
-/// The environment variable that says whether words for the operator are put: 1, or anything else.
+/// The environment variable that turns log messages for the operator on, if it is 1.
 const LOG: &str = "PATH_SERVER_LOG";
 
-/// The environment variable that says whether it is shown how far a build is: 1, or anything else.
+/// The environment variable that turns the display of a build's progress on, if it is 1.
 const PROGRESS: &str = "PATH_SERVER_PROGRESS";
 
-/// A longer value of these variables is not 1.
+/// The room for a value of these variables. A longer value is not 1.
 const SETTING_ROOM: usize = 2;
 
-/// Runs the command that the words ask for over the system's files, standard input and standard
-/// output, and tells on standard error what a person may do about an end other than `Done`. Where the
-/// words cannot be read, nothing is put on standard output unless they are known to be no `talk`.
+/// Runs the command over the system's files, standard input and standard output, and prints advice on
+/// standard error if it ends with a status other than `Done`. If the arguments cannot be read, nothing is
+/// printed on standard output unless the command is known not to be `talk`.
 fn main(rt: HostRuntime) -> ExitCode {
     let mut files = HostFiles::new(&rt);
     let mut out = StdSink::new(&rt);
-    let mut house = TcpHouse::new(Journal::new(&rt, is_logged(&rt)));
-    let watcher = Watcher::new(&rt, showing(&rt));
+    let (hands, lost) = (Hands::new(), AtomicU64::new(0));
     let arguments = arguments(&rt);
+    let speaker = speaker(&arguments);
+    let mut house = TcpHouse::new(journal(&rt, speaker, &lost), speech(), &hands);
     let status = match command_words(&arguments) {
         Ok(words) => {
-            let bell = ToldBell::new(Journal::new(&rt, is_logged(&rt)));
+            let watcher = Watcher::new(&rt, showing(&rt));
+            let bell = ToldBell::new(journal(&rt, speaker, &lost), &hands);
             let status = run(
                 &rt,
                 rt.alloc(),
@@ -68,7 +71,28 @@ fn main(rt: HostRuntime) -> ExitCode {
     exit_code(&status)
 }
 
-/// What was seen outside.
+/// The log for the operator, whose lines start with the name of this speaker.
+fn journal<'a>(
+    rt: &'a HostRuntime,
+    speaker: &'static str,
+    lost: &'a AtomicU64,
+) -> Journal<'a, HostRuntime> {
+    Journal::of(speaker, rt, is_logged(rt), lost)
+}
+
+/// The name at the start of log lines.
+fn speaker(arguments: &io::Result<Vec<String>>) -> &'static str {
+    let Ok(words) = arguments else {
+        return "path_server";
+    };
+    match words.get(1).map(|word| word.as_str()) {
+        Some("serve") => "path_server serve",
+        Some("lead") => "path_server lead",
+        _ => "path_server",
+    }
+}
+
+/// What was seen of the files and the ports.
 fn seen(files: &HostFiles<'_, HostRuntime>, house: &TcpHouse<'_, HostRuntime>) -> Seen {
     Seen {
         reason: files.reason(),
@@ -77,22 +101,22 @@ fn seen(files: &HostFiles<'_, HostRuntime>, house: &TcpHouse<'_, HostRuntime>) -
     }
 }
 
-/// Tells what was remarked while a command ran.
+/// Prints the remarks of a command that has ended.
 fn tell_remarks(rt: &HostRuntime, watcher: Watcher<'_, HostRuntime>) {
     if let Some(lines) = watcher.remarks() {
         tell(rt, lines.as_str());
     }
 }
 
-/// Tells what a person may do about how a command ended.
+/// Prints advice on how a command ended.
 fn tell_advice(rt: &HostRuntime, words: &[String], status: &Status, seen: Seen) {
     if let Ok(text) = advice(rt.alloc(), words, status, seen) {
         tell(rt, text.as_str());
     }
 }
 
-/// Whether the first word, of words that could not be read, is known to name a command that puts a
-/// line on standard output. `talk` puts nothing there, and so does what may be `talk`.
+/// Whether the first argument, of arguments that could not all be read, is the name of a command that
+/// prints a line on standard output. `talk` prints nothing there, and what may be `talk` does not count.
 fn names_printed(rt: &HostRuntime) -> bool {
     let mut name = [0; NAME_ROOM];
     match rt.arg(1, &mut name) {
@@ -101,14 +125,14 @@ fn names_printed(rt: &HostRuntime) -> bool {
     }
 }
 
-/// Whether words for the operator are put on standard error: as the environment says, or else where
-/// that is a terminal.
+/// Whether log messages are printed on standard error: as the environment says, or else if that is a
+/// terminal.
 fn is_logged(rt: &HostRuntime) -> bool {
     setting(rt, LOG).unwrap_or(rt.stderr().is_terminal())
 }
 
-/// How it is shown on standard error how far a build is: by a line that is rewritten where that is a
-/// terminal, unless the environment says that it is not to be, and elsewhere where that says so.
+/// How the progress of a build is shown on standard error: on one line that is rewritten if that is a
+/// terminal, unless the environment turns it off, and elsewhere as lines if the environment turns it on.
 fn showing(rt: &HostRuntime) -> Showing {
     match setting(rt, PROGRESS) {
         Some(false) => Showing::Never,
@@ -118,7 +142,7 @@ fn showing(rt: &HostRuntime) -> Showing {
     }
 }
 
-/// Whether the environment variable of that name is 1, where it is set.
+/// Whether the environment variable of that name is 1, or `None` if it is not set.
 fn setting(rt: &HostRuntime, name: &str) -> Option<bool> {
     let mut value = [0; SETTING_ROOM];
     match rt.var(name, &mut value) {
@@ -128,12 +152,12 @@ fn setting(rt: &HostRuntime, name: &str) -> Option<bool> {
     }
 }
 
-/// Puts a text on standard error. Nothing is left to do where it takes none.
+/// Prints a text on standard error. A failure to do so is ignored.
 fn tell(rt: &HostRuntime, text: &str) {
-    let _ = eprint!(rt; "{text}");
+    put_error(rt, text);
 }
 
-/// All arguments, of which the first is the program's own name.
+/// All arguments, the program's own name first.
 fn arguments(rt: &HostRuntime) -> io::Result<Vec<String>> {
     Ok(env::args(rt)?.collect(rt.alloc())?)
 }

@@ -11,13 +11,13 @@ use crate::writing::{put_byte, put_cell};
 use edit_log::{CellChange, Edit, MAX_CHANGES};
 use moves::{Cell, Terrain};
 
-/// What stands in a room before changes are read to it.
+/// The filler of a room before changes are read into it.
 const UNREAD: CellChange = CellChange {
     cell: Cell { x: 0, y: 0 },
     terrain: Terrain::Blocked,
 };
 
-/// The terrain with that number.
+/// The terrain with this number.
 fn terrain_of(byte: u8) -> Option<Terrain>
     ensures { IsTerrainOf byte result }
 {
@@ -40,7 +40,7 @@ fn byte_of_terrain(terrain: Terrain) -> u8
     }
 }
 
-/// The change in the five bytes at that place.
+/// The change in the five bytes at this place.
 pub fn change_at(frame: &[u8], at: usize) -> Option<CellChange>
     requires { at + 5 ≤ length frame.now }
     ensures some { IfSome result
@@ -53,7 +53,7 @@ pub fn change_at(frame: &[u8], at: usize) -> Option<CellChange>
     Some(CellChange { cell, terrain })
 }
 
-/// The edit of the changes that a frame counts, behind its kind and their number. It takes no memory.
+/// The edit with the changes of a frame, after its kind and their number. It allocates nothing.
 pub fn edit_in(frame: &[u8], count: usize) -> Option<Edit>
     requires { CountsChanges frame.now count }
     ensures some { IfSome result (λ edit. drop 2 frame.now ≡ changes_bytes edit) }
@@ -66,7 +66,7 @@ pub fn edit_in(frame: &[u8], count: usize) -> Option<Edit>
     Edit::of(changes)
 }
 
-/// Reads the changes of a frame, as many as there are places for.
+/// Reads the changes of a frame, as many as `changes` has room for.
 fn read_changes(frame: &[u8], changes: &mut [CellChange]) -> Option<()>
     requires { length frame.now ≡ 2 + 5 * length changes.old }
     ensures all { IfSome result (λ _. drop 2 frame.now ≡ changes_bytes changes.new) }
@@ -79,7 +79,7 @@ fn read_changes(frame: &[u8], changes: &mut [CellChange]) -> Option<()>
     Some(())
 }
 
-/// How many changes a frame counts, which is as long as so many are.
+/// How many changes a frame says that it has; its length must agree.
 pub fn count_in(frame: &[u8]) -> Option<usize>
     ensures some { IfSome result (CountsChanges frame.now) }
     ensures none { IfNone result (CountsNoChanges frame.now) }

@@ -1,4 +1,4 @@
-//! The first bytes of frames, which say what each is.
+//! The first byte of each frame, which says what it is.
 
 // ---- requests
 
@@ -6,15 +6,15 @@
 pub const QUERY: u8 = 0x01;
 /// A change of the map.
 pub const CHANGE: u8 = 0x02;
-/// The building of a version.
+/// A request to build a version.
 pub const BUILD: u8 = 0x03;
-/// The state of the board.
+/// A request for the state of the board.
 pub const STATUS: u8 = 0x04;
-/// The end of a session.
+/// A request to end the session.
 pub const BYE: u8 = 0x05;
-/// The end of the server.
+/// A request to stop the server.
 pub const STOP: u8 = 0x06;
-/// The wish for the second protocol.
+/// A request for the second protocol.
 pub const HELLO: u8 = 0x07;
 /// Changes of the map that are made together.
 pub const CHANGES: u8 = 0x08;
@@ -25,7 +25,7 @@ pub const CHANGES: u8 = 0x08;
 pub const PATH: u8 = 0x81;
 /// No path exists.
 pub const UNREACHABLE: u8 = 0x82;
-/// An end of the query is refused.
+/// A start or goal of the query is refused.
 pub const REFUSED: u8 = 0x83;
 /// A change was accepted.
 pub const ACCEPTED: u8 = 0x84;
@@ -39,14 +39,14 @@ pub const NOTHING_NEW: u8 = 0x87;
 pub const OVERTAKEN: u8 = 0x88;
 /// The state of the board.
 pub const BOARD: u8 = 0x89;
-/// It was done.
+/// The request was carried out.
 pub const DONE: u8 = 0x8A;
-/// The frame spells no request.
+/// The frame is not a request.
 pub const MALFORMED: u8 = 0x8B;
-/// There was no memory for it.
+/// The server ran out of memory for it.
 pub const NO_MEMORY: u8 = 0x8C;
-/// The second protocol is spoken from now on.
+/// The second protocol is in use from now on.
 pub const WELCOME: u8 = 0x8D;
 
-/// The number of the second protocol, which a Hello and a Welcome name.
+/// The number of the second protocol, which Hello and Welcome carry.
 pub const SECOND: u8 = 0x02;

@@ -1,4 +1,4 @@
-//! Laws of the numbers of the protocol, which hold of the definitions by themselves: no code runs.
+//! Laws of the numbers of the protocol, which follow from the definitions alone: no code runs.
 ghost use Rattle.std.specs.Prelude.{◌≡◌};
 
 use crate::kinds::{

@@ -1,7 +1,7 @@
-//! The frames by which a client and the server talk: requests and replies as bytes, each with one spelling.
+//! The frames by which a client and the server talk: requests and replies as bytes, each with one encoding.
 //!
-//! A request is sent behind its length in two bytes, a reply behind its length in four. In every number the highest
-//! byte comes first. Nothing here takes memory.
+//! A request is sent after its length in two bytes, a reply after its length in four. Every number has its highest byte
+//! first. Nothing here allocates memory.
 #![tactic(auto)]
 
 mod changes;
@@ -22,7 +22,7 @@ pub use requests::{Request, decode_request, encode_request, fits};
 /// The most bytes that the frame of a request has: those of 64 changes.
 pub const MAX_REQUEST: usize = 322;
 
-/// How much room a request wants at most as it is sent, its length before its frame.
+/// The most room that a request needs as it is sent, its length before its frame.
 pub const REQUEST_ROOM: usize = 324;
 
 /// The most moves that a path has: one fewer than a map may have passable cells.
@@ -31,5 +31,5 @@ pub const MAX_MOVES: u32 = 32_767;
 /// The most bytes that the frame of a reply has: those of a path with the most moves.
 pub const MAX_REPLY: usize = 32_780;
 
-/// How much room the length and the head of a reply's frame want at most.
+/// The most room that the length and the head of a reply's frame need.
 pub const HEAD_ROOM: usize = 64;

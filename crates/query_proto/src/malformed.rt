@@ -1,9 +1,9 @@
-//! Frames that spell nothing.
+//! Frames that encode nothing.
 
 ghost use Rattle.std.specs.Prelude.{◌<◌, ◌^◌, length};
 ghost use Rattle.query_proto.specs.Frames.{IsToldOf};
 
-/// A frame that spells nothing, told by its first byte and its length.
+/// A frame that encodes nothing, identified by its first byte and its length.
 #[derive(Clone, Copy, Debug, PartialEq, Eq)]
 pub struct Malformed {
     /// The frame's first byte; 0 for an empty frame.
@@ -13,7 +13,7 @@ pub struct Malformed {
 }
 
 impl Malformed {
-    /// What is told of this frame.
+    /// Identifies this frame.
     pub(crate) fn of(frame: &[u8]) -> Malformed
         requires { length frame.now < 2 ^ 32 }
         ensures { IsToldOf frame.now result }

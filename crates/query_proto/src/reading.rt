@@ -8,7 +8,7 @@ use crate::kinds::SECOND;
 use byteorder::{BigEndian, ByteOrder};
 use moves::Cell;
 
-/// What is spelled by the kind of a frame alone.
+/// Decodes a frame that has only a kind.
 pub fn alone<T: Copy>(frame: &[u8], what: T) -> Option<T>
     requires { 0 < length frame.now }
     ensures some { IfSome result (λ found. (found ≡ what) × (length frame.now ≡ 1)) }
@@ -20,7 +20,7 @@ pub fn alone<T: Copy>(frame: &[u8], what: T) -> Option<T>
     Some(what)
 }
 
-/// What is spelled by the kind of a frame and the number of the second protocol.
+/// Decodes a frame that has only a kind and the number of the second protocol.
 pub fn second<T: Copy>(frame: &[u8], what: T) -> Option<T>
     requires { 0 < length frame.now }
     ensures some { IfSome result (λ found. (found ≡ what) × (drop 1 frame.now ≡ SECOND ∷ [])) }
@@ -36,7 +36,7 @@ pub fn second<T: Copy>(frame: &[u8], what: T) -> Option<T>
     Some(what)
 }
 
-/// The byte at that place.
+/// The byte at this place.
 pub fn byte_at(frame: &[u8], at: usize) -> u8
     requires { at < length frame.now }
     ensures { drop at frame.now ≡ result ∷ drop (at + 1) frame.now }
@@ -44,7 +44,7 @@ pub fn byte_at(frame: &[u8], at: usize) -> u8
     frame[at]
 }
 
-/// The number in the two bytes at that place.
+/// The number in the two bytes at this place.
 pub fn short_at(frame: &[u8], at: usize) -> u16
     requires { at + 2 ≤ length frame.now }
     ensures { drop at frame.now ≡ big_bytes 2 result ++ drop (at + 2) frame.now }
@@ -52,7 +52,7 @@ pub fn short_at(frame: &[u8], at: usize) -> u16
     BigEndian::read_u16(&frame[at..])
 }
 
-/// The number in the four bytes at that place.
+/// The number in the four bytes at this place.
 pub fn number_at(frame: &[u8], at: usize) -> u32
     requires { at + 4 ≤ length frame.now }
     ensures { drop at frame.now ≡ big_bytes 4 result ++ drop (at + 4) frame.now }
@@ -60,7 +60,7 @@ pub fn number_at(frame: &[u8], at: usize) -> u32
     BigEndian::read_u32(&frame[at..])
 }
 
-/// The number in the eight bytes at that place.
+/// The number in the eight bytes at this place.
 pub fn long_at(frame: &[u8], at: usize) -> u64
     requires { at + 8 ≤ length frame.now }
     ensures { drop at frame.now ≡ big_bytes 8 result ++ drop (at + 8) frame.now }
@@ -68,7 +68,7 @@ pub fn long_at(frame: &[u8], at: usize) -> u64
     BigEndian::read_u64(&frame[at..])
 }
 
-/// The cell in the four bytes at that place.
+/// The cell in the four bytes at this place.
 pub fn cell_at(frame: &[u8], at: usize) -> Cell
     requires { at + 4 ≤ length frame.now }
     ensures { drop at frame.now ≡ cell_bytes result ++ drop (at + 4) frame.now }
@@ -78,7 +78,7 @@ pub fn cell_at(frame: &[u8], at: usize) -> Cell
     Cell { x, y }
 }
 
-/// What a byte says that says whether.
+/// The truth value that a byte encodes.
 pub fn flag_of(byte: u8) -> Option<bool>
     ensures { IsFlagOf byte result }
 {

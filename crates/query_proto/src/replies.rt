@@ -23,40 +23,40 @@ use root_cost::Cost;
 /// How many bytes the frame of a path has before its moves.
 pub const PATH_HEAD: usize = 13;
 
-/// Which end of a query is refused, and why.
+/// Which end of a query was refused, and why.
 #[derive(Clone, Copy, Debug, PartialEq, Eq)]
 pub struct QueryWhy {
-    /// Whether the cell is blocked; else it does not lie inside the map.
+    /// Whether the cell is blocked; otherwise it is outside the map.
     pub blocked: bool,
-    /// Whether it is the goal; else it is the start.
+    /// Whether it is the goal; otherwise it is the start.
     pub goal: bool,
 }
 
-/// What a client is answered.
+/// The answer to a client.
 #[derive(Clone, Copy, Debug, PartialEq, Eq)]
 pub enum Reply {
-    /// A best path of that cost, whose moves stand behind the head of the frame.
+    /// A best path with this cost, whose moves follow the head of the frame.
     Path {
-        /// How many edits the version has that answered.
+        /// How many edits the version that answered has.
         version: u32,
         /// How many of the moves are straight and how many are diagonal.
         cost: Cost,
     },
     /// No path leads from the start to the goal.
     Unreachable {
-        /// How many edits the version has that answered.
+        /// How many edits the version that answered has.
         version: u32,
     },
-    /// An end of the query is refused.
+    /// The start or the goal of the query was refused.
     Refused {
-        /// How many edits the version has that answered.
+        /// How many edits the version that answered has.
         version: u32,
         /// Which end, and why.
         why: QueryWhy,
     },
     /// The change was accepted.
     Accepted {
-        /// How many changes were accepted by now.
+        /// How many changes have been accepted so far.
         number: u32,
     },
     /// The change was refused.
@@ -70,7 +70,7 @@ pub enum Reply {
         /// How many rows were kept from the version before.
         kept: u32,
     },
-    /// The published version has all accepted edits already.
+    /// The published version already has all accepted edits.
     NothingNew {
         /// How many edits it has.
         prefix: u32,
@@ -84,7 +84,7 @@ pub enum Reply {
     Status {
         /// How many edits the published version has.
         version: u32,
-        /// How many changes were accepted.
+        /// How many changes have been accepted.
         accepted: u32,
         /// How many cells of the published version are passable.
         cells: u32,
@@ -93,18 +93,18 @@ pub enum Reply {
         /// How many runs its rows have.
         runs: u64,
     },
-    /// It was done.
+    /// The request was carried out.
     Done,
-    /// The frame spells no request.
+    /// The frame is not a request.
     Malformed {
         /// The frame's first byte; 0 for an empty frame.
         kind: u8,
         /// How many bytes the frame has.
         length: u16,
     },
-    /// There was no memory for it, and nothing was changed.
+    /// The server ran out of memory for it, and nothing was changed.
     NoMemory,
-    /// The second protocol is spoken from now on.
+    /// The second protocol is in use from now on.
     Welcome,
 }
 
@@ -131,11 +131,11 @@ impl Reply {
     }
 }
 
-/// The reply that a frame spells. The moves of a path are the frame's bytes from place 13 on. It takes no memory.
+/// Decodes a reply from its frame. The moves of a path are the frame's bytes from place 13 on. It allocates nothing.
 ///
 /// # Errors
 ///
-/// `Malformed` exactly where the frame spells none.
+/// `Malformed` exactly if the frame encodes no reply.
 pub fn decode_reply(frame: &[u8]) -> Result<Reply, Malformed>
     requires { length frame.now ≤ MAX_REPLY }
     ensures reply { IfOk result (λ reply. IsReplyFrame reply frame.now) }
@@ -147,7 +147,7 @@ pub fn decode_reply(frame: &[u8]) -> Result<Reply, Malformed>
     }
 }
 
-/// The reply that a frame spells, if it spells one.
+/// The reply that a frame encodes, if any.
 fn reply_in(frame: &[u8]) -> Option<Reply>
     requires { length frame.now ≤ MAX_REPLY }
     ensures { IsReplyRead frame.now result }
@@ -182,7 +182,7 @@ fn reply_in(frame: &[u8]) -> Option<Reply>
     }
 }
 
-/// The number that is all behind the kind of a frame.
+/// The number in a frame that has only a kind and a number.
 fn numbered(frame: &[u8]) -> Option<u32>
     ensures some { IfSome result (λ number. drop 1 frame.now ≡ big_bytes 4 number) }
     ensures none { IfNone result (length frame.now ≢ 5) }
@@ -193,7 +193,7 @@ fn numbered(frame: &[u8]) -> Option<u32>
     Some(number_at(frame, 1))
 }
 
-/// The path that a frame spells, whose moves are those that its cost counts.
+/// The path that a frame encodes, whose cost must count the moves that follow.
 fn path_in(frame: &[u8]) -> Option<Reply>
     requires kind { slice_index frame.now 0 ≡ PATH }
     requires size { length frame.now ≤ MAX_REPLY }
@@ -215,7 +215,7 @@ fn path_in(frame: &[u8]) -> Option<Reply>
     Some(Reply::Path { version, cost })
 }
 
-/// What these bytes cost as moves, each byte the number of a move.
+/// The cost of these bytes as moves, each byte the number of a move.
 fn spelled_cost(bytes: &[u8]) -> Option<Cost>
     requires { length bytes.now ≤ MAX_MOVES }
     ensures { IsSpelledCost bytes.now result }
@@ -227,7 +227,7 @@ fn spelled_cost(bytes: &[u8]) -> Option<Cost>
     Some(cost)
 }
 
-/// The refusal of a query that a frame spells.
+/// The refusal of a query that a frame encodes.
 fn refused_in(frame: &[u8]) -> Option<Reply>
     requires { slice_index frame.now 0 ≡ REFUSED }
     ensures { IsReplyRead frame.now result }
@@ -244,7 +244,7 @@ fn refused_in(frame: &[u8]) -> Option<Reply>
     Some(Reply::Refused { version, why })
 }
 
-/// The refusal of an edit that a frame spells.
+/// The refusal of an edit that a frame encodes.
 fn edit_refused_in(frame: &[u8]) -> Option<Reply>
     requires { slice_index frame.now 0 ≡ EDIT_REFUSED }
     ensures { IsReplyRead frame.now result }
@@ -257,7 +257,7 @@ fn edit_refused_in(frame: &[u8]) -> Option<Reply>
     Some(Reply::EditRefused(why))
 }
 
-/// The refusal of an edit with that number.
+/// The refusal of an edit with this number.
 fn refusal_of(byte: u8) -> Option<EditRefusal>
     ensures { IsRefusalOf byte result }
 {
@@ -282,7 +282,7 @@ fn number_of_refusal(why: EditRefusal) -> u8
     }
 }
 
-/// The publication that a frame spells.
+/// The publication that a frame encodes.
 fn published_in(frame: &[u8]) -> Option<Reply>
     requires { slice_index frame.now 0 ≡ PUBLISHED }
     ensures { IsReplyRead frame.now result }
@@ -300,7 +300,7 @@ fn published_in(frame: &[u8]) -> Option<Reply>
     })
 }
 
-/// The state of a board that a frame spells.
+/// The state of a board that a frame encodes.
 fn status_in(frame: &[u8]) -> Option<Reply>
     requires { slice_index frame.now 0 ≡ BOARD }
     ensures { IsReplyRead frame.now result }
@@ -322,7 +322,7 @@ fn status_in(frame: &[u8]) -> Option<Reply>
     })
 }
 
-/// What a frame tells of a frame that spelled no request.
+/// The malformed request that a frame reports.
 fn malformed_in(frame: &[u8]) -> Option<Reply>
     requires { slice_index frame.now 0 ≡ MALFORMED }
     ensures { IsReplyRead frame.now result }
@@ -336,8 +336,8 @@ fn malformed_in(frame: &[u8]) -> Option<Reply>
 }
 
 /// Writes a reply as it is sent, without the moves of a path, to the front of `room`: the length of its frame, which
-/// counts the moves, and the frame's bytes before them. It says how many bytes that are. The others stay as they are.
-/// It takes no memory.
+/// counts the moves, and the frame's bytes before them. Returns how many bytes it wrote; the others are unchanged. It
+/// allocates nothing.
 pub fn reply_head(reply: &Reply, room: &mut [u8; HEAD_ROOM]) -> usize
     requires { CanBeSent reply.now }
     ensures { HeadAtFront reply.now room.old room.new result }
@@ -347,7 +347,7 @@ pub fn reply_head(reply: &Reply, room: &mut [u8; HEAD_ROOM]) -> usize
     size + 4
 }
 
-/// How many moves stand behind the head of a reply.
+/// How many moves follow the head of a reply.
 fn moves_behind(reply: &Reply) -> u32
     requires { CanBeSent reply.now }
     ensures { result ≡ moves_behind reply.now }
@@ -358,7 +358,7 @@ fn moves_behind(reply: &Reply) -> u32
     }
 }
 
-/// Writes the frame of a reply, without the moves of a path, to the front of a piece, and says how many bytes that are.
+/// Writes the frame of a reply, without the moves of a path, to the front of a piece, and says how many bytes that is.
 fn put_reply(out: &mut [u8], reply: Reply) -> usize
     requires { 60 ≤ length out.old }
     ensures head { StandsAtFront (head_bytes reply) out.old out.new result }
@@ -425,7 +425,7 @@ fn put_three(out: &mut [u8], kind: u8, first: u32, second: u32, third: u32) -> u
     put_number(out, next, third)
 }
 
-/// Writes what says why a query was refused.
+/// Writes why a query was refused.
 fn put_refused(out: &mut [u8], version: u32, why: QueryWhy) -> usize
     requires { 7 ≤ length out.old }
     ensures front { StandsAtFront (head_bytes (Refused version why)) out.old out.new result }
@@ -437,7 +437,7 @@ fn put_refused(out: &mut [u8], version: u32, why: QueryWhy) -> usize
     put_byte(out, next, byte_of_flag(why.goal))
 }
 
-/// Writes what says why an edit was refused.
+/// Writes why an edit was refused.
 fn put_edit_refused(out: &mut [u8], why: EditRefusal) -> usize
     requires { 2 ≤ length out.old }
     ensures front { StandsAtFront (head_bytes (EditRefused why)) out.old out.new result }
@@ -448,7 +448,7 @@ fn put_edit_refused(out: &mut [u8], why: EditRefusal) -> usize
     put_byte(out, at, number_of_refusal(why))
 }
 
-/// Writes the state of a board but for its runs.
+/// Writes the state of a board without its runs.
 fn put_status(out: &mut [u8], version: u32, accepted: u32, cells: u32, comps: u32) -> usize
     requires { 17 ≤ length out.old }
     ensures front { StandsAtFront (status_front version accepted cells comps) out.old out.new result }
@@ -459,7 +459,7 @@ fn put_status(out: &mut [u8], version: u32, accepted: u32, cells: u32, comps: u3
     put_number(out, at, comps)
 }
 
-/// Writes what is told of a frame that spells no request.
+/// Writes the report of a malformed request.
 fn put_malformed(out: &mut [u8], kind: u8, size: u16) -> usize
     requires { 4 ≤ length out.old }
     ensures front { StandsAtFront (head_bytes (reply.Malformed kind size)) out.old out.new result }

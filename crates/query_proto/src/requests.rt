@@ -1,4 +1,4 @@
-//! Requests of a client.
+//! Requests from a client.
 
 ghost use Rattle.std.specs.Prelude.{◌≡◌, ◌≢◌, ◌↔◌, ◌<◌, ◌≤◌, [], ◌∷◌, ◌++◌, length, slice_index, IsTrue, IfErr, IfOk};
 ghost use Rattle.query_proto.specs.Frames.{Fits, FitsEdit, IsNoRequest, IsPlainEdit, IsRequestFrame, IsRequestRead};
@@ -23,9 +23,9 @@ pub enum Request {
         /// The cell that the path ends with.
         goal: Cell,
     },
-    /// A change of the map, to be seen by queries once a version after it is published.
+    /// A change of the map. Queries see it once a version after it is published.
     Change(Edit),
-    /// The building and publication of a version after all accepted edits.
+    /// Builds and publishes a version with all accepted edits.
     Build,
     /// The state of the board.
     Status,
@@ -37,7 +37,7 @@ pub enum Request {
     Hello,
 }
 
-/// Whether a protocol has the request. It takes no memory.
+/// Whether a protocol has the request. It allocates nothing.
 pub fn fits(request: &Request, proto: Proto) -> bool
     ensures { IsTrue result ↔ Fits proto request.now }
 {
@@ -48,7 +48,7 @@ pub fn fits(request: &Request, proto: Proto) -> bool
     }
 }
 
-/// Whether a protocol has the change of these cells.
+/// Whether a protocol has this change.
 fn fits_edit(edit: &Edit, proto: Proto) -> bool
     ensures { IsTrue result ↔ FitsEdit proto edit.now }
 {
@@ -59,7 +59,7 @@ fn fits_edit(edit: &Edit, proto: Proto) -> bool
     }
 }
 
-/// Whether it is one cell that changes, to blocked or land.
+/// Whether exactly one cell changes, to blocked or land.
 fn is_plain(changes: &[CellChange]) -> bool
     ensures { IsTrue result ↔ IsPlainEdit changes.now }
 {
@@ -69,11 +69,11 @@ fn is_plain(changes: &[CellChange]) -> bool
     }
 }
 
-/// The request that a frame spells at a protocol. It takes no memory.
+/// Decodes a request from its frame at a protocol. It allocates nothing.
 ///
 /// # Errors
 ///
-/// `Malformed` exactly where the frame spells none that the protocol has.
+/// `Malformed` exactly if the frame encodes no request of the protocol.
 pub fn decode_request(frame: &[u8], proto: Proto) -> Result<Request, Malformed>
     requires { length frame.now ≤ MAX_REQUEST }
     ensures request { IfOk result (λ request. IsRequestFrame proto request frame.now) }
@@ -85,7 +85,7 @@ pub fn decode_request(frame: &[u8], proto: Proto) -> Result<Request, Malformed>
     }
 }
 
-/// The request that a frame spells, if it spells one that the protocol has.
+/// The request of the protocol that a frame encodes, if any.
 fn request_in(frame: &[u8], proto: Proto) -> Option<Request>
     ensures { IsRequestRead proto frame.now result }
 {
@@ -96,7 +96,7 @@ fn request_in(frame: &[u8], proto: Proto) -> Option<Request>
     Some(request)
 }
 
-/// The request that a frame spells, whatever the protocol.
+/// The request that a frame encodes in any protocol.
 fn spelled_in(frame: &[u8]) -> Option<Request>
     ensures { IsRequestSpelled frame.now result }
 {
@@ -116,7 +116,7 @@ fn spelled_in(frame: &[u8]) -> Option<Request>
     }
 }
 
-/// The query that a frame spells.
+/// The query that a frame encodes.
 fn query_in(frame: &[u8]) -> Option<Request>
     requires { slice_index frame.now 0 ≡ QUERY }
     ensures { IsRequestSpelled frame.now result }
@@ -129,7 +129,7 @@ fn query_in(frame: &[u8]) -> Option<Request>
     Some(Request::Query { start, goal })
 }
 
-/// The change of one cell that a frame spells.
+/// The change of one cell that a frame encodes.
 fn change_in(frame: &[u8]) -> Option<Request>
     requires { slice_index frame.now 0 ≡ CHANGE }
     ensures { IsRequestSpelled frame.now result }
@@ -141,7 +141,7 @@ fn change_in(frame: &[u8]) -> Option<Request>
     Some(Request::Change(Edit::one(change)))
 }
 
-/// The change of several cells that a frame spells.
+/// The change of several cells that a frame encodes.
 fn changes_in(frame: &[u8]) -> Option<Request>
     requires { slice_index frame.now 0 ≡ CHANGES }
     ensures { IsRequestSpelled frame.now result }
@@ -151,8 +151,8 @@ fn changes_in(frame: &[u8]) -> Option<Request>
     Some(Request::Change(edit))
 }
 
-/// Writes a request as it is sent, its length and its frame, to the front of `room`, and says how many bytes that are.
-/// The others stay as they are. It takes no memory.
+/// Writes a request as it is sent, its length and its frame, to the front of `room`, and says how many bytes that is.
+/// The others are unchanged. It allocates nothing.
 pub fn encode_request(request: &Request, room: &mut [u8; REQUEST_ROOM]) -> usize
     ensures { RequestAtFront request.now room.old room.new result }
 {

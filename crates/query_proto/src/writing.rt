@@ -1,4 +1,4 @@
-//! Bytes and numbers, written one behind the other to the front of a piece.
+//! Bytes and numbers, written one after the other to the front of a piece.
 
 ghost use Rattle.std.specs.Prelude.{◌≡◌, ◌+◌, ◌<◌, ◌≤◌, [], ◌∷◌, length};
 ghost use Rattle.byteorder.specs.Endian.{big_bytes};
@@ -8,7 +8,7 @@ use crate::kinds::SECOND;
 use byteorder::{BigEndian, ByteOrder};
 use moves::Cell;
 
-/// Writes a byte at that place, and says which place is the next.
+/// Writes a byte at this place, and returns the next place.
 pub fn put_byte(out: &mut [u8], at: usize, byte: u8) -> usize
     requires { at < length out.old }
     ensures grows { GrowsFront (byte ∷ []) at out.old out.new result }
@@ -74,7 +74,7 @@ pub fn put_cell(out: &mut [u8], at: usize, cell: Cell) -> usize
     put_short(out, row, cell.y)
 }
 
-/// The byte that says whether.
+/// The byte that encodes a truth value.
 pub fn byte_of_flag(flag: bool) -> u8
     ensures value { result ≡ flag_byte flag }
     ensures limit { result ≤ 1 }

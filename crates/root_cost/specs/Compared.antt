@@ -1,4 +1,4 @@
--- What `cmp` answers for two costs: the tests of the cost order, one by one.
+-- What `cmp` returns for two costs: the tests of the cost order, one by one.
 use Rattle.std.specs.Prelude.{ℕ, ◌-◌, ◌*◌, Bool, ◌&&◌, ◌||◌, nat_lt, nat_le, ◌==◌, if◌then◌else◌}
 use Rattle.std.specs.declared.cmp.Ordering.{Ordering}
 use Rattle.std.specs.declared.cmp.Ordering.TheVariants.{Less, Equal, Greater}
@@ -15,6 +15,6 @@ is_below a b c d =
 abbrev pub same_cost : Cost → Cost → Bool
 same_cost x y = (x.straight == y.straight) && (x.diagonal == y.diagonal)
 
--- equal only as equal pairs, and otherwise by the cost order
+-- equal only if they are the same pair, and otherwise by the cost order
 unfoldable pub cost_cmp : Cost → Cost → Ordering
 cost_cmp x y = if same_cost x y then Equal else (if is_below x.straight x.diagonal y.straight y.diagonal then Less else Greater)

@@ -13,8 +13,8 @@ IsAtMostRoot p q = p * p ≤ 2 * (q * q)
 abbrev pub IsAtLeastRoot : ℕ → ℕ → Type 0
 IsAtLeastRoot p q = 2 * (q * q) ≤ p * p
 
--- a + b√2 ≤ c + d√2: neither part is greater; or what the first has more of straight steps is at most
--- what it has less of diagonal ones; or what it has less of straight steps is at least what it has more of diagonal ones
+-- a + b√2 ≤ c + d√2: neither a nor b is greater; or only a is, and a - c ≤ (d - b)√2; or only b is, and c - a ≥
+-- (b - d)√2
 abbrev pub IsBelow : ℕ → ℕ → ℕ → ℕ → Type 0
 IsBelow a b c d =
     ((a ≤ c) × (b ≤ d)) ⊎ (((c < a) × (b < d) × IsAtMostRoot (a - c) (d - b)) ⊎ ((a < c) × (d < b) × IsAtLeastRoot (c - a) (b - d)))
@@ -27,20 +27,20 @@ IsAtMost x y = IsBelow x.straight x.diagonal y.straight y.diagonal
 abbrev pub no_cost : Cost
 no_cost = record { straight = 0; diagonal = 0 }
 
--- a cost and one step more
+-- a cost with one more step
 abbrev pub plus_step : Cost → Bool → Cost
 plus_step cost diagonal_step =
     record { straight = cost.straight + (if diagonal_step then 0 else 1); diagonal = cost.diagonal + (if diagonal_step then 1 else 0) }
 
--- two costs, one after the other
+-- the sum of two costs
 abbrev pub sum_of : Cost → Cost → Cost
 sum_of x y = record { straight = x.straight + y.straight; diagonal = x.diagonal + y.diagonal }
 
--- a cost a million times
+-- a million times a cost
 abbrev pub million_of : Cost → Cost
 million_of cost = record { straight = 1000000 * cost.straight; diagonal = 1000000 * cost.diagonal }
 
--- a length that is so many whole steps
+-- a length of n whole steps
 abbrev pub whole : ℕ → Cost
 whole n = record { straight = n; diagonal = 0 }
 
@@ -49,11 +49,11 @@ pub record IsMicro (cost : Cost) (n : ℕ) : Type 0 where
   pub reached : IsAtMost (whole n) (million_of cost)
   pub not_passed : IsAtMost (whole (n + 1)) (million_of cost) → ⊥
 
--- so many straight and so many diagonal steps
+-- these numbers of straight and of diagonal steps
 abbrev pub pair_of : ℕ → ℕ → Cost
 pair_of straight diagonal = record { straight = straight; diagonal = diagonal }
 
--- a cost a billion times
+-- a billion times a cost
 abbrev pub billion_of : Cost → Cost
 billion_of cost = pair_of (NANO * cost.straight) (NANO * cost.diagonal)
 

@@ -1,6 +1,6 @@
--- A number in place of a cost: DIAGONAL_KEY / STRAIGHT_KEY is just below √2, with 47321² = 2 · 33461² - 1, so that keys
--- order as the costs do, and are equal only for equal costs, while the diagonal steps are fewer than 33461. As
--- 47321 · 19601 = 27720 · 33461 + 1, a key then gives its diagonal steps back.
+-- A number in place of a cost: DIAGONAL_KEY / STRAIGHT_KEY is just below √2, since 47321² = 2 · 33461² - 1. So as long
+-- as there are fewer than 33461 diagonal steps, keys order as costs do and are equal only for equal costs. As
+-- 47321 · 19601 = 27720 · 33461 + 1, a key then gives back its diagonal steps.
 use Rattle.std.specs.Prelude.{◌≡◌, ℕ, ◌+◌, ◌-◌, ◌*◌, ◌/◌, ◌%◌, Bool, Option, Some, None, if◌then◌else◌, nat_eq}
 use Rattle.root_cost.specs.declared.Cost.{Cost}
 use Rattle.root_cost.specs.declared.TheConstants.{STRAIGHT_KEY, DIAGONAL_KEY, NO_KEY, READING_FACTOR}
@@ -25,6 +25,6 @@ cost_of_key key = record { straight = (key - DIAGONAL_KEY * diagonal_of key) / S
 unfoldable pub cost_if_key : ℕ → Option Cost
 cost_if_key key = if nat_eq key NO_KEY then None else Some (cost_of_key key)
 
--- the key gives back the cost that it was made of
+-- the key gives back the cost that it was made from
 unfoldable pub GivesBack : ℕ → Option Cost → Type 0
 GivesBack key found = (cost : Cost) → key_of cost ≡ key → found ≡ Some cost

@@ -1,5 +1,5 @@
--- Proofs, and no definitions: that the cost order is lawful, which the `impl`s of `Ord` and `PartialOrd` name.
--- They stand here since an `impl` names what stands in specs/ alone.
+-- Proofs, not definitions, that the cost order is lawful. The `impl`s of `Ord` and `PartialOrd` name them, and an
+-- `impl` can name only what is in specs/.
 pub mod Squares
 pub mod Order
 pub mod Comparing

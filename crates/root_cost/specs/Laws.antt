@@ -12,12 +12,12 @@ use Rattle.root_cost.specs.Keys.{key_of}
 abbrev pub IsLess : Cost → Cost → Type 0
 IsLess x y = IsAtMost x y × (IsAtMost y x → ⊥)
 
--- so many diagonal steps
+-- n diagonal steps
 abbrev pub diagonals : ℕ → Cost
 diagonals n = record { straight = 0; diagonal = n }
 
--- a test of two costs that is total and antisymmetric, that nothing changes that is added on both sides, by which no cost
--- is below ZERO, and by which p straight steps are at most q diagonal ones exactly where p² ≤ 2q²
+-- a test of two costs that is total and antisymmetric, that adding the same cost to both sides does not change, by
+-- which no cost is below ZERO, and by which p straight steps are at most q diagonal ones exactly when p² ≤ 2q²
 pub record TestsCosts (test : Cost → Cost → Bool) : Type 0 where
   pub total : (x y : Cost) → (test x y ≡ true) ⊎ (test y x ≡ true)
   pub antisymmetric : (x y : Cost) → test x y ≡ true → test y x ≡ true → x ≡ y
@@ -25,9 +25,9 @@ pub record TestsCosts (test : Cost → Cost → Bool) : Type 0 where
   pub added : (x y z : Cost) → (test x y ≡ true) ↔ (test (sum_of x z) (sum_of y z) ≡ true)
   pub by_squares : (p q : ℕ) → (test (whole p) (diagonals q) ≡ true) ↔ (p * p ≤ 2 * (q * q))
 
--- `IsAtMost` is a total order in which costs are equal only as equal pairs, `cmp` answers by it, what is added on both
--- sides changes nothing, no cost is below ZERO, and p straight steps are at most q diagonal ones where p² ≤ 2q². Each
--- test of costs that has all this answers as `IsAtMost` does.
+-- `IsAtMost` is a total order in which costs are equal only if they are the same pair, `cmp` follows it, adding the
+-- same cost to both sides changes nothing, no cost is below ZERO, and p straight steps are at most q diagonal ones
+-- exactly when p² ≤ 2q². Any test of costs with all these properties agrees with `IsAtMost`.
 pub record OrderIsLawful : Type 0 where
   pub total : (x y : Cost) → IsAtMost x y ⊎ IsAtMost y x
   pub transitive : (x y z : Cost) → IsAtMost x y → IsAtMost y z → IsAtMost x z
@@ -38,7 +38,7 @@ pub record OrderIsLawful : Type 0 where
   pub by_squares : (p q : ℕ) → IsAtMost (whole p) (diagonals q) ↔ (p * p ≤ 2 * (q * q))
   pub only : (test : Cost → Cost → Bool) → TestsCosts test → (x y : Cost) → (test x y ≡ true) ↔ IsAtMost x y
 
--- below KEYED_DIAGONALS diagonal steps keys order as costs do, and no two costs have one key
+-- below KEYED_DIAGONALS diagonal steps, keys order as costs do and different costs have different keys
 pub record KeysOrderCosts : Type 0 where
   pub same_order : (x y : Cost) → x.diagonal < KEYED_DIAGONALS → y.diagonal < KEYED_DIAGONALS → IsAtMost x y ↔ (key_of x ≤ key_of y)
   pub one_key_each : (x y : Cost) → x.diagonal < KEYED_DIAGONALS → y.diagonal < KEYED_DIAGONALS → key_of x ≡ key_of y → x ≡ y

@@ -1,4 +1,4 @@
--- The text of a length: as 2.414213 for a straight and a diagonal step.
+-- The text of a length, such as 2.414213 for one straight and one diagonal step.
 use Rattle.std.specs.Prelude.{ℕ, ◌/◌, ◌%◌, List, ◌++◌, codes}
 use Rattle.std.specs.Fmt.{decimal}
 

@@ -2,10 +2,10 @@
 
 use std::fmt;
 
-/// How many billionths are a whole step.
+/// Billionths in a whole step.
 pub(crate) const NANO: u64 = 1_000_000_000;
 
-/// How many billionths a stated length may be off: a hundredth of a step.
+/// How many billionths a stated length may be off by: a hundredth of a step.
 pub(crate) const TOLERANCE: u64 = 10_000_000;
 
 /// A length to print: its whole part, a point and six digits.

@@ -1,8 +1,9 @@
-//! Costs of paths on a grid, exactly: so many straight steps of length 1 and so many diagonal steps of length √2.
+//! Exact costs of paths on a grid: a number of straight steps of length 1 and of diagonal steps of
+//! length √2.
 //!
-//! A cost `(a, b)` stands for `a + b√2`. No cost is ever rounded: costs are compared by signs and squares of whole
-//! numbers, so two costs are equal only where they are the same pair. (MovingAI scenario format page: straight steps
-//! cost 1, diagonal steps √2.)
+//! A cost `(a, b)` stands for `a + b√2`. Costs are never rounded: they are compared by signs and
+//! squares of whole numbers, so two costs are equal only if they are the same pair. (MovingAI
+//! scenario format page: straight steps cost 1, diagonal steps √2.)
 #![tactic(auto)]
 
 ghost use Rattle.std.specs.Prelude.{◌≡◌, ◌-◌, ◌*◌, ◌^◌, ◌<◌, ◌≤◌, ◌↔◌, IsTrue, IsFalse, IsNone, refl, Some};
@@ -19,24 +20,26 @@ pub use lengths::Length;
 use lengths::{NANO, TOLERANCE};
 use std::cmp::Ordering;
 
-/// The most straight and the most diagonal steps of a cost that has a length.
+/// The most steps of each kind, straight and diagonal, in a cost that has a length.
 pub const MAX_STEPS: u32 = 65_535;
 
 /// The key of a straight step.
 pub const STRAIGHT_KEY: u32 = 33_461;
 
-/// The key of a diagonal step: `DIAGONAL_KEY / STRAIGHT_KEY` is just below √2, with 47,321² = 2 · 33,461² - 1.
+/// The key of a diagonal step: `DIAGONAL_KEY / STRAIGHT_KEY` is just below √2, since
+/// 47,321² = 2 · 33,461² - 1.
 pub const DIAGONAL_KEY: u32 = 47_321;
 
-/// Keys order as costs do among costs with fewer diagonal steps than this: so many diagonal steps have the key of
-/// 47,321 straight ones.
+/// Keys order as costs do as long as the costs have fewer diagonal steps than this: 33,461 diagonal
+/// steps have the same key as 47,321 straight ones.
 pub const KEYED_DIAGONALS: u32 = 33_461;
 
-/// The greatest key of diagonal steps alone that are fewer than [`KEYED_DIAGONALS`]. Each cost with a key up to it has
-/// fewer, and so is known by its key. A path over 32,768 cells or fewer has a smaller key.
+/// The greatest key of fewer than [`KEYED_DIAGONALS`] diagonal steps alone. A cost whose key is at
+/// most this has no more diagonal steps, so its key identifies it. A path over at most 32,768 cells
+/// has a smaller key.
 pub const GREATEST_KEY: u32 = 1_583_360_660;
 
-/// What stands in place of a key where there is no cost.
+/// Used in place of a key if there is no cost.
 pub const NO_KEY: u32 = u32::MAX;
 
 /// Reads the diagonal steps from a key: `DIAGONAL_KEY · READING_FACTOR` is one more than a multiple of `STRAIGHT_KEY`.
@@ -44,7 +47,7 @@ const READING_FACTOR: u64 = 19_601;
 
 /// The cost of a path: how many of its moves are straight and how many are diagonal.
 ///
-/// Its order is that of `straight + diagonal · √2`, for all values of the fields.
+/// Costs are ordered by `straight + diagonal · √2`, for all values of the fields.
 #[derive(Clone, Copy, Debug, Default, PartialEq, Eq)]
 pub struct Cost {
     /// Straight moves, each of length 1.
@@ -60,9 +63,9 @@ impl Cost {
         diagonal: 0,
     };
 
-    /// The cost of this path and one move more, which is diagonal or straight.
+    /// Returns the cost of this path with one more move, diagonal or straight.
     ///
-    /// Both fields are below [`MAX_STEPS`].
+    /// Both fields must be below [`MAX_STEPS`].
     pub fn plus(self, diagonal_step: bool) -> Cost
         requires straight { self.straight < MAX_STEPS }
         requires diagonal { self.diagonal < MAX_STEPS }
@@ -81,7 +84,7 @@ impl Cost {
         }
     }
 
-    /// Is `self` at most `other`, as `straight + diagonal · √2`?
+    /// Returns whether `self` is at most `other`, as `straight + diagonal · √2`.
     #[tactic(auto, unfolding(crate::specs::Costs::IsAtMost))]
     pub fn at_most(self, other: Cost) -> bool
         ensures yes { IsTrue result ↔ IsAtMost self other }
@@ -100,9 +103,10 @@ impl Cost {
         }
     }
 
-    /// The length in millionths, rounded down: the floor of `(straight + diagonal · √2) · 1,000,000`.
+    /// Returns the length in millionths, rounded down: the floor of
+    /// `(straight + diagonal · √2) · 1,000,000`.
     ///
-    /// Both fields are at most [`MAX_STEPS`].
+    /// Both fields must be at most [`MAX_STEPS`].
     pub fn micro(self) -> u64
         requires straight { self.straight ≤ MAX_STEPS }
         requires diagonal { self.diagonal ≤ MAX_STEPS }
@@ -113,9 +117,9 @@ impl Cost {
         1_000_000 * u64::from(self.straight) + root as u64
     }
 
-    /// The length with six digits after its point, cut off and not rounded.
+    /// Returns the length with six digits after its point, truncated rather than rounded.
     ///
-    /// Both fields are at most [`MAX_STEPS`].
+    /// Both fields must be at most [`MAX_STEPS`].
     pub fn length(self) -> Length
         requires straight { self.straight ≤ MAX_STEPS }
         requires diagonal { self.diagonal ≤ MAX_STEPS }
@@ -126,10 +130,10 @@ impl Cost {
         }
     }
 
-    /// Do the length and `nano` billionths differ by at most a hundredth? Both ends are included, and nothing is
-    /// rounded.
+    /// Returns whether the length and `nano` billionths differ by at most a hundredth, both ends
+    /// included. Nothing is rounded.
     ///
-    /// Both fields are at most [`MAX_STEPS`], and `nano` is below 10^16.
+    /// Both fields must be at most [`MAX_STEPS`], and `nano` below 10^16.
     pub fn near(self, nano: u64) -> bool
         requires straight { self.straight ≤ MAX_STEPS }
         requires diagonal { self.diagonal ≤ MAX_STEPS }
@@ -142,10 +146,11 @@ impl Cost {
             && is_not_passed(nano + TOLERANCE, straight, diagonal)
     }
 
-    /// A number in place of the cost: so many times [`STRAIGHT_KEY`], and so many times [`DIAGONAL_KEY`].
+    /// Returns a number in place of the cost: `straight` times [`STRAIGHT_KEY`] plus `diagonal`
+    /// times [`DIAGONAL_KEY`].
     ///
-    /// Among costs with fewer than [`KEYED_DIAGONALS`] diagonal moves keys order as the costs do, and no two costs have
-    /// one key ([`keys_order`]).
+    /// For costs with fewer than [`KEYED_DIAGONALS`] diagonal moves, keys order as the costs do,
+    /// and different costs have different keys ([`keys_order`]).
     pub fn key(self) -> u64
         ensures { result ≡ key_of self }
     {
@@ -153,8 +158,8 @@ impl Cost {
             + u64::from(DIAGONAL_KEY) * u64::from(self.diagonal)
     }
 
-    /// The cost that a key stands for; `None` exactly for [`NO_KEY`]. A key up to [`GREATEST_KEY`] gives back the cost
-    /// that it was made of.
+    /// Returns the cost that a key stands for, and `None` exactly for [`NO_KEY`]. A key up to
+    /// [`GREATEST_KEY`] gives back the cost that it was made from.
     #[tactic(auto, unfolding(crate::specs::Keys::cost_if_key, crate::specs::Keys::cost_of_key, crate::specs::Keys::diagonal_of))]
     pub fn of_key(key: u32) -> Option<Cost>
         ensures value { result ≡ cost_if_key key }
@@ -200,21 +205,23 @@ impl PartialOrd for Cost {
     }
 }
 
-/// The law of the cost order, for all numbers: it is total and transitive, two costs are at most each other only as
-/// equal pairs, `cmp` answers by it, and no cost is below [`Cost::ZERO`]; what is added on both sides changes nothing,
-/// and `p` straight moves are at most `q` diagonal ones exactly where `p² ≤ 2q²`. Each test of two costs with these
-/// properties answers as this order does.
+/// The law of the cost order, for all numbers: it is total and transitive, two costs are each at
+/// most the other only if they are the same pair, `cmp` follows it, no cost is below
+/// [`Cost::ZERO`], adding the same cost to both sides changes nothing, and `p` straight moves are
+/// at most `q` diagonal ones exactly when `p² ≤ 2q²`. Any test of two costs with these properties
+/// agrees with this order.
 pub fn order_is_lawful()
     ensures { OrderIsLawful }
 {}
 
-/// The law of keys: below 33,461 diagonal moves they order as the costs do, and no two costs have one key.
+/// The law of keys: below 33,461 diagonal moves, keys order as costs do and different costs have
+/// different keys.
 pub fn keys_order()
     ensures { KeysOrderCosts }
 {}
 
-/// The law of the numbers: a cost has a length with up to 65,535 steps of each kind, the steps have these keys, and
-/// what stands in place of a key is above each.
+/// The law of the numbers: a cost of up to 65,535 steps of each kind has a length, the steps have
+/// these keys, and [`NO_KEY`] is above [`GREATEST_KEY`].
 pub fn numbers_are_these()
     ensures steps { MAX_STEPS ≡ 65535 }
     ensures keys { (STRAIGHT_KEY ≡ 33461) × (DIAGONAL_KEY ≡ 47321) × (KEYED_DIAGONALS ≡ 33461) }
@@ -222,7 +229,7 @@ pub fn numbers_are_these()
     ensures none { NO_KEY ≡ 4294967295 }
 {}
 
-/// The key of one step, diagonal or straight.
+/// Returns the key of one step, diagonal or straight.
 pub fn step_key(diagonal_step: bool) -> u32
     ensures key { result ≡ step_key diagonal_step }
     ensures limit { result ≤ DIAGONAL_KEY }
@@ -234,7 +241,7 @@ pub fn step_key(diagonal_step: bool) -> u32
     }
 }
 
-/// Is `n` at most `straight + diagonal · √2`?
+/// Returns whether `n` is at most `straight + diagonal · √2`.
 #[tactic(auto, unfolding(crate::specs::Costs::IsAtMost))]
 fn is_reached(n: u64, straight: u64, diagonal: u64) -> bool
     requires n { n < 2 ^ 63 }
@@ -244,7 +251,7 @@ fn is_reached(n: u64, straight: u64, diagonal: u64) -> bool
     n <= straight || square(n - straight) <= 2 * square(diagonal)
 }
 
-/// Is `n` at least `straight + diagonal · √2`?
+/// Returns whether `n` is at least `straight + diagonal · √2`.
 #[tactic(auto, unfolding(crate::specs::Costs::IsAtMost))]
 fn is_not_passed(n: u64, straight: u64, diagonal: u64) -> bool
     requires n { n < 2 ^ 63 }
@@ -254,7 +261,7 @@ fn is_not_passed(n: u64, straight: u64, diagonal: u64) -> bool
     straight <= n && 2 * square(diagonal) <= square(n - straight)
 }
 
-/// The square, of which the double fits as well.
+/// Returns the square, small enough that twice it fits too.
 fn square(n: u64) -> u128
     requires { n < 2 ^ 63 }
     ensures value { result ≡ n * n }

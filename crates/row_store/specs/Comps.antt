@@ -21,11 +21,11 @@ pub record Comp : Type 0 where
   pub cells : List Cell
   pub rows : List (List Run)
 
--- the component with these
+-- the component with these parts
 abbrev pub comp_with : OrderKind → List Cell → List (List Run) → Comp
 comp_with kind cells rows = record { kind = kind; cells = cells; rows = rows }
 
--- what each stored component is: cells of a map that are connected among themselves, each once, and their rows
+-- what each stored component is: connected cells of a map, each listed once, and their rows
 pub record IsComp (comp : Comp) : Type 0 where
   pub some : 0 < length comp.cells
   pub few : length comp.cells ≤ MAX_PASSABLE
@@ -34,7 +34,7 @@ pub record IsComp (comp : Comp) : Type 0 where
   pub connected : IsConnected comp.cells
   pub rows : AreRows comp.cells comp.rows
 
--- the cell stands at that place
+-- the cell is at that place
 pub record IsPlaceOf (cells : List Cell) (cell : Cell) (place : ℕ) : Type 0 where
   pub within : place < length cells
   pub there : cell_of cells place ≡ cell
@@ -43,6 +43,6 @@ pub record IsPlaceOf (cells : List Cell) (cell : Cell) (place : ℕ) : Type 0 wh
 abbrev pub IsMoveOfRow : Comp → ℕ → ℕ → Move → Type 0
 IsMoveOfRow comp from to move = IsCoveringMove (row_at comp.rows from) (length comp.cells) to (number_of move)
 
--- over any map that has just these cells, the move begins a best path from the cell at one place to the cell at another
+-- on any map with exactly these passable cells, the move begins a best path from the cell at `from` to the one at `to`
 pub record BeginsBestPath (cells : List Cell) (from to : ℕ) (move : Move) : Type 0 where
   pub begins : (map : Map) → HasJust map cells → (rest : List Move) × IsBest map (cell_of cells from) (move ∷ rest) (cell_of cells to)

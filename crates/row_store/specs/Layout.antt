@@ -1,4 +1,4 @@
--- How rows lie in a list of words, and the places of cells in their bounds.
+-- How rows are laid out in blocks of words, and the places of cells in their bounds.
 use Rattle.std.specs.Prelude.{◌≡◌, ℕ, ◌+◌, ◌-◌, ◌*◌, ◌^◌, ◌<◌, ◌≤◌, ◌⊎◌, List, [], ◌∷◌, ◌++◌, length, map, take, drop, slice_index, slice_index_or, All, sum_by}
 use Rattle.run_pack.specs.declared.Run.{Run}
 use Rattle.run_pack.specs.declared.TheConstants.{MAX_PLACES}
@@ -15,15 +15,15 @@ use Rattle.row_store.specs.declared.pool.TheConstants.{MAX_BLOCKS}
 abbrev pub block_numbered : List (List ℕ) → ℕ → List ℕ
 block_numbered blocks number = slice_index_or blocks number []
 
--- the blocks, of which the last one stands apart
+-- all blocks: the closed ones, and then the last one
 abbrev pub blocks_of : List (List ℕ) → List ℕ → List (List ℕ)
 blocks_of closed words = closed ++ words ∷ []
 
--- the places that a block may have: a span keeps where it starts in 32 bits
+-- the limit on the words of a block: a span keeps its start in 32 bits
 abbrev pub start_limit : ℕ
 start_limit = 2 ^ 32
 
--- the words of the block with that number, from `start` to before `end`, can be those of a row
+-- the words of the block with that number, from `start` up to but not including `end`, can be those of a row
 pub record CanBeSpan (block start end : ℕ) : Type 0 where
   pub number : block < MAX_BLOCKS
   pub order : start ≤ end
@@ -34,15 +34,15 @@ pub record CanBeSpan (block start end : ℕ) : Type 0 where
 abbrev pub words_at : List (List ℕ) → Span → List ℕ
 words_at blocks span = take span.len (drop span.start (block_numbered blocks span.block))
 
--- the row whose words lie there
+-- the row with the words of this span
 unfoldable pub row_in : List (List ℕ) → Span → List Run
 row_in blocks span = map run_of_word (words_at blocks span)
 
--- the rows whose words lie there
+-- the rows with the words of these spans
 abbrev pub rows_in : List (List ℕ) → List Span → List (List Run)
 rows_in blocks spans = map (row_in blocks) spans
 
--- the rows lie in the blocks, none is longer than a row may be, and each word is one of a row's
+-- the rows are in the blocks, none is longer than a row may be, and each word belongs to a row
 pub record AreSpans (blocks : List (List ℕ)) (spans : List Span) : Type 0 where
   pub there : All (λ span. span.block < length blocks) spans
   pub inside : All (λ span. span.start + span.len ≤ length (block_numbered blocks span.block)) spans
@@ -51,11 +51,11 @@ pub record AreSpans (blocks : List (List ℕ)) (spans : List Span) : Type 0 wher
   pub numbered : length blocks ≤ MAX_BLOCKS
   pub all : sum_by (λ span. span.len) spans ≡ sum_by length blocks
 
--- the span of a row whose block comes so many blocks later
+-- the span with its block number raised by `blocks`
 abbrev pub moved : ℕ → Span → Span
 moved blocks span = record { start = span.start; len = span.len; block = blocks + span.block }
 
--- a span of no words
+-- a span without words
 abbrev pub nowhere : Span
 nowhere = record { start = 0; len = 0; block = 0 }
 
@@ -68,22 +68,22 @@ pub record HaveWords (own other : Span) : Type 0 where
   pub first : 0 < own.len
   pub second : 0 < other.len
 
--- at no place before this one both lists have a row with words
+-- at no place before `upto` do both lists have a row with words
 pub record AreApart (own others : List Span) (upto : ℕ) : Type 0 where
   pub each : (place : ℕ) → place < upto → ((span_at own place).len ≡ 0) ⊎ ((span_at others place).len ≡ 0)
 
--- the span of the row that has words, the other one's block being so many blocks later
+-- the row's own span if it has words, otherwise the other one with its block number raised by `blocks`
 pub record IsFilled (blocks : ℕ) (own other now : Span) : Type 0 where
   pub blank : own.len ≡ 0 → now ≡ moved blocks other
   pub kept : (own.len ≡ 0 → ⊥) → now ≡ own
 
--- the spans of one list before that place are filled by those of another, and the rest are as before
+-- the spans of one list before that place are filled from those of another, and the rest are unchanged
 pub record AreFilled (blocks : ℕ) (before others now : List Span) (upto : ℕ) : Type 0 where
   pub whole : length now ≡ length before
   pub each : (place : ℕ) → place < upto → IsFilled blocks (span_at before place) (span_at others place) (span_at now place)
   pub rest : (place : ℕ) → upto ≤ place → span_at now place ≡ span_at before place
 
--- all cells lie in the area, and each place of the area has the number of its cell, or none where it has no cell
+-- all cells are in the area, and each place of the area has the number of its cell, or NO_PLACE if it has no cell
 pub record ArePlaces (cells : List Cell) (area : Rectangle) (places : List ℕ) : Type 0 where
   pub whole : length places ≡ area.width * area.height
   pub within : All (IsWithin area) cells

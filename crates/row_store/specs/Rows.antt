@@ -19,15 +19,15 @@ pub record IsRowFrom (map : Map) (cells : List Cell) (from : Cell) (row : List R
   pub first : AreFirstSets map from cells sets
   pub tight : IsTight row sets
 
--- The rows of cells, over the map whose passable cells are just these: a row for each cell as a source, in their order.
--- An example: the cells of `...` have the rows (0,E) and (0,W),(2,E) and (0,W).
+-- The rows of cells, on the map with exactly these passable cells: a row for each source cell, in their order.
+-- For example, the cells of `...` have the rows (0,E) and (0,W),(2,E) and (0,W).
 pub record AreRows (cells : List Cell) (rows : List (List Run)) : Type 0 where
   pub map : Map
   pub just : HasJust map cells
   pub whole : length rows ≡ length cells
   pub each : (place : ℕ) → place < length cells → IsRowFrom map cells (cell_of cells place) (row_at rows place)
 
--- cells in their order have one list of rows
+-- cells in a given order have only one list of rows
 abbrev pub RowsAreUnique : Type 0
 RowsAreUnique = (cells : List Cell) (a b : List (List Run)) → AreRows cells a → AreRows cells b → a ≡ b
 

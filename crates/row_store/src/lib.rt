@@ -1,7 +1,8 @@
-//! The database of a component: the cells in an order, and from each of them the first moves to all, packed into runs.
+//! The database of a component: its cells in an order, and the first moves from each cell to all of
+//! them, packed into runs.
 //!
-//! A look-up needs no search: the place of the goal is found in the row of the source, and the run that covers it keeps
-//! a move that begins a best path. (Botea 2011; Strasser, Harabor and Botea 2014)
+//! A look-up needs no path search: in the row of the source, the run that covers the place of the
+//! goal keeps a move that begins a best path. (Botea 2011; Strasser, Harabor and Botea 2014)
 #![tactic(auto)]
 
 ghost use Rattle.std.specs.Prelude.{◌≡◌, ◌≢◌, ◌+◌, ◌-◌, ◌*◌, ◌^◌, ◌<◌, ◌≤◌, [], map, length, sum_by, slice_index_or, All, AllPairs, Contains, IfOk, IfSome, IfNone};
@@ -23,7 +24,7 @@ use std::alloc::{AllocError, Global};
 use std::marker::Model;
 use std::sync::ledger::Ledger;
 
-/// What stands in place of a number where the bounds of a component have none of its cells.
+/// Stands for the place of a cell that is in the bounds of a component but not one of its cells.
 const NO_PLACE: u16 = u16::MAX;
 
 /// One component: its cells in an order, and a row of first moves from each of them.
@@ -50,11 +51,11 @@ impl Model for CompData {
 }
 
 impl CompData {
-    /// The component with these rows, one for each cell. The cells are in the order of that kind.
+    /// Makes a component from these rows, one for each cell. The cells are in the order of `kind`.
     ///
     /// # Errors
     ///
-    /// `AllocError` where memory runs out. The lists are dropped then.
+    /// `AllocError` if memory runs out. The lists are then dropped.
     pub fn make(
         alloc: Global,
         kind: OrderKind,
@@ -73,12 +74,12 @@ impl CompData {
         CompData::of_pool(alloc, kind, cells, pool)
     }
 
-    /// `make` from rows that lie in a pool already. No row is copied, and memory that the pool does not use is given
-    /// back.
+    /// Like `make`, from rows already in a pool. No row is copied, and memory that the pool does
+    /// not use is freed.
     ///
     /// # Errors
     ///
-    /// `AllocError` where memory runs out. The lists are dropped then.
+    /// `AllocError` if memory runs out. The lists are then dropped.
     pub fn of_pool(
         alloc: Global,
         kind: OrderKind,
@@ -105,7 +106,7 @@ impl CompData {
         })
     }
 
-    /// The place of a cell among the cells; `None` exactly for a cell that is none of them.
+    /// Returns the place of a cell among the cells, or `None` if it is not one of them.
     pub fn index(&self, cell: Cell) -> Option<u32>
         ensures some { IfSome result (IsPlaceOf self.now.cells cell) }
         ensures none { IfNone result (Contains self.now.cells cell → ⊥) }
@@ -121,7 +122,7 @@ impl CompData {
         }
     }
 
-    /// The place of one of the cells. [`CompData::index`] asks whether the cell is one.
+    /// Returns the place of one of the cells. If it may not be one, use [`CompData::index`].
     pub fn place_of(&self, cell: Cell) -> u32
         requires { Contains self.now.cells cell }
         ensures { IsPlaceOf self.now.cells cell result }
@@ -129,7 +130,8 @@ impl CompData {
         u32::from(self.places[self.bounds.place(cell)])
     }
 
-    /// The first move from the cell at one place to the cell at another, read from the row of the first.
+    /// Returns the first move from the cell at `from` to the cell at `to`, read from the row of the
+    /// former.
     ///
     /// It takes at most s probes of a row of n runs, where 2^s ≤ 2n + 1.
     pub fn first_move<L: Ledger>(&self, from: u32, to: u32, steps: &mut Steps<L>) -> Move
@@ -145,8 +147,9 @@ impl CompData {
         Move::of(number).unwrap_or_default()
     }
 
-    /// The same move, sought run by run from a guess on, which is the number of the run that was found afterwards. Any
-    /// guess will do, and the nearer it is the fewer runs are read: what was found is a good one for a cell beside this.
+    /// Returns the same move, searching run by run from a guess. The guess becomes the number of
+    /// the run found. Any guess will do, and the nearer it is, the fewer runs are read: the run
+    /// found for one cell is a good guess for the cells beside it.
     pub fn first_move_near(&self, from: u32, to: u32, guess: &mut usize) -> Move
         requires from { from < length self.now.cells }
         requires to { to < length self.now.cells }
@@ -159,7 +162,7 @@ impl CompData {
         Move::of(number).unwrap_or_default()
     }
 
-    /// How many runs all rows have.
+    /// Returns the number of runs in all rows.
     pub fn runs(&self) -> u64
         ensures runs { result ≡ sum_by length self.now.rows }
         ensures limit { result ≤ MAX_PASSABLE * MAX_PASSABLE }
@@ -167,7 +170,7 @@ impl CompData {
         self.rows.runs()
     }
 
-    /// The cells in their order.
+    /// Returns the cells in their order.
     pub fn cells(&self) -> &[Cell]
         ensures cells { result.now ≡ self.now.cells }
         ensures whole { IsComp self.now }
@@ -175,14 +178,14 @@ impl CompData {
         &self.cells
     }
 
-    /// How the cells are ordered.
+    /// Returns how the cells are ordered.
     pub fn kind(&self) -> OrderKind
         ensures { result ≡ self.now.kind }
     {
         self.kind
     }
 
-    /// How many runs a row has.
+    /// Returns the number of runs in a row.
     pub fn row_len(&self, from: u32) -> u32
         requires { from < length self.now.cells }
         ensures { result ≡ length (row_at self.now.rows from) }
@@ -190,7 +193,7 @@ impl CompData {
         self.rows.row(from as usize).len() as u32
     }
 
-    /// The words of a row, one a run.
+    /// Returns the words of a row, one for each run.
     pub fn row(&self, from: u32) -> &[u32]
         requires { from < length self.now.cells }
         ensures row { map run_of_word result.now ≡ row_at self.now.rows from }
@@ -198,7 +201,7 @@ impl CompData {
         self.rows.row(from as usize)
     }
 
-    /// The run at a place of a row.
+    /// Returns run number `place` of a row.
     pub fn row_run(&self, from: u32, place: u32) -> Run
         requires row { from < length self.now.cells }
         requires run { place < length (row_at self.now.rows from) }
@@ -208,7 +211,7 @@ impl CompData {
     }
 }
 
-/// The places of the cells among themselves, over their bounds.
+/// Returns, for each cell of the bounds, its place among the cells, or `NO_PLACE`.
 fn places_of(alloc: Global, bounds: &Bounds, cells: &[Cell]) -> Result<Vec<u16>, AllocError>
     requires few { length cells.now ≤ MAX_PASSABLE }
     requires within { All (IsWithin bounds.now) cells.now }

@@ -1,4 +1,4 @@
-//! Rows of runs in blocks of words, each found again by its block, where it starts there and how many words it has.
+//! Rows of runs in blocks of words. A row is found by its block, its start there and its length.
 
 ghost use Rattle.std.specs.Prelude.{◌≡◌, ◌+◌, ◌-◌, ◌*◌, ◌<◌, ◌≤◌, ◌↔◌, [], ◌∷◌, ◌++◌, map, take, length, replicate, slice_set, sum_by, All, IfOk, OnOk, OnErr, IsTrue};
 ghost use Rattle.run_pack.specs.Runs.{ArePackable, word_of, run_of_word};
@@ -15,7 +15,7 @@ use std::mem;
 /// The most blocks that a pool may have.
 const MAX_BLOCKS: usize = 65_536;
 
-/// Where the words of a row lie.
+/// Where the words of a row are.
 #[derive(Clone, Copy)]
 struct Span {
     /// The first word in its block.
@@ -24,13 +24,13 @@ struct Span {
     block: u16,
 }
 
-/// A list of rows, whose runs lie as words in the order in which the rows were written. The words of pools that were
-/// merged into it stay where they are, as blocks of their own.
+/// A list of rows, whose runs are kept as words in the order in which the rows were written. The
+/// words of pools that were merged into it stay where they are, as separate blocks.
 ///
 /// A run takes four bytes and a row eight more.
 #[derive(Drop)]
 pub struct RowPool {
-    /// The blocks to which no row is added any more, with no memory that they do not use.
+    /// The blocks to which no more rows are added, without unused memory.
     closed: Vec<Vec<u32>>,
     /// The last block.
     words: Vec<u32>,
@@ -52,7 +52,7 @@ impl Model for RowPool {
 }
 
 impl RowPool {
-    /// No rows. It takes no memory.
+    /// Returns a pool without rows. It takes no memory.
     pub fn new(alloc: Global) -> RowPool
         ensures { result ≡ [] }
     {
@@ -63,11 +63,11 @@ impl RowPool {
         }
     }
 
-    /// Rows without runs, to be put one by one.
+    /// Returns a pool of `count` rows without runs, to be put one by one.
     ///
     /// # Errors
     ///
-    /// `AllocError` where memory runs out.
+    /// `AllocError` if memory runs out.
     pub fn blank(alloc: Global, count: usize) -> Result<RowPool, AllocError>
         requires { count ≤ MAX_PASSABLE }
         ensures { IfOk result (λ pool. pool ≡ replicate count []) }
@@ -88,7 +88,7 @@ impl RowPool {
     ///
     /// # Errors
     ///
-    /// `AllocError` where memory runs out. The pool is as before then.
+    /// `AllocError` if memory runs out. The pool is then unchanged.
     pub fn push_row(&mut self, runs: &[Run]) -> Result<(), AllocError>
         requires rows { length self.old < MAX_PASSABLE }
         requires runs { CanBeKept runs.now }
@@ -103,11 +103,11 @@ impl RowPool {
         Ok(())
     }
 
-    /// Adds a row that is kept as words.
+    /// Adds a row kept as words.
     ///
     /// # Errors
     ///
-    /// `AllocError` where memory runs out. The pool is as before then.
+    /// `AllocError` if memory runs out. The pool is then unchanged.
     pub fn push_words(&mut self, words: &[u32]) -> Result<(), AllocError>
         requires rows { length self.old < MAX_PASSABLE }
         requires few { length words.now ≤ MAX_PLACES }
@@ -126,7 +126,7 @@ impl RowPool {
     ///
     /// # Errors
     ///
-    /// `AllocError` where memory runs out. The pool is as before then.
+    /// `AllocError` if memory runs out. The pool is then unchanged.
     pub fn push_sets(&mut self, sets: &[u8]) -> Result<(), AllocError>
         requires rows { length self.old < MAX_PASSABLE }
         requires sets { ArePackable sets.now }
@@ -141,11 +141,11 @@ impl RowPool {
         Ok(())
     }
 
-    /// Puts the packed row of these sets in the place of a row without runs.
+    /// Replaces a row without runs with the packed row of these sets.
     ///
     /// # Errors
     ///
-    /// `AllocError` where memory runs out. The pool is as before then.
+    /// `AllocError` if memory runs out. The pool is then unchanged.
     pub fn put_sets(&mut self, place: usize, sets: &[u8]) -> Result<(), AllocError>
         requires place { place < length self.old }
         requires empty { row_at self.old place ≡ [] }
@@ -160,11 +160,11 @@ impl RowPool {
         Ok(())
     }
 
-    /// Puts a row that is kept as words in the place of a row without runs.
+    /// Replaces a row without runs with a row kept as words.
     ///
     /// # Errors
     ///
-    /// `AllocError` where memory runs out. The pool is as before then.
+    /// `AllocError` if memory runs out. The pool is then unchanged.
     pub fn put_words(&mut self, place: usize, words: &[u32]) -> Result<(), AllocError>
         requires place { place < length self.old }
         requires empty { row_at self.old place ≡ [] }
@@ -180,12 +180,13 @@ impl RowPool {
         Ok(())
     }
 
-    /// Gives each row without runs the runs that another pool of as many rows has there. No word is copied where no row
-    /// has runs in both.
+    /// Gives each row without runs the runs of the same row of another pool, which must have as
+    /// many rows. No word is copied if no row has runs in both and there are not too many blocks.
     ///
     /// # Errors
     ///
-    /// `AllocError` where memory runs out. The first of the rows may have got their runs then; the others are as before.
+    /// `AllocError` if memory runs out. Some of the first rows may then have their runs; the others
+    /// are unchanged.
     pub fn merge(&mut self, other: RowPool) -> Result<(), AllocError>
         requires { length self.old ≡ length other }
         ensures merged { OnOk result (AreMerged self.old other self.new) }
@@ -199,7 +200,7 @@ impl RowPool {
         }
     }
 
-    /// `merge` with the blocks of the other pool behind those of this one.
+    /// Like `merge`, by adding the blocks of the other pool after those of this one if it can.
     fn take_blocks(&mut self, other: RowPool) -> Result<(), AllocError>
         requires { length self.old ≡ length other }
         ensures merged { OnOk result (AreMerged self.old other self.new) }
@@ -220,7 +221,7 @@ impl RowPool {
         Ok(())
     }
 
-    /// `merge` word by word.
+    /// Like `merge`, by copying word by word.
     fn copy_missing(&mut self, other: &RowPool) -> Result<(), AllocError>
         requires { length self.old ≡ length other.now }
         ensures merged { OnOk result (AreMerged self.old other.now self.new) }
@@ -234,21 +235,21 @@ impl RowPool {
         Ok(())
     }
 
-    /// How many rows there are.
+    /// Returns the number of rows.
     pub fn len(&self) -> usize
         ensures { result ≡ length self.now }
     {
         self.spans.len()
     }
 
-    /// How many runs all rows have.
+    /// Returns the number of runs in all rows.
     pub fn runs(&self) -> u64
         ensures { result ≡ sum_by length self.now }
     {
         count_words(&self.closed, &self.words)
     }
 
-    /// The words of a row, one a run.
+    /// Returns the words of a row, one for each run.
     pub fn row(&self, place: usize) -> &[u32]
         requires { place < length self.now }
         ensures row { map run_of_word result.now ≡ row_at self.now place }
@@ -260,7 +261,7 @@ impl RowPool {
         &block[start..start + usize::from(span.len)]
     }
 
-    /// Gives back memory that the rows do not need.
+    /// Frees memory that the rows do not need.
     pub fn shrink(&mut self)
         ensures { self.new ≡ self.old }
     {
@@ -270,7 +271,7 @@ impl RowPool {
     }
 }
 
-/// The span of the words of a block from a place to before another.
+/// Returns the span of a block's words from `start` up to but not including `end`.
 fn span_from(block: usize, start: usize, end: usize) -> Span
     requires { CanBeSpan block start end }
     ensures block { result.block ≡ block }
@@ -284,7 +285,7 @@ fn span_from(block: usize, start: usize, end: usize) -> Span
     }
 }
 
-/// The words of the block with that number, of which the last one stands apart.
+/// Returns the words of the block with that number. `words` is the last block.
 fn block_at<'a>(closed: &'a [Vec<u32>], words: &'a [u32], number: usize) -> &'a [u32]
     requires { number ≤ length closed.now }
     ensures { result.now ≡ block_numbered (blocks_of (map (λ block. block.items) closed.now) words.now) number }
@@ -296,7 +297,7 @@ fn block_at<'a>(closed: &'a [Vec<u32>], words: &'a [u32], number: usize) -> &'a 
     }
 }
 
-/// How many words the blocks have, of which the last one stands apart.
+/// Returns the number of words in all blocks. `words` is the last block.
 fn count_words(closed: &[Vec<u32>], words: &[u32]) -> u64
     requires { sum_by length (blocks_of (map (λ block. block.items) closed.now) words.now) < start_limit }
     ensures { result ≡ sum_by length (blocks_of (map (λ block. block.items) closed.now) words.now) }
@@ -308,7 +309,7 @@ fn count_words(closed: &[Vec<u32>], words: &[u32]) -> u64
     count
 }
 
-/// Appends a word for each run. After an error the words are as before.
+/// Appends a word for each run. After an error the words are unchanged.
 fn append_runs(words: &mut Vec<u32>, runs: &[Run]) -> Result<(), AllocError>
     requires { CanBeKept runs.now }
     ensures ok { OnOk result (words.new.items ≡ words.old.items ++ map word_of runs.now) }
@@ -324,7 +325,7 @@ fn append_runs(words: &mut Vec<u32>, runs: &[Run]) -> Result<(), AllocError>
     }
 }
 
-/// Appends a word for each run. After an error some of them may stand there.
+/// Appends a word for each run. After an error some of them may remain.
 fn push_runs(words: &mut Vec<u32>, runs: &[Run]) -> Result<(), AllocError>
     requires { CanBeKept runs.now }
     ensures kept { take (length words.old.items) words.new.items ≡ words.old.items }
@@ -336,8 +337,8 @@ fn push_runs(words: &mut Vec<u32>, runs: &[Run]) -> Result<(), AllocError>
     Ok(())
 }
 
-/// Adds the blocks of another pool to those of one, of which the last block of each stands apart. After an error they
-/// are as before.
+/// Adds the blocks of another pool to those of this one. `words` and `last` are the last blocks of
+/// the two. After an error this pool's blocks are unchanged.
 fn append_blocks(
     closed: &mut Vec<Vec<u32>>,
     words: &mut Vec<u32>,
@@ -355,7 +356,7 @@ fn append_blocks(
     Ok(())
 }
 
-/// Whether no place has a row with words in both lists.
+/// Returns whether no place has a row with words in both lists.
 fn are_apart(own: &[Span], others: &[Span]) -> bool
     requires { length own.now ≡ length others.now }
     ensures { IsTrue result ↔ AreApart own.now others.now (length own.now) }
@@ -368,14 +369,14 @@ fn are_apart(own: &[Span], others: &[Span]) -> bool
     true
 }
 
-/// Whether both spans have words.
+/// Returns whether both spans have words.
 fn have_words(own: Span, other: Span) -> bool
     ensures { IsTrue result ↔ HaveWords own other }
 {
     own.len != 0 && other.len != 0
 }
 
-/// Puts the spans of other rows, whose blocks come behind so many, where a row has no words.
+/// Replaces each span without words with the other row's, its block number raised by `blocks`.
 fn fill_spans(own: &mut Vec<Span>, others: &[Span], blocks: u16)
     requires size { length own.old.items ≡ length others.now }
     requires blocks { All (λ span. blocks + span.block < MAX_BLOCKS) others.now }
@@ -386,7 +387,7 @@ fn fill_spans(own: &mut Vec<Span>, others: &[Span], blocks: u16)
     }
 }
 
-/// A span, or where it has no words the other one, whose block comes behind so many.
+/// Returns the span, or if it has no words, the other one with its block number raised by `blocks`.
 fn filled(own: Span, other: Span, blocks: u16) -> Span
     requires { blocks + other.block < MAX_BLOCKS }
     ensures { IsFilled blocks own other result }

@@ -11,7 +11,7 @@ use Rattle.run_pack.specs.Sets.{Has, IsCommon, IsLeastCommon}
 abbrev pub starts_of : List Run → List ℕ
 starts_of runs = map (λ run. run.start) runs
 
--- what stands past the end of a list of runs
+-- the run that is read past the end of a list of runs
 abbrev pub no_run : Run
 no_run = record { start = 0; mv = 0 }
 
@@ -23,11 +23,11 @@ start_at runs k = (slice_index_or runs k no_run).start
 abbrev pub move_at : List Run → ℕ → ℕ
 move_at runs k = (slice_index_or runs k no_run).mv
 
--- where run `k` ends: at the start of the next run, or at the number of places where it is the last
+-- where run `k` ends: at the start of the next run, or at the number of places if it is the last
 abbrev pub end_at : List Run → ℕ → ℕ → ℕ
 end_at runs places k = slice_index_or (starts_of runs) (k + 1) places
 
--- there is a run, the first starts at 0, and the starts rise
+-- there is at least one run, the first starts at 0, and the starts increase
 pub record Rises (runs : List Run) : Type 0 where
   pub some : 0 < length runs
   pub first : start_at runs 0 ≡ 0
@@ -48,7 +48,7 @@ pub record Fits (runs : List Run) (sets : List ℕ) : Type 0 where
   pub row : IsRow runs (length sets)
   pub held : (k : ℕ) → k < length runs → IsCommon sets (start_at runs k) (end_at runs (length sets) k) (move_at runs k)
 
--- a row whose runs have the least of their common moves, and reach so far that one set more would leave no common move
+-- a row in which each run keeps the least common move of its sets, and one more set would leave no common move
 pub record IsTight (runs : List Run) (sets : List ℕ) : Type 0 where
   pub row : IsRow runs (length sets)
   pub least : (k : ℕ) → k < length runs → IsLeastCommon sets (start_at runs k) (end_at runs (length sets) k) (move_at runs k)
@@ -66,26 +66,26 @@ TightRowsHaveFewestRuns = (runs : List Run) (sets : List ℕ) → IsTight runs s
 pub record IsOnlyTight (runs : List Run) (sets : List ℕ) : Type 0 where
   pub only : (other : List Run) → IsTight other sets → other ≡ runs
 
--- sets that have a tight row: at least one and no more than a word can count, and none of them is empty
+-- sets that have a tight row: at least one, no more than a word can count, and none of them empty
 pub record ArePackable (sets : List ℕ) : Type 0 where
   pub some : 0 < length sets
   pub few : length sets ≤ MAX_PLACES
   pub non_empty : All (λ set. 0 < set) sets
 
--- these sets packed: the tight row, and the only one; it holds for them, and no row that does has fewer runs
+-- these sets packed: their only tight row, which holds for them with the fewest runs
 pub record IsPacked (runs : List Run) (sets : List ℕ) : Type 0 where
   pub tight : IsTight runs sets
   pub only : IsOnlyTight runs sets
   pub fits : Fits runs sets
   pub fewest : HasFewest runs sets
 
--- run `k` is the last that starts at the place or before it
+-- run `k` is the last that starts at or before the place
 pub record IsLastUpTo (runs : List Run) (place k : ℕ) : Type 0 where
   pub within : k < length runs
   pub reached : start_at runs k ≤ place
   pub last : (later : ℕ) → k < later → later < length runs → place < start_at runs later
 
--- the move of the last run that starts at the place or before it
+-- the move of the last run that starts at or before the place
 pub record IsMoveFor (runs : List Run) (place move : ℕ) : Type 0 where
   pub run : ℕ
   pub last : IsLastUpTo runs place run
@@ -98,7 +98,7 @@ pub record IsCoveringMove (runs : List Run) (places place move : ℕ) : Type 0 w
   pub covers : Covers runs places run place
   pub is : move ≡ move_at runs run
 
--- the move of the run that covers this place, in a row over any number of places that has it
+-- the move of the run that covers this place, if the runs are a row over any number of places that includes it
 pub record IsCoveringInside (runs : List Run) (place move : ℕ) : Type 0 where
   pub covering : (places : ℕ) → IsRow runs places → place < places → IsCoveringMove runs places place move
 
@@ -106,8 +106,8 @@ pub record IsCoveringInside (runs : List Run) (place move : ℕ) : Type 0 where
 pub record IsInSetOfPlace (runs : List Run) (place move : ℕ) : Type 0 where
   pub held : (sets : List ℕ) → Fits runs sets → place < length sets → Has (slice_index sets place) move
 
--- what a look-up finds for a place: the move of the last run that starts there or before. In each row over places that
--- has this one, that run covers it; and for any sets that the row holds for, the move is in the set of the place.
+-- what a look-up finds for a place: the move of the last run that starts at or before it. That run covers the place,
+-- over any number of places that includes it, and for any sets that the row holds for, the move is in the place's set.
 pub record IsFound (runs : List Run) (place move : ℕ) : Type 0 where
   pub last : IsMoveFor runs place move
   pub covering : IsCoveringInside runs place move
@@ -121,7 +121,7 @@ word_of run = run.start * 8 + run.mv
 abbrev pub run_of_word : ℕ → Run
 run_of_word word = record { start = word / 8; mv = word % 8 }
 
--- behind the words that were there stand the words of the packed row of these sets
+-- the old words are followed by the words of the packed row of these sets
 pub record AppendsRow (old new sets : List ℕ) : Type 0 where
   pub row : List ℕ
   pub behind : new ≡ old ++ row

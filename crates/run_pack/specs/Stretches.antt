@@ -1,10 +1,10 @@
--- What a set does to the run that may still grow: it makes it longer, or the run ends before it. Inside the crate.
+-- What a set does to a run that may still grow: it makes the run longer, or the run ends before it. Inside the crate.
 use Rattle.std.specs.Prelude.{◌≡◌, ℕ, ◌<◌}
 use Rattle.run_pack.specs.declared.Run.{Run}
 use Rattle.run_pack.specs.declared.Stretch.{Stretch}
 use Rattle.run_pack.specs.Sets.{IsShared, ShareNone, IsLeastIn}
 
--- the stretch has one set more, with which it shares a move
+-- the stretch has grown by one set, with which it shares a move
 pub record GrowsBy (old new : Stretch) (set : ℕ) : Type 0 where
   pub start : new.start ≡ old.start
   pub some : 0 < new.common

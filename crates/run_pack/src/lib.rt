@@ -1,9 +1,17 @@
 //! Tight rows of runs: a list of sets of moves packed into the fewest runs, and looked up by binary search.
 //!
-//! A set is a byte that is not 0: number i, from 0 to 7, is in it where bit i is 1. A row keeps one move for each run
-//! of neighbouring places whose sets share that move. Any optimal first move may be kept for a place (Strasser, Harabor
-//! and Botea, "Fast First-Move Queries through Run-Length Encoding", 2014), so `pack` lets each run reach as far as it
-//! can.
+//! A set is a nonzero byte that contains number i, from 0 to 7, if its bit i is 1. A row keeps one
+//! move for each run of neighbouring places whose sets share that move. Any optimal first move may
+//! be kept for a place (Strasser, Harabor and Botea, "Fast First-Move Queries through Run-Length
+//! Encoding", 2014), so `pack` makes each run as long as possible.
+//!
+//! For example, take five sets of moves, where the first two share NE, the next two share SE, and
+//! the last has only S. Written as a test case:
+//!
+//! ```text
+//! pack | 03 06 0C 18 10 | 0 1 2 3 4
+//! 0NE 2SE 4S: NE NE SE SE S
+//! ```
 #![tactic(auto)]
 
 ghost use Rattle.std.specs.Prelude.{◌≡◌, ◌+◌, ◌-◌, ◌*◌, ◌^◌, ◌<◌, ◌≤◌, length, map, take, drop, IfOk, OnOk, OnErr, IfSome, IfNone};
@@ -24,30 +32,31 @@ use std::marker::Brand;
 use std::simd::u8x8;
 use std::sync::ledger::{Blank, Ledger};
 
-/// How many places a row may have at most, so that a run fits into a word: 15 bits for its start and 3 for its move.
+/// The most places a row may have. A run then fits into a word: 15 bits for its start, 3 for its
+/// move.
 pub const MAX_PLACES: u32 = 32768;
 
 /// The set of all eight moves.
 const EVERY_MOVE: u8 = u8::MAX;
 
-/// How many sets are taken at once where they share a move with the sets before them.
+/// How many sets are taken at once if they share a move with the sets before them.
 const AT_ONCE: usize = 8;
 
-/// The most places of a row: so many starts are told apart by the 15 bits of a word.
+/// The most places of a row is the number of starts that 15 bits can tell apart.
 pub fn limit_is_this()
     ensures { MAX_PLACES ≡ 2 ^ 15 }
 {}
 
-/// One run of a row: the place where it starts, and the move that it keeps.
+/// One run of a row: the place where it starts and the move that it keeps.
 ///
-/// It reaches to before the start of the next run, or to the row's last place.
+/// It ends just before the start of the next run, or at the row's last place.
 #[derive(Clone, Copy, Debug, Default, PartialEq, Eq)]
 pub struct Run {
     pub start: u32,
     pub mv: u8,
 }
 
-/// A run that may still grow: where it starts, and the moves that all its sets have.
+/// A run that may still grow: where it starts, and the moves that all its sets share.
 #[derive(Clone, Copy)]
 struct Stretch {
     start: u32,
@@ -55,7 +64,7 @@ struct Stretch {
 }
 
 impl Stretch {
-    /// The stretch with one set more, or `None` where no common move would be left.
+    /// Returns the stretch with one more set, or `None` if no common move would be left.
     fn extended(self, set: u8) -> Option<Stretch>
         ensures start { IfSome result (λ longer. longer.start ≡ self.start) }
         ensures some { IfSome result (λ longer. 0 < longer.common) }
@@ -72,7 +81,7 @@ impl Stretch {
         })
     }
 
-    /// The stretch with all these sets more, or `None` where no common move would be left.
+    /// Returns the stretch with all these sets added, or `None` if no common move would be left.
     #[inline(always)]
     fn extended_by(self, sets: [u8; AT_ONCE]) -> Option<Stretch>
         ensures start { IfSome result (λ longer. longer.start ≡ self.start) }
@@ -82,8 +91,8 @@ impl Stretch {
         self.extended(common_of(sets))
     }
 
-    /// Takes the set of the next place. Where no common move would be left, the stretch begins anew there, and the run
-    /// that it was is given back.
+    /// Takes the set of the next place. If no common move would be left, ends the stretch, starts
+    /// a new one at that place, and returns the run that the old one became.
     #[inline(always)]
     fn take(&mut self, place: usize, set: u8) -> Option<Run>
         requires some { 0 < self.old.common }
@@ -103,7 +112,7 @@ impl Stretch {
         Some(run)
     }
 
-    /// The run that the stretch becomes, with the least of its common moves.
+    /// Returns the run that the stretch becomes, with the least of its common moves.
     fn run(self) -> Run
         requires { 0 < self.common }
         ensures start { result.start ≡ self.start }
@@ -116,7 +125,7 @@ impl Stretch {
     }
 }
 
-/// The moves that all these sets have.
+/// Returns the moves that all these sets share.
 #[inline(always)]
 fn common_of(sets: [u8; AT_ONCE]) -> u8
     ensures { AreShared result EVERY_MOVE sets }
@@ -124,10 +133,10 @@ fn common_of(sets: [u8; AT_ONCE]) -> u8
     u8x8::from_array(sets).reduce_and()
 }
 
-/// The tight row of these sets: the one row in which each run reaches as far as its sets have a common move, and keeps
-/// the least of them. No row that holds for the sets has fewer runs.
+/// Packs these sets into their tight row: the only row in which each run reaches as far as its sets
+/// share a move, and keeps the least of these. No row that holds for the sets has fewer runs.
 ///
-/// The only error is want of memory, which is taken for the result alone.
+/// The only error is out of memory. Memory is allocated only for the result.
 pub fn pack(alloc: Global, sets: &[u8]) -> Result<Vec<Run>, AllocError>
     requires { ArePackable sets.now }
     ensures { IfOk result (λ row. IsPacked row.items sets.now) }
@@ -137,9 +146,9 @@ pub fn pack(alloc: Global, sets: &[u8]) -> Result<Vec<Run>, AllocError>
     Ok(row)
 }
 
-/// Appends the words of the row that `pack` gives, one a run, to these words.
+/// Appends the row that `pack` returns to these words, one word for each run.
 ///
-/// The only error is want of memory. The words are then as before.
+/// The only error is out of memory. The words are then unchanged.
 pub fn append_words(words: &mut Vec<u32>, sets: &[u8]) -> Result<(), AllocError>
     requires { ArePackable sets.now }
     ensures ok { OnOk result (AppendsRow words.old.items words.new.items sets.now) }
@@ -155,8 +164,8 @@ pub fn append_words(words: &mut Vec<u32>, sets: &[u8]) -> Result<(), AllocError>
     }
 }
 
-/// Packs the sets into a row behind what is stored already, once from left to right, and `AT_ONCE` together where all
-/// of them make the stretch longer. After an error a part of the row may stand there.
+/// Appends the packed row of these sets, in one pass from left to right that takes `AT_ONCE` sets
+/// together if all of them make the stretch longer. After an error, part of the row may remain.
 fn fill<S: Stored>(row: &mut Vec<S>, sets: &[u8]) -> Result<(), AllocError>
     requires { ArePackable sets.now }
     ensures kept { take (length row.old.items) row.new.items ≡ row.old.items }
@@ -189,7 +198,7 @@ fn fill<S: Stored>(row: &mut Vec<S>, sets: &[u8]) -> Result<(), AllocError>
     Ok(())
 }
 
-/// The move for a place: that of the last run that starts at the place or before it.
+/// Returns the move for a place: that of the last run that starts at or before the place.
 ///
 /// It takes at most s probes of a row of n runs, where 2^s ≤ 2n + 1. A probe is one read of a run.
 pub fn find<L: Ledger>(runs: &[Run], place: u32, steps: &mut Steps<L>) -> u8
@@ -201,7 +210,7 @@ pub fn find<L: Ledger>(runs: &[Run], place: u32, steps: &mut Steps<L>) -> u8
     search(&Row::new(runs), place, steps)
 }
 
-/// `find` in a row that is kept as words, with the same answer and the same bound on probes.
+/// Like `find`, for a row kept as words, with the same answer and the same bound on probes.
 pub fn find_word<L: Ledger>(words: &[u32], place: u32, steps: &mut Steps<L>) -> u8
     requires { Rises (map run_of_word words.now) }
     ensures found { IsFound (map run_of_word words.now) place result }
@@ -212,7 +221,7 @@ pub fn find_word<L: Ledger>(words: &[u32], place: u32, steps: &mut Steps<L>) -> 
     search(&Row::new(words), place, steps)
 }
 
-/// `find` for a caller that counts no steps.
+/// Like `find`, for a caller that does not count steps.
 pub fn find_move(runs: &[Run], place: u32) -> u8
     requires { Rises runs.now }
     ensures found { IsFound runs.now place result }
@@ -220,7 +229,7 @@ pub fn find_move(runs: &[Run], place: u32) -> u8
     uncounted::<Run, Brand>(&Row::new(runs), place, Blank::new(1))
 }
 
-/// `find_word` for a caller that counts no steps.
+/// Like `find_word`, for a caller that does not count steps.
 pub fn find_word_move(words: &[u32], place: u32) -> u8
     requires { Rises (map run_of_word words.now) }
     ensures found { IsFound (map run_of_word words.now) place result }
@@ -229,7 +238,7 @@ pub fn find_word_move(words: &[u32], place: u32) -> u8
     uncounted::<u32, Brand>(&Row::new(words), place, Blank::new(1))
 }
 
-/// The search with a count of its own.
+/// Searches with a count of its own.
 fn uncounted<S: Stored, L: Ledger>(row: &Row<S>, place: u32, blank: Blank) -> u8
     requires name { blank.name ≡ L.name }
     requires parts { blank.parts ≡ L.parts }
@@ -241,14 +250,14 @@ fn uncounted<S: Stored, L: Ledger>(row: &Row<S>, place: u32, blank: Blank) -> u8
     search(row, place, &mut steps)
 }
 
-/// Binary search for the last run that starts at the place or before it.
+/// Returns the move of the last run that starts at or before the place, by binary search.
 fn search<S: Stored, L: Ledger>(row: &Row<S>, place: u32, steps: &mut Steps<L>) -> u8
     requires { Rises row.now }
     ensures found { IsFound row.now place result }
     ensures cost { 2 ^ (steps.new - steps.old) ≤ 2 * length row.now + 1 }
     ensures counted { steps.old ≤ steps.new }
 {
-    // The first run starts at 0, so it or a later one takes the place of this.
+    // The first run starts at 0, so it or a later one replaces this.
     let mut found = S::keep(Run { start: 0, mv: 0 });
     let mut low = 0;
     let mut high = row.len();
@@ -265,7 +274,7 @@ fn search<S: Stored, L: Ledger>(row: &Row<S>, place: u32, steps: &mut Steps<L>) 
     found.run().mv
 }
 
-/// A run as one word, its start times 8 plus its move.
+/// Returns a run as one word: its start times 8, plus its move.
 pub fn word(run: Run) -> u32
     requires start { run.start < MAX_PLACES }
     requires number { run.mv ≤ 7 }
@@ -275,7 +284,7 @@ pub fn word(run: Run) -> u32
     run.start * 8 + u32::from(run.mv)
 }
 
-/// The word of a run that starts at a place and keeps the least of these moves.
+/// Returns the word of the run that starts at a place and keeps the least of these moves.
 pub fn least_word(start: u32, moves: u8) -> u32
     requires start { start < MAX_PLACES }
     requires some { 0 < moves }
@@ -286,7 +295,7 @@ pub fn least_word(start: u32, moves: u8) -> u32
     word(Stretch { start, common }.run())
 }
 
-/// The run that a word stands for.
+/// Returns the run that a word stands for.
 pub fn run_of(word: u32) -> Run
     ensures { result ≡ run_of_word word }
 {

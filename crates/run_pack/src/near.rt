@@ -5,8 +5,8 @@ ghost use Rattle.run_pack.specs.Runs.{IsFound, IsLastUpTo, Rises, run_of_word, s
 
 use crate::run_of;
 
-/// The same move as that of `find_word`, sought run by run from a guess on, which is the number of the run that was
-/// found afterwards. Any guess will do, and the nearer it is the fewer runs are read.
+/// Returns the same move as `find_word`, searching run by run from a guess. The guess becomes the
+/// number of the run found. Any guess will do, and the nearer it is, the fewer runs are read.
 pub fn find_word_near(words: &[u32], place: u32, guess: &mut usize) -> u8
     requires { Rises (map run_of_word words.now) }
     ensures found { IsFound (map run_of_word words.now) place result }
@@ -19,7 +19,7 @@ pub fn find_word_near(words: &[u32], place: u32, guess: &mut usize) -> u8
     run_of(words[run]).mv
 }
 
-/// From a run on to one behind which the next starts after the place.
+/// Goes forward from a run until the next one starts after the place.
 #[inline(always)]
 fn go_forth(words: &[u32], place: u32, from: usize) -> usize
     requires { from < length words.now }
@@ -35,7 +35,7 @@ fn go_forth(words: &[u32], place: u32, from: usize) -> usize
     run
 }
 
-/// From there back to the last run that starts at the place or before it.
+/// Goes back from there to the last run that starts at or before the place.
 #[inline(always)]
 fn go_back(words: &[u32], place: u32, from: usize) -> usize
     requires rises { Rises (map run_of_word words.now) }
@@ -51,8 +51,8 @@ fn go_back(words: &[u32], place: u32, from: usize) -> usize
     run
 }
 
-/// Whether the run of a word starts at the place or before it: no such word is above that of the place itself with the
-/// last move.
+/// Returns whether the run of a word starts at or before the place, which it does if the word is at
+/// most that of a run at the place with the last move.
 #[inline(always)]
 fn starts_by(word: u32, place: u32) -> bool
     ensures { IsTrue result ↔ (run_of_word word).start ≤ place }

@@ -7,7 +7,7 @@ use crate::{MAX_PLACES, Run, run_of, word};
 use std::marker::Model;
 use std::sync::ledger::Ledger;
 
-/// What a row may be kept as: the runs themselves, or a word for each.
+/// How a row may be kept: as the runs themselves, or as a word for each.
 pub trait Stored: Copy {
     ghost use Rattle.run_pack.specs.declared.Run.{Run};
 
@@ -19,7 +19,7 @@ pub trait Stored: Copy {
         requires number { run.mv ≤ 7 }
         ensures { run_of result ≡ run };
 
-    /// The run that is kept so.
+    /// Returns the run that is kept.
     fn run(self) -> Run
         ensures { result ≡ run_of self };
 }
@@ -68,21 +68,21 @@ impl<'a, S: Stored> Model for Row<'a, S> {
 impl<'a, S: Stored> Row<'a, S> {
     ghost use Rattle.std.specs.Prelude.{map};
 
-    /// The row that is kept in this slice.
+    /// Returns the row kept in this slice.
     pub fn new(stored: &'a [S]) -> Self
         ensures { result ≡ map S.run_of stored.now }
     {
         Row { stored }
     }
 
-    /// How many runs the row has.
+    /// Returns the number of runs in the row.
     pub fn len(&self) -> usize
         ensures { result ≡ length self.now }
     {
         self.stored.len()
     }
 
-    /// One probe: reads the run at this index, and counts a step.
+    /// Makes one probe: reads the run at this index and counts a step.
     pub fn probe<L: Ledger>(&self, index: usize, steps: &mut Steps<L>) -> S
         requires { index < length self.now }
         ensures read { S.run_of result ≡ slice_index_or self.now index no_run }

@@ -1,12 +1,12 @@
-//! A count of steps that exists for contracts alone: it takes no bytes and no time.
+//! A count of steps that exists only for contracts: it takes no bytes and no time.
 ghost use Rattle.std.specs.Prelude.{◌≡◌, ℕ, ◌+◌, ◌<◌};
 
 use std::marker::Model;
 use std::sync::ledger::{Blank, Book, Ledger, Share};
 
-/// How many steps were taken. Only `tick` changes it, by one.
+/// The number of steps taken. Only `tick` changes it, by one.
 ///
-/// What a step stands for is said by the function that ticks, as a probe of a row in `find`.
+/// The function that ticks says what a step is: in `find`, a probe of a row.
 #[derive(Drop)]
 pub struct Steps<L: Ledger> {
     book: Book<L>,
@@ -22,7 +22,7 @@ impl<L: Ledger> Model for Steps<L> {
 }
 
 impl<L: Ledger> Steps<L> {
-    /// A count that begins at 0.
+    /// Returns a count that begins at 0.
     pub fn new(blank: Blank) -> Self
         requires name { blank.name ≡ L.name }
         requires parts { blank.parts ≡ L.parts }

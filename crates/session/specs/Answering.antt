@@ -22,15 +22,15 @@ abbrev pub ends_of : Request → Reply → Option PathAt
 ends_of (request.Query start goal) (reply.Path version cost) = Some (record { start = start; goal = goal })
 ends_of _ _ = None
 
--- The request is served by that reply. Where it is a path, its ends are told, and the moves behind it are the walk of the held
--- version between them, and else there are none.
+-- The request is served by that reply. Where it is a path, its ends are told, and the moves after it are the walk of
+-- the held version between them, and else there are none.
 pub record Answers (old : AtDesk) (asked : Request) (answered : Answered) (new : AtDesk) : Type 0 where
   pub moves : List Move
   pub serves : ServesRequest old.place asked (stands old) answered.reply moves (stands new)
   pub path : answered.path ≡ ends_of asked answered.reply
   pub walk : MatchOption answered.path (moves ≡ []) (λ at. IsWalk new.version.map new.version.comps at.start at.goal moves)
 
--- a request at a desk is served by that reply, with no moves behind it
+-- a request at a desk is served by that reply, with no moves after it
 abbrev pub ServesAt : AtDesk → Request → Reply → AtDesk → Type 0
 ServesAt old asked told new = Serves old.place asked (stands old) told [] (stands new)
 
@@ -41,8 +41,8 @@ pub record Freshens (old : AtDesk) (fresh : Bool) (new : AtDesk) : Type 0 where
   pub published : IsTrue fresh → new.version.prefix ≡ published_prefix new.seen
   pub newer : IsFalse fresh → (new.version.prefix ≡ old.version.prefix) × (old.version.prefix < published_prefix new.seen)
 
--- The reply tells the answer of a version. Where it is a path, its ends are told, and the moves behind it are the walk between
--- them.
+-- The reply tells the answer of a version. Where it is a path, its ends are told, and the moves after it are the walk
+-- between them.
 pub record AnswersBy (version : Versioned) (start goal : Cell) (answered : Answered) : Type 0 where
   pub answer : Answer
   pub moves : List Move
@@ -53,13 +53,13 @@ pub record AnswersBy (version : Versioned) (start goal : Cell) (answered : Answe
 
 -- ---- what is written of the moves
 
--- the request is served by that reply, and the moves behind it have these bytes
+-- the request is served by that reply, and the moves after it have these bytes
 pub record Tells (old : AtDesk) (asked : Request) (told : Reply) (bytes : List ℕ) (new : AtDesk) : Type 0 where
   pub moves : List Move
   pub bytes_are : bytes ≡ map number_of moves
   pub serves : ServesRequest old.place asked (stands old) told moves (stands new)
 
--- the reply tells the answer of a version, and the moves behind it have these bytes
+-- the reply tells the answer of a version, and the moves after it have these bytes
 pub record TellsBy (version : Versioned) (start goal : Cell) (told : Reply) (bytes : List ℕ) : Type 0 where
   pub answer : Answer
   pub moves : List Move

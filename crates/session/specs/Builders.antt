@@ -26,11 +26,12 @@ count_reply totals _ = totals
 abbrev pub totals_of : List Reply → BuildTotals
 totals_of replies = fold count_reply no_totals replies
 
--- a count of rings after so many answers
+-- a count of rings after this many answers
 abbrev pub rings_after : List Reply → ℕ → ℕ
 rings_after replies before = fold (λ count _. one_more count) before replies
 
--- builds one after the other, each answered so; others may add entries between them and behind the last
+-- builds one after the other, each answered so; others may add entries between them and after the
+-- last
 abbrev pub BuildRun : Place → Standing → List Reply → Standing → Type 0
 BuildRun place old [] new = Rests place old new
 BuildRun place old (told ∷ rest) new =

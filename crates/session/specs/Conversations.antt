@@ -49,13 +49,13 @@ abbrev pub ServesFrame : Place → Proto → Exchange → Standing → Standing 
 ServesFrame place proto exchange old new =
     ServesSpelled place proto exchange old new ⊎ TellsMalformed proto exchange old new
 
--- the protocol behind a frame: the second one where the first frame is a Hello, and where it is another one the first
+-- the protocol after a frame: the second one where the first frame is a Hello, and where it is another one the first
 abbrev pub protocol_after : Proto → List ℕ → Proto
 protocol_after Start frame = cond (bytes_eq frame (request_bytes request.Hello)) Two One
 protocol_after One frame = One
 protocol_after Two frame = Two
 
--- the protocol behind the frames of a session
+-- the protocol after the frames of a session
 abbrev pub protocol_behind : List Exchange → Proto
 protocol_behind exchanges = fold (λ proto (exchange : Exchange). protocol_after proto exchange.frame) Start exchanges
 
@@ -69,8 +69,8 @@ pub record Rests (place : Place) (old new : Standing) : Type 0 where
   pub holds : HoldsSince old new
   pub looks : NoFewer old.looks new.looks
 
--- A SERVED RUN: one exchange after the other, through points of one history, each frame within the limit of the protocol
--- that stands there, and read at it; others may add entries behind the last
+-- A SERVED RUN: one exchange after the other, through points of one history, each frame within the limit of the
+-- protocol that stands there, and read at it; others may add entries after the last
 abbrev pub ServesRun : Place → Proto → Standing → List Exchange → Standing → Type 0
 ServesRun place proto old [] new = Rests place old new
 ServesRun place proto old (exchange ∷ rest) new =
@@ -79,7 +79,7 @@ ServesRun place proto old (exchange ∷ rest) new =
 
 -- ---- bytes
 
--- the frames as they came in, each behind its length
+-- the frames as they came in, each after its length
 abbrev pub bytes_taken : List Exchange → List ℕ
 bytes_taken exchanges = flat_map (λ (exchange : Exchange). sent_request exchange.frame) exchanges
 
@@ -96,8 +96,8 @@ pub record Passes (before after : Option Talk) (taken sent : List ℕ) : Type 0 
 abbrev pub HasNone : Option Talk → Type 0
 HasNone told = IfSome told (λ talk. talk.left ≡ [])
 
--- a part of a frame within the limit, which wants so many bytes: one byte of its length, or its length and fewer bytes
--- than that says
+-- a part of a frame within the limit, which needs this many bytes: one byte of its length, or its length and fewer
+-- bytes than that says
 abbrev pub IsPart : ℕ → List ℕ → ℕ → Type 0
 IsPart limit last want = ((length last ≡ 1) × (want ≡ 2))
     ⊎ ((size : ℕ) × (size ≤ limit) × (take 2 last ≡ big_bytes 2 size) × (2 ≤ length last)
@@ -107,7 +107,7 @@ IsPart limit last want = ((length last ≡ 1) × (want ≡ 2))
 abbrev pub IsBegun : ℕ → List ℕ → Type 0
 IsBegun limit last = (last ≡ []) ⊎ ((want : ℕ) × IsPart limit last want)
 
--- the bytes of a text but for its last ones: at least one is missing
+-- the bytes of a text except for its last ones: at least one is missing
 pub record IsProperPrefix (text part : List ℕ) : Type 0 where
   pub rest : List ℕ
   pub is : text ≡ part ++ rest
@@ -123,27 +123,27 @@ IsBye exchange = exchange.frame ≡ request_bytes request.Bye
 abbrev pub IsStop : Exchange → Type 0
 IsStop exchange = (exchange.frame ≡ request_bytes request.Stop) × (exchange.told ≡ reply.Done)
 
--- the session goes on behind it
+-- the session goes on after it
 pub record GoesOn (exchange : Exchange) : Type 0 where
   pub no_bye : IsBye exchange → ⊥
   pub no_stop : IsStop exchange → ⊥
 
--- the session goes on behind all of these, and further frames may be taken
+-- the session goes on after all of these, and further frames may be taken
 pub record GoOn (exchanges : List Exchange) : Type 0 where
   pub all : All GoesOn exchanges
   pub fewer : length exchanges < MAX_REQUESTS
 
--- these exchanges end with one, and the session went on behind all others
+-- these exchanges end with one, and the session went on after all others
 pub record EndsWith (exchanges front : List Exchange) (end : Exchange) : Type 0 where
   pub is : exchanges ≡ front ++ end ∷ []
   pub all : All GoesOn front
 
--- all replies were sent, and nothing was taken behind the frames
+-- all replies were sent, and nothing was taken after the frames
 pub record IsEven (exchanges : List Exchange) (last sent : List ℕ) : Type 0 where
   pub none : last ≡ []
   pub all : sent ≡ bytes_sent exchanges
 
--- the session ends behind a Bye
+-- the session ends after a Bye
 pub record EndsByBye (exchanges : List Exchange) (last sent : List ℕ) : Type 0 where
   pub front : List Exchange
   pub end : Exchange
@@ -151,7 +151,7 @@ pub record EndsByBye (exchanges : List Exchange) (last sent : List ℕ) : Type 0
   pub bye : IsBye end
   pub even : IsEven exchanges last sent
 
--- the session ends behind a Stop that was done
+-- the session ends after a Stop that was done
 pub record EndsByStop (exchanges : List Exchange) (last sent : List ℕ) : Type 0 where
   pub front : List Exchange
   pub end : Exchange
@@ -159,8 +159,8 @@ pub record EndsByStop (exchanges : List Exchange) (last sent : List ℕ) : Type 
   pub stop : IsStop end
   pub even : IsEven exchanges last sent
 
--- The input ended inside a frame, of which these bytes were taken; so many are held and so many wanted, both with those of
--- the length.
+-- The input ended inside a frame, of which these bytes were taken; this many are held and this many needed, both with
+-- those of the length.
 pub record EndsTorn (exchanges : List Exchange) (last sent : List ℕ) (after : Option Talk)
     (have want : ℕ) : Type 0 where
   pub on : GoOn exchanges
@@ -169,7 +169,7 @@ pub record EndsTorn (exchanges : List Exchange) (last sent : List ℕ) (after : 
   pub none : HasNone after
   pub all : sent ≡ bytes_sent exchanges
 
--- a length above the limit of the protocol was taken, and nothing behind it
+-- a length above the limit of the protocol was taken, and nothing after it
 pub record EndsTooLong (exchanges : List Exchange) (last sent : List ℕ) (size : ℕ) : Type 0 where
   pub on : GoOn exchanges
   pub above : limit_of (protocol_behind exchanges) < size
@@ -193,7 +193,7 @@ pub record EndsUnsent (exchanges : List Exchange) (last sent : List ℕ) : Type 
   pub sent_is : sent ≡ bytes_sent front ++ part
   pub unsent : IsProperPrefix (sent_reply end.told end.moves) part
 
--- HOW A SESSION ENDS behind these exchanges: `last` was taken behind the whole frames, and these bytes were sent
+-- HOW A SESSION ENDS after these exchanges: `last` was taken after the whole frames, and these bytes were sent
 abbrev pub EndsSo : List Exchange → List ℕ → List ℕ → Option Talk → Result Ended SessionFault → Type 0
 EndsSo exchanges last sent after (Ok ended.Spent) =
     All GoesOn exchanges × (length exchanges ≡ MAX_REQUESTS) × IsEven exchanges last sent

@@ -20,7 +20,7 @@ use Rattle.session.specs.Standing.{AtDesk, Enters, Meanwhile, Place, Raises}
 abbrev pub MayBeEntered : Place → List Entry → Edit → Type 0
 MayBeEntered place seen edit = MayBeAccepted (map_now place.start seen) (accepted_count seen) edit
 
--- the room is used up, so a further entry may want memory
+-- the room is used up, so a further entry may need memory
 abbrev pub IsRoomUsed : Place → List Entry → Type 0
 IsRoomUsed place seen = place.room ≤ length seen
 
@@ -29,7 +29,7 @@ pub record IsCall (old new : AtDesk) : Type 0 where
   pub place : new.place ≡ old.place
   pub looks : Raises old.looks new.looks
 
--- A call behind which the version is held that was held before.
+-- A call after which the version is held that was held before.
 pub record KeepsVersion (old new : AtDesk) : Type 0 where
   pub place : new.place ≡ old.place
   pub version : new.version ≡ old.version
@@ -67,7 +67,7 @@ IsNotEntered old edit new (Refused why) =
     AddsNone old new × IsRefusal (map_now old.place.start new.seen) (accepted_count new.seen) edit why
 IsNotEntered old edit new NoMemory = AddsNone old new × MayBeEntered old.place new.seen edit × IsRoomUsed old.place new.seen
 
--- the job has the accepted edits past so many known ones, and what was seen is legal
+-- the job has the accepted edits past this many known ones, and what was seen is legal
 pub record IsJobAt (place : Place) (seen : List Entry) (known : ℕ) (job : Job) : Type 0 where
   pub legal : IsLegal place.start seen
   pub prefix : job.prefix ≡ accepted_count seen
@@ -101,7 +101,7 @@ pub record HaltsFirst (place : Place) (before after : List Entry) : Type 0 where
 abbrev pub IsHalted : AtDesk → AtDesk → Bool → Type 0
 IsHalted old new first = MatchBool first (HaltsFirst old.place old.seen new.seen) (AddsNone old new × IsHalting new.seen)
 
--- no halt was entered for want of memory
+-- no halt was entered, since memory ran out
 pub record IsNotHalted (old new : AtDesk) : Type 0 where
   pub others : AddsNone old new
   pub none : IsHalting new.seen → ⊥

@@ -53,7 +53,8 @@ pub record MovesOn (silent : Place → Type 0) (place : Place) (old new : Standi
   pub holds : HoldsSince old new
   pub quiet : silent place → OthersAdd place.pass old.seen new.seen
 
--- What is so of a talk that was held at a place, by how the pass stood before and behind it, differs from trade to trade.
+-- What is so of a talk that was held at a place, by how the pass stood before and after it, differs from trade to
+-- trade.
 module _ (held : Place → Standing → EndedTalk → Standing → Type 0) where
   -- the link tells its talk, which was held so
   pub record HoldsTalk (place : Place) (from : Standing) (link : AtLink) (to : Standing) : Type 0 where
@@ -61,8 +62,8 @@ module _ (held : Place → Standing → EndedTalk → Standing → Type 0) where
     pub told_is : link.talk ≡ Some talk
     pub so : held place from (talk_over link talk) to
 
-  -- THE TALKS LEAD from one standing to another, through points of one history, one after the other, with a look behind each;
-  -- others may add entries between them and behind the last
+  -- THE TALKS LEAD from one standing to another, through points of one history, one after the other, with a look after
+  -- each; others may add entries between them and after the last
   abbrev pub Lead : Place → Standing → List EndedTalk → Standing → Type 0
   Lead place old [] new = Rests place old new
   Lead place old (talk ∷ rest) new =

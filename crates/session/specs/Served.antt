@@ -31,7 +31,7 @@ why_of (Outside Goal) = record { blocked = false; goal = true }
 why_of (Blocked Start) = record { blocked = true; goal = false }
 why_of (Blocked Goal) = record { blocked = true; goal = true }
 
--- the reply and the moves behind it tell that answer of the version with that prefix
+-- the reply and the moves after it tell that answer of the version with that prefix
 abbrev pub TellsAnswer : ℕ → Answer → Reply → List Move → Type 0
 TellsAnswer version (refused why) told moves = (told ≡ reply.Refused version (why_of why)) × (moves ≡ [])
 TellsAnswer version unreachable told moves = (told ≡ reply.Unreachable version) × (moves ≡ [])
@@ -150,8 +150,8 @@ LooksFor request.Bye old new = Unit {0}
 LooksFor request.Hello old new = Unit {0}
 LooksFor _ old new = Raises old.looks new.looks
 
--- THE SERVED STEP: a request is answered so, the version that is held then is the one from before or was published since, on
--- a board of one's own it is the published one, and the looks rise
+-- THE SERVED STEP: a request is answered so, the version that is held then is the one from before or was published
+-- since, on a board of its own it is the published one, and the looks rise
 pub record ServesRequest (place : Place) (asked : Request) (old : Standing) (told : Reply) (moves : List Move)
     (new : Standing) : Type 0 where
   pub served : Serves place asked old told moves new
@@ -159,7 +159,7 @@ pub record ServesRequest (place : Place) (asked : Request) (old : Standing) (tol
   pub own : HoldsItsOwn place new
   pub looks : LooksFor asked old new
 
--- no query wants memory on a board of one's own
+-- on a board of its own no query needs memory
 abbrev pub OwnQueriesAreAnswered : Type 0
 OwnQueriesAreAnswered =
     (place : Place) (start goal : Cell) (old new : Standing) (told : Reply) (moves : List Move) → place.shared ≡ None

@@ -45,7 +45,7 @@ pub record AtDesk : Type 0 where
 abbrev pub stands : AtDesk → Standing
 stands desk = standing desk.seen desk.version desk.looks
 
--- Meanwhile others may have added entries, where passes share the board. On a board of one's own nothing was added.
+-- Meanwhile others may have added entries, where passes share the board. On a board of its own nothing was added.
 pub record Meanwhile (place : Place) (old new : List Entry) : Type 0 where
   pub others : OthersAdd place.pass old new
   pub alone : place.shared ≡ None → new ≡ old
@@ -81,7 +81,7 @@ IsHeldSince before old after new = (new ≡ old) ⊎ WasPublished before after n
 abbrev pub HoldsSince : Standing → Standing → Type 0
 HoldsSince old new = IsHeldSince old.seen old.held new.seen new.held
 
--- on a board of one's own the version that is held is the published one
+-- on a board of its own the version that is held is the published one
 abbrev pub HoldsItsOwn : Place → Standing → Type 0
 HoldsItsOwn place now = place.shared ≡ None → now.held ≡ published_prefix now.seen
 

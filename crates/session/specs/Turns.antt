@@ -30,14 +30,14 @@ pub record Takes (before after : Option Talk) (taken : List ℕ) : Type 0 where
   pub front : IfSome before (λ talk. StartsWith talk.left taken)
   pub after_is : after ≡ with_taken before (length taken)
 
--- bytes that were taken are held behind those that were held
+-- bytes that were taken are held after those that were held
 pub record HoldsMore (before after : Option Talk) (held now : List ℕ) : Type 0 where
   pub more : List ℕ
   pub grown : now ≡ held ++ more
   pub takes : Takes before after more
 
--- A frame of so many bytes, within the limit, is held behind its length, and at most the length of the next one behind
--- it; nothing where no further frame may be taken, and behind a frame of one byte.
+-- A frame of this many bytes, within the limit, is held after its length, and at most the length of the next one after
+-- it; nothing where no further frame may be taken, and after a frame of one byte.
 pub record HoldsFrame (limit : ℕ) (ahead : Bool) (held : List ℕ) (size : ℕ) : Type 0 where
   pub fits : size ≤ limit
   pub short : size ≤ MAX_REQUEST
@@ -62,12 +62,12 @@ IsNext limit ahead held now (Err why) = StopsSo limit held now why
 
 -- ---- what a frame gets
 
--- the protocol behind the first request
+-- the protocol after the first request
 abbrev pub protocol_of : Request → Proto
 protocol_of request.Hello = Two
 protocol_of _ = One
 
--- how a session ends behind a request with this reply
+-- how a session ends after a request with this reply
 abbrev pub EndsBy : Request → Reply → Option Ended → Type 0
 EndsBy asked told (Some ended.Bye) = asked ≡ request.Bye
 EndsBy asked told (Some ended.Stop) = (asked ≡ request.Stop) × (told ≡ reply.Done)
@@ -75,7 +75,7 @@ EndsBy asked told (Some ended.Quiet) = ⊥
 EndsBy asked told (Some ended.Spent) = ⊥
 EndsBy asked told None = (asked ≡ request.Bye → ⊥) × ((asked ≡ request.Stop) → (told ≡ reply.Done) → ⊥)
 
--- how it ends behind an exchange
+-- how it ends after an exchange
 abbrev pub EndsBehind : Exchange → Option Ended → Type 0
 EndsBehind exchange (Some ended.Bye) = IsBye exchange
 EndsBehind exchange (Some ended.Stop) = IsStop exchange
@@ -83,7 +83,7 @@ EndsBehind exchange (Some ended.Quiet) = ⊥
 EndsBehind exchange (Some ended.Spent) = ⊥
 EndsBehind exchange None = GoesOn exchange
 
--- the frame is answered so, and the moves behind the reply have these bytes
+-- the frame is answered so, and the moves after the reply have these bytes
 pub record AnswersSo (old : AtDesk) (proto : Proto) (frame : List ℕ) (told : Reply) (bytes : List ℕ)
     (ended : Option Ended) (new : AtDesk) : Type 0 where
   pub moves : List Move
@@ -126,7 +126,7 @@ pub record Exchanges (place : Place) (exchange : Exchange) (old : Point) (then :
   pub takes : Takes old.talk then more
   pub cut : old.held ++ more ≡ sent_request exchange.frame ++ new.held
 
--- what is held behind a frame: at most the length of the next one, and nothing where none may be taken
+-- what is held after a frame: at most the length of the next one, and nothing where none may be taken
 abbrev pub LeavesSo : Bool → List ℕ → Option Ended → Type 0
 LeavesSo ahead now None = (length now ≤ 2) × (IsFalse ahead → now ≡ [])
 LeavesSo ahead now (Some _) = now ≡ []

@@ -1,4 +1,4 @@
-//! One request, and what it gets.
+//! One request and its answer.
 
 ghost use Rattle.std.specs.Prelude.{◌≡◌, ◌<◌, ◌≤◌, None};
 ghost use Rattle.build_pool.specs.declared.TheConstants.{MAX_WORKERS};
@@ -31,17 +31,17 @@ pub struct PathAt {
     pub goal: Cell,
 }
 
-/// What a request gets.
+/// The answer to a request.
 #[derive(Clone, Copy, Debug, PartialEq, Eq)]
 pub struct Answered {
     /// The reply.
     pub reply: Reply,
-    /// The ends of the path whose moves stand behind the reply; the desk holds the version that has it.
+    /// The ends of the path whose moves follow the reply. The desk holds the version of the path.
     pub path: Option<PathAt>,
 }
 
 impl Answered {
-    /// A reply that is no path.
+    /// Returns an answer that is not a path.
     pub(crate) fn of(reply: Reply) -> Answered
         ensures reply { result.reply ≡ reply }
         ensures path { result.path ≡ None }
@@ -50,7 +50,7 @@ impl Answered {
     }
 }
 
-/// Answers a request at a desk. It takes memory for a change, a build and a stop alone.
+/// Answers a request at a desk. Only a change, a build and a stop take memory.
 pub fn answer<K: Desk, R: Threads + Wait + Sync, G: Gate>(
     rt: &R,
     alloc: Global,
@@ -88,7 +88,7 @@ pub fn answer<K: Desk, R: Threads + Wait + Sync, G: Gate>(
     }
 }
 
-/// A reply that is no path. What a board of one's own holds is known from here.
+/// Returns an answer that is not a path. It also makes known what a board of its own holds.
 pub(crate) fn told_at<K: Desk>(desk: &K, reply: Reply) -> Answered
     ensures reply { result.reply ≡ reply }
     ensures path { result.path ≡ None }
@@ -109,7 +109,7 @@ fn answer_query<K: Desk, R: Wait>(rt: &R, desk: &mut K, start: Cell, goal: Cell)
     answer_from(desk.held(), start, goal)
 }
 
-/// Whether the published version is held, after a look where that is not known at no cost.
+/// Returns whether the published version is held, after a look unless that is known without one.
 pub(crate) fn holds_published<K: Desk, R: Wait>(rt: &R, desk: &mut K) -> bool
     ensures called { IsCall (K.at desk.old) (K.at desk.new) }
     ensures freshens { Freshens (K.at desk.old) result (K.at desk.new) }
@@ -120,11 +120,11 @@ pub(crate) fn holds_published<K: Desk, R: Wait>(rt: &R, desk: &mut K) -> bool
     desk.look(rt).held
 }
 
-/// The answer of a version.
+/// Returns the answer of a version.
 fn answer_from(version: &Version, start: Cell, goal: Cell) -> Answered
     ensures { AnswersBy version.now start goal result }
 {
-    // That it is a version is known from here.
+    // From here on, it is known to be a version.
     version.grid();
     let prefix = version.prefix();
     match measure(version, start, goal) {
@@ -143,7 +143,7 @@ fn answer_from(version: &Version, start: Cell, goal: Cell) -> Answered
     }
 }
 
-/// Why a query is refused, as a reply tells it.
+/// Returns why a query is refused, in the form of a reply.
 pub(crate) fn why_of(why: QueryRefusal) -> QueryWhy
     ensures { result ≡ why_of why }
 {
@@ -171,7 +171,7 @@ fn answer_change<K: Desk, R: Wait>(rt: &R, desk: &mut K, edit: Edit) -> Reply
     }
 }
 
-/// Tells the state of the board.
+/// Returns the state of the board.
 fn answer_status<K: Desk, R: Wait>(rt: &R, desk: &mut K) -> Reply
     ensures called { IsCall (K.at desk.old) (K.at desk.new) }
     ensures holds { HoldsSince (stands (K.at desk.old)) (stands (K.at desk.new)) }

@@ -1,4 +1,4 @@
-//! A board that is served at its doors, with a builder beside them.
+//! A board that is served at its doors while a builder builds.
 
 ghost use Rattle.std.specs.Prelude.{◌≡◌, ◌<◌, ◌≤◌, ◌+◌, [], false, true, All, IfErr, IfOk, OnErr, OnOk, length, vec_capacity};
 ghost use Rattle.build_pool.specs.declared.TheConstants.{MAX_WORKERS};
@@ -40,14 +40,14 @@ pub struct Served<D: Door> {
     pub failed: bool,
 }
 
-/// There was no memory for it. The doors come back.
+/// Memory ran out. The doors are returned.
 #[derive(Drop)]
 pub struct ServeRefused<D: Door> {
     /// The doors, as they were.
     pub doors: Vec<D>,
 }
 
-/// What comes back before the board is closed.
+/// What is returned before the board is closed.
 #[derive(Drop)]
 struct Parted<D: Door> {
     doors: Vec<D>,
@@ -56,16 +56,16 @@ struct Parted<D: Door> {
     failed: bool,
 }
 
-/// Serves a board at its doors, side by side, each by a pass of its own, and builds at each ring of the ear, by one
-/// pass more. It ends when the loops at all doors have ended: the bell is shut then, and the builder ends. All memory
-/// but that of edits, builds and halts is taken before the first knock.
+/// Serves a board at its doors, in parallel, each by a pass of its own, and builds at each ring of the ear by one more
+/// pass. It ends when the loops at all doors have ended: the bell is shut then, and the builder ends. Memory is taken
+/// before the first knock, except for edits, builds and halts.
 ///
-/// That the passes look at the board itself, and not at an older state of it, is no part of the contract: it is seen by
-/// review and by cases. What each loop does at its pass is proved (`door_loop`, `build_loop`).
+/// The contract does not say that the passes look at the current board and not at an older state of it: review and
+/// cases show that. What each loop does at its pass is proved (`door_loop`, `build_loop`).
 ///
 /// # Errors
 ///
-/// There was no memory. The doors come back, nothing was heard at the ear, and the board is dropped.
+/// Memory ran out. The doors are returned, nothing was heard at the ear, and the board is dropped.
 pub fn serve_board<D: Door, B: Bell, E: Ear, R: Threads + Wait + Sync, G: Gate>(
     rt: &R,
     alloc: Global,
@@ -101,11 +101,12 @@ pub fn serve_board<D: Door, B: Bell, E: Ear, R: Threads + Wait + Sync, G: Gate>(
     serve_trades(&means, &Trade::Sessions, board, doors, bell, ear)
 }
 
-/// The same where the talks at the door of one pass may be feeds, by `trade`, and at one door more.
+/// Serves a board in the same way, but by `trade` the talks at the door of one pass may be feeds, and there may be one
+/// more door.
 ///
 /// # Errors
 ///
-/// Those of `serve_board`.
+/// The errors of `serve_board`.
 pub fn serve_trades<D: Door, B: Bell, E: Ear, R: Threads + Wait + Sync, G: Gate>(
     means: &Means<'_, R, G>,
     trade: &Trade<'_>,
@@ -135,7 +136,7 @@ pub fn serve_trades<D: Door, B: Bell, E: Ear, R: Threads + Wait + Sync, G: Gate>
     ensures refused { IfErr result (λ refused. refused.doors.items ≡ doors.items) }
     ensures unheard { OnErr result (ear.new ≡ ear.old) }
 {
-    // That the first version comes after no edits is known from here.
+    // From here on, the first version is known to come after no edits.
     board.version();
     let Ok(room) = Vec::with_capacity(means.alloc, doors.len()) else {
         return Err(ServeRefused { doors });

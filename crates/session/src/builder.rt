@@ -1,4 +1,4 @@
-//! The builder: it builds and publishes whenever its bell is rung.
+//! The builder, which builds and publishes whenever its bell is rung.
 
 ghost use Rattle.std.specs.Prelude.{◌≡◌, ◌<◌, ◌≤◌, false, true};
 ghost use Rattle.build_pool.specs.declared.TheConstants.{MAX_WORKERS};
@@ -15,7 +15,7 @@ use std::sync::Wait;
 use std::thread::Threads;
 use wire::{Ear, Ring};
 
-/// How often a builder's builds were answered in each way. Each count stands still at the greatest `u64`.
+/// How often a builder's builds were answered in each way. Each count stops at `u64::MAX`.
 #[derive(Clone, Copy, Debug, PartialEq, Eq)]
 pub struct BuildTotals {
     /// A version was built and published.
@@ -29,7 +29,7 @@ pub struct BuildTotals {
 }
 
 impl BuildTotals {
-    /// Nothing was answered yet.
+    /// The totals before the first answer.
     fn none() -> BuildTotals
         ensures { result ≡ no_totals }
     {
@@ -41,7 +41,7 @@ impl BuildTotals {
         }
     }
 
-    /// The totals with one reply more.
+    /// Returns the totals with one reply more.
     fn with(self, reply: Reply) -> BuildTotals
         ensures { result ≡ count_reply self reply }
     {
@@ -90,7 +90,7 @@ pub fn build_loop<K: Desk, E: Ear, R: Threads + Wait + Sync, G: Gate>(
         match ear.wait(rt) {
             Ring::Rung => {
                 let reply = answer_build(&means, desk);
-                // What a board of one's own holds is known from here.
+                // From here on, the version that a board of its own holds is known.
                 desk.held();
                 totals = totals.with(reply);
             }

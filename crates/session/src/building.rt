@@ -23,8 +23,8 @@ use version_build::{BuildReport, build, plan};
 use versions::Version;
 use wire::Built;
 
-/// Builds a version after all accepted edits and publishes it, where the published one lacks some. Who comes while
-/// another build of the board runs waits for its end, and then looks: most often there is nothing new.
+/// Builds a version after all accepted edits and publishes it, if the published one lacks some. While another build of
+/// the board runs, it waits for the end and then looks; usually there is nothing new.
 pub(crate) fn answer_build<K: Desk, R: Threads + Wait + Sync, G: Gate>(
     means: &Means<'_, R, G>,
     desk: &mut K,
@@ -39,7 +39,7 @@ pub(crate) fn answer_build<K: Desk, R: Threads + Wait + Sync, G: Gate>(
     reply
 }
 
-/// What was published, where that is the reply.
+/// Returns what was published, if the reply says so.
 fn published(reply: Reply) -> Option<Built> {
     match reply {
         Reply::Published {
@@ -55,7 +55,7 @@ fn published(reply: Reply) -> Option<Built> {
     }
 }
 
-/// Looks, builds a version after all accepted edits and publishes it, where the published one lacks some.
+/// Looks, builds a version after all accepted edits and publishes it, if the published one lacks some.
 fn build_and_publish<K: Desk, R: Threads + Wait + Sync, G: Gate>(
     means: &Means<'_, R, G>,
     desk: &mut K,
@@ -89,7 +89,7 @@ fn build_and_publish<K: Desk, R: Threads + Wait + Sync, G: Gate>(
 ///
 /// # Errors
 ///
-/// `AllocError` where memory runs out, for the version or for the edits.
+/// `AllocError` if memory runs out, for the version or for the edits.
 fn take_job<K: Desk, R: Wait>(rt: &R, desk: &mut K) -> Result<Job, AllocError>
     ensures called { IsCall (K.at desk.old) (K.at desk.new) }
     ensures holds { HoldsSince (stands (K.at desk.old)) (stands (K.at desk.new)) }
@@ -104,11 +104,11 @@ fn take_job<K: Desk, R: Wait>(rt: &R, desk: &mut K) -> Result<Job, AllocError>
     desk.job(rt, known)
 }
 
-/// The version after the edits of a job, built after the one that is held.
+/// Returns the version after the edits of a job, built after the one that is held.
 ///
 /// # Errors
 ///
-/// `AllocError` where memory runs out.
+/// `AllocError` if memory runs out.
 fn build_after<R: Threads + Sync, G: Gate>(
     means: &Means<'_, R, G>,
     held: &Version,

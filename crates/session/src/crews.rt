@@ -1,4 +1,4 @@
-//! Workers at doors, side by side, with a builder beside them.
+//! Workers at doors, in parallel, with a builder.
 
 ghost use Rattle.std.specs.Prelude.{◌≡◌, ◌<◌, ◌≤◌, ◌+◌, ℕ, [], All, Some, false, true, length, slice_index_or, vec_capacity};
 ghost use Rattle.path_board.specs.Passes.{IsPassOf};
@@ -27,7 +27,7 @@ pub(crate) struct Worker<'a, D: Door, B: Bell> {
     pub(crate) ended: Option<DoorEnded>,
 }
 
-/// A board whose passes are used side by side, the bell of whoever builds there, and what is done over each link.
+/// A board whose passes are used in parallel, the bell of its builder, and what is done over each link.
 #[derive(Drop)]
 pub(crate) struct Site<'a, 't, 's, B> {
     pub(crate) board: &'a SharedBoard,
@@ -35,7 +35,7 @@ pub(crate) struct Site<'a, 't, 's, B> {
     pub(crate) trade: &'t Trade<'s>,
 }
 
-/// The seat of that pass.
+/// Returns the seat of that pass.
 pub(crate) fn seated<'a, B: Bell>(site: &Site<'a, '_, '_, B>, pass: Pass) -> Seated<'a, B>
     requires { IsPassOf (board_id site.now.board.now) pass }
     ensures { result.pass ≡ pass }
@@ -47,7 +47,7 @@ pub(crate) fn seated<'a, B: Bell>(site: &Site<'a, '_, '_, B>, pass: Pass) -> Sea
     }
 }
 
-/// The worker with that pass at that door.
+/// Returns the worker with that pass at that door.
 fn worker_at<'a, D: Door, B: Bell>(
     site: &Site<'a, '_, '_, B>,
     pass: Pass,
@@ -112,14 +112,14 @@ pub(crate) fn dismiss<D: Door, B: Bell>(
     }
 }
 
-/// Whether the loop of one of the workers ended by a knock that failed.
+/// Returns whether the loop of a worker ended because a knock failed.
 pub(crate) fn any_failed<D: Door, B: Bell>(crew: &[Worker<'_, D, B>]) -> bool
     ensures { result ≡ any_of crew.now (λ worker. has_failed worker.ended) }
 {
     crew.iter().any(|worker| has_failed(worker.ended))
 }
 
-/// Whether a loop ended by a knock that failed.
+/// Returns whether a loop ended because a knock failed.
 fn has_failed(ended: Option<DoorEnded>) -> bool
     ensures { result ≡ has_failed ended }
 {
@@ -140,7 +140,7 @@ fn work<D: Door, B: Bell, R: Threads + Wait + Sync, G: Gate>(
     worker.ended = Some(ended);
 }
 
-/// Lets all workers serve their doors side by side, and shuts the bell when all of their loops have ended.
+/// Lets all workers serve their doors in parallel, and shuts the bell when all of their loops have ended.
 fn serve_crew<D: Door, B: Bell, R: Threads + Wait + Sync, G: Gate>(
     means: &Means<'_, R, G>,
     trade: &Trade<'_>,
@@ -168,7 +168,7 @@ fn serve_crew<D: Door, B: Bell, R: Threads + Wait + Sync, G: Gate>(
     bell.shut(means.rt);
 }
 
-/// The same of a list of workers, which comes back.
+/// Does the same for a list of workers, and returns it.
 fn serve_list<'a, D: Door, B: Bell, R: Threads + Wait + Sync, G: Gate>(
     means: &Means<'_, R, G>,
     trade: &Trade<'_>,
@@ -209,12 +209,12 @@ fn build<'a, 'e, B: Bell, E: Ear, R: Threads + Wait + Sync, G: Gate>(
     (builder, ear, totals)
 }
 
-/// Ends the loan of what was lent and came back.
+/// Ends the loan of what was lent and returned.
 fn take_back<T>(_lent: &mut T)
     ensures { _lent.new ≡ _lent.old }
 {}
 
-/// Lets the workers serve their doors and the builder build beside them, until all have ended.
+/// Lets the workers serve their doors while the builder builds, until all have ended.
 pub(crate) fn serve_beside<'a, D: Door, B: Bell, E: Ear, R: Threads + Wait + Sync, G: Gate>(
     means: &Means<'_, R, G>,
     trade: &Trade<'_>,
@@ -232,7 +232,7 @@ pub(crate) fn serve_beside<'a, D: Door, B: Bell, E: Ear, R: Threads + Wait + Syn
         (E.at ear.old).rung (standing_of result.0.pass) (E.at ear.new).rung }
     ensures ran { HaveAllRun D.at (IsHeldBy trade.now) (feeds_at trade.now) crew.entry.items result.1.items }
 {
-    // The builder is the first: where no thread can be made it comes last, when the bell is shut.
+    // The builder comes first: if no thread can be made it runs last, once the bell is shut.
     let ((builder, ear, totals), crew) = join(
         means.rt,
         ||

@@ -1,4 +1,4 @@
-//! A loop at a door: over each connection that comes in a talk is held.
+//! A loop at a door, which holds a talk over each connection that comes in.
 
 ghost use Rattle.std.specs.Prelude.{◌≡◌, ◌<◌, ◌-◌, false, IfNone, IfSome};
 ghost use Rattle.path_core.specs.Histories.{IsHalting};
@@ -29,15 +29,15 @@ use wire::{Bell, Door, Knock, Link};
 pub enum DoorEnded {
     /// The board halts.
     Halting,
-    /// Nobody will come to the door any more.
+    /// No more connections will come to the door.
     Closed,
     /// A knock at the door failed.
     Failed,
 }
 
-/// Holds a talk over each connection that comes to a door, one after the other, until the board halts, nobody will come
-/// any more, or a knock fails. Each connection is handed back to the door, however its talk ended. Behind each it looks
-/// at the board, and goes on to the next only where the board does not halt.
+/// Holds a talk over each connection that comes to a door, one after the other, until the board halts, no more will
+/// come, or a knock fails. Each connection is returned to the door, however its talk ended. After each it looks at the
+/// board, and goes on to the next only if the board does not halt.
 pub fn door_loop<B: Bell, D: Door, R: Threads + Wait + Sync, G: Gate>(
     means: &Means<'_, R, G>,
     trade: &Trade<'_>,
@@ -63,7 +63,7 @@ pub fn door_loop<B: Bell, D: Door, R: Threads + Wait + Sync, G: Gate>(
     unreachable!()
 }
 
-/// Knocks once, and serves the connection that comes, if one comes. `None` where the loop goes on.
+/// Knocks once, and serves the connection that comes, if one comes. `None` if the loop goes on.
 fn serve_knock<B: Bell, D: Door, R: Threads + Wait + Sync, G: Gate>(
     means: &Means<'_, R, G>,
     trade: &Trade<'_>,
@@ -91,7 +91,7 @@ fn serve_knock<B: Bell, D: Door, R: Threads + Wait + Sync, G: Gate>(
     }
 }
 
-/// Holds a talk over a connection, and hands it back.
+/// Holds a talk over a connection, and returns it to the door.
 fn serve_conn<B: Bell, D: Door, R: Threads + Wait + Sync, G: Gate>(
     means: &Means<'_, R, G>,
     trade: &Trade<'_>,
@@ -117,8 +117,8 @@ fn serve_conn<B: Bell, D: Door, R: Threads + Wait + Sync, G: Gate>(
     door.done(conn);
 }
 
-/// Holds a talk over a link that has just come in: a feed or a session, by the pass. A fault is
-/// told by the counts of the link alone.
+/// Holds a talk over a link that has just come in: a feed or a session, by the pass. Only the counts of the link show a
+/// fault.
 fn hold_talk<B: Bell, L: Link, R: Threads + Wait + Sync, G: Gate>(
     means: &Means<'_, R, G>,
     trade: &Trade<'_>,
@@ -169,7 +169,7 @@ fn feed<B: Bell, L: Link, R: Wait, G>(
     );
 }
 
-/// Looks at the board, and ends the loop where it halts.
+/// Looks at the board, and ends the loop if it halts.
 fn pause<K: Desk, R: Wait>(rt: &R, desk: &mut K) -> Option<DoorEnded>
     ensures place { (K.at desk.new).place ≡ (K.at desk.old).place }
     ensures looks { LooksBetween (K.at desk.old).place (stands (K.at desk.old))

@@ -14,10 +14,10 @@ use query_proto::MAX_REQUEST;
 use std::marker::Model;
 use wire::{Failed, Link};
 
-/// How many bytes the length before a frame has.
+/// The number of bytes of the length before a frame.
 const LENGTH: usize = 2;
 
-/// The most bytes that are held: a frame behind its length, and the length of the next one.
+/// The most bytes that are held: a frame with its length, and the length of the next one.
 const ROOM: usize = LENGTH + MAX_REQUEST + LENGTH;
 
 /// Bytes that came in over a link and are not used up yet.
@@ -39,7 +39,7 @@ impl Model for Held {
 }
 
 impl Held {
-    /// No bytes.
+    /// Returns a buffer that holds no bytes.
     pub(crate) fn new() -> Held
         ensures { result ≡ [] }
     {
@@ -49,13 +49,13 @@ impl Held {
         }
     }
 
-    /// Takes the next frame, of at most `limit` bytes: how many bytes it has behind its length, which is held too.
-    /// `None` where the input ends between frames. Where a further frame may be taken and this one can't end the
-    /// session, the next length may come with it.
+    /// Takes the next frame, of at most `limit` bytes, and returns its number of bytes after its length, which is held
+    /// too. Returns `None` if the input ends between frames. If a further frame may be taken and this one cannot end
+    /// the session, the next length may come with it.
     ///
     /// # Errors
     ///
-    /// Why no frame came.
+    /// The reason why no frame came.
     pub(crate) fn next_frame<L: Link>(
         &mut self,
         link: &mut L,
@@ -80,7 +80,7 @@ impl Held {
     ///
     /// # Errors
     ///
-    /// Why it did not come.
+    /// The reason why it did not come.
     fn rest_of_frame<L: Link>(
         &mut self,
         link: &mut L,
@@ -101,11 +101,11 @@ impl Held {
         self.body(link, usize::from(size), ahead)
     }
 
-    /// Takes the bytes of a frame that has so many, behind its length, which is held.
+    /// Takes the `size` bytes of a frame, whose length is held.
     ///
     /// # Errors
     ///
-    /// Why they did not come.
+    /// The reason why they did not come.
     fn body<L: Link>(
         &mut self,
         link: &mut L,
@@ -129,7 +129,7 @@ impl Held {
         }
     }
 
-    /// What it means that the input ended inside a frame that wants so many bytes.
+    /// Returns the fault of an input that ended inside a frame of `want` bytes.
     fn torn(&self, want: usize) -> SessionFault
         requires { want ≤ LENGTH + MAX_REQUEST }
         ensures { result ≡ Torn (length self.now) want }
@@ -140,11 +140,11 @@ impl Held {
         }
     }
 
-    /// What it means that the input ended before a whole length came in.
+    /// Returns what an input that ended before a whole length means: no frame, or a fault.
     ///
     /// # Errors
     ///
-    /// `Torn` where one byte of a length is held.
+    /// `Torn` if one byte of a length is held.
     fn without_length(&self) -> Result<Option<usize>, SessionFault>
         requires { length self.now < 2 }
         ensures next { (limit : ℕ) (ahead : Bool) (told : Option Talk) → HasNone told →
@@ -160,7 +160,7 @@ impl Held {
         })
     }
 
-    /// The number in the first two bytes.
+    /// Returns the number in the first two bytes.
     fn size(&self) -> u16
         requires { 2 ≤ length self.now }
         ensures { take 2 self.now ≡ big_bytes 2 result }
@@ -168,12 +168,12 @@ impl Held {
         short_in(&self.room)
     }
 
-    /// Takes what comes in until so many bytes are held that are wanted, and no more than `most`. Says whether they
-    /// are: else the input ended before.
+    /// Takes what comes in until `want` bytes are held, and no more than `most`. Returns whether they are; if not, the
+    /// input ended before.
     ///
     /// # Errors
     ///
-    /// `Failed` where the link failed before.
+    /// `Failed` if the link failed before that.
     fn fill<L: Link>(&mut self, link: &mut L, want: usize, most: usize) -> Result<bool, Failed>
         requires order { want ≤ most }
         requires room { most ≤ ROOM }
@@ -196,7 +196,7 @@ impl Held {
         Ok(true)
     }
 
-    /// A frame of so many bytes, which is held behind its length.
+    /// Returns a frame of `size` bytes, which is held after its length.
     pub(crate) fn frame(&self, size: usize) -> &[u8]
         requires fits { size ≤ MAX_REQUEST }
         requires whole { 2 + size ≤ length self.now }
@@ -205,7 +205,7 @@ impl Held {
         &self.room[LENGTH..LENGTH + size]
     }
 
-    /// Lets go of a frame of so many bytes and its length.
+    /// Drops a frame of `size` bytes and its length.
     pub(crate) fn pass(&mut self, size: usize)
         requires fits { size ≤ MAX_REQUEST }
         requires whole { 2 + size ≤ length self.old }
@@ -217,7 +217,7 @@ impl Held {
     }
 }
 
-/// The number in the first two bytes of some.
+/// Returns the number in the first two bytes.
 fn short_in(bytes: &[u8]) -> u16
     requires { 2 ≤ length bytes.now }
     ensures { take 2 bytes.now ≡ big_bytes 2 result }
@@ -225,8 +225,8 @@ fn short_in(bytes: &[u8]) -> u16
     BigEndian::read_u16(bytes)
 }
 
-/// The most bytes that may be held for a frame which wants so many: those of the next length too, where a further frame
-/// may be taken and this one can't end the session.
+/// Returns the most bytes that may be held for a frame of `want`: the next length too, if a further frame may be taken
+/// and this one cannot end the session.
 fn most_wanted(want: usize, ahead: bool) -> usize
     requires { want ≤ LENGTH + MAX_REQUEST }
     ensures least { want ≤ result }

@@ -1,8 +1,8 @@
 //! Sessions: a client's requests over a link, answered at a board.
 //!
-//! A session stands at a board through a desk: the board itself where one thread uses it, or a seat at a board that
-//! threads share. What a desk answers is said of the history that its pass has seen, to which others may add at any
-//! call.
+//! A session uses a board through a desk: the board itself if one thread uses it, or a seat at a board that threads
+//! share. Contracts state the answers of a desk in terms of the history that its pass has seen, to which others may add
+//! at any call.
 #![tactic(auto)]
 
 pub mod answers;

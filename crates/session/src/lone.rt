@@ -9,7 +9,7 @@ use std::alloc::AllocError;
 use std::sync::{Arc, Wait};
 use versions::Version;
 
-/// A board of one's own, and the number of the pass that uses it. It holds the published version, and doesn't count its
+/// A board of its own, and the number of the pass that uses it. It holds the published version, and does not count its
 /// looks.
 #[derive(Drop)]
 pub struct Lone {
@@ -34,7 +34,7 @@ impl Desk for Lone {
     } };
 
     fn look<R: Wait>(&mut self, _rt: &R) -> Look {
-        // That the history is legal, and the published version one, is known from here.
+        // From here on, the history is known to be legal, and the published version to be a version.
         let _entries = self.board.entries();
         let _version = self.board.version();
         self.board.look()
@@ -50,7 +50,7 @@ impl Desk for Lone {
     }
 
     fn job<R: Wait>(&mut self, _rt: &R, known: u32) -> Result<Job, AllocError> {
-        // That the history is legal is known from here.
+        // From here on, the history is known to be legal.
         let _entries = self.board.entries();
         self.board.job(known)
     }
@@ -64,7 +64,7 @@ impl Desk for Lone {
     }
 
     fn held(&self) -> &Version {
-        // That the history is legal is known from here.
+        // From here on, the history is known to be legal.
         let _entries = self.board.entries();
         self.board.version()
     }

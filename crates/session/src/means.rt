@@ -1,11 +1,11 @@
-//! What a session is served with.
+//! What a session works with.
 
 ghost use Rattle.std.specs.Prelude.{◌≡◌, ◌<◌, ◌≤◌};
 ghost use Rattle.build_pool.specs.declared.TheConstants.{MAX_WORKERS};
 
 use std::alloc::Global;
 
-/// What a session needs beside its desk and its link. It is handed on unchanged until a version is built.
+/// What a session needs other than its desk and its link, passed on unchanged.
 #[derive(Drop)]
 pub struct Means<'a, R, G> {
     /// The runtime.

@@ -13,14 +13,14 @@ use std::sync::{Arc, Wait};
 use versions::Version;
 use wire::{Bell, Built};
 
-/// A pass of a shared board, and the bell of whoever builds there.
+/// A pass of a shared board, and the bell of its builder.
 #[derive(Drop)]
 pub struct Seated<'a, B: Bell> {
     /// The board.
     pub board: &'a SharedBoard,
     /// The pass, which is one of that board.
     pub pass: Pass,
-    /// The bell, which is rung after each accepted edit, and at which builds stand in a queue of one.
+    /// The bell, which is rung after each accepted edit and lets one build run at a time.
     pub bell: &'a B,
     ghost of_board: { IsPassOf (board_id board.now) pass },
 }

@@ -1,4 +1,4 @@
-//! Replies, each put together in one room and sent from there.
+//! Replies, each built in one buffer and sent from there.
 
 ghost use Rattle.std.specs.Prelude.{◌≡◌, ◌<◌, ◌≤◌, [], ◌∷◌, ◌++◌, drop, length, OnErr, OnOk};
 ghost use Rattle.moves.specs.Moves.{number_of};
@@ -11,11 +11,11 @@ use query_proto::{HEAD_ROOM, MAX_MOVES, Reply, reply_head};
 use std::marker::Model;
 use wire::{Failed, Link, send_all};
 
-/// How many bytes the longest reply wants: room for its head, and a byte for each of its moves.
+/// The bytes of the longest reply: its head, and one for each of its moves.
 const ROOM: usize = HEAD_ROOM + MAX_MOVES as usize;
 
-/// The moves that stand behind a reply, a byte for each, and before them room for its head. A session has one such
-/// room, of some 32 KB, for all of its replies.
+/// The moves that follow a reply, a byte for each, and before them room for its head. A session has one such buffer, of
+/// about 32 KB, for all of its replies.
 #[derive(Drop)]
 pub(crate) struct ReplyRoom {
     room: [u8; ROOM],
@@ -35,7 +35,7 @@ impl Model for ReplyRoom {
 }
 
 impl ReplyRoom {
-    /// No moves.
+    /// Returns a buffer that holds no moves.
     pub(crate) fn new() -> ReplyRoom
         ensures { result ≡ [] }
     {
@@ -45,14 +45,14 @@ impl ReplyRoom {
         }
     }
 
-    /// Lets go of all moves.
+    /// Drops all moves.
     pub(crate) fn clear(&mut self)
         ensures { self.new ≡ [] }
     {
         self.many = 0;
     }
 
-    /// Holds a move more.
+    /// Adds a move.
     #[inline]
     pub(crate) fn push(&mut self, by: Move)
         requires { length self.old < MAX_MOVES }
@@ -66,7 +66,7 @@ impl ReplyRoom {
     ///
     /// # Errors
     ///
-    /// `Failed` where the link failed before the whole reply was sent.
+    /// `Failed` if the link failed before the whole reply was sent.
     pub(crate) fn send<L: Link>(&mut self, link: &mut L, reply: &Reply) -> Result<(), Failed>
         requires { moves_behind reply.now ≡ length self.old }
         ensures sent { OnOk result ((L.at link.new).talk
@@ -81,7 +81,7 @@ impl ReplyRoom {
     }
 }
 
-/// Puts the head of a reply at the end of `front`, and says where it begins there.
+/// Writes the head of a reply at the end of `front`, and returns where it begins there.
 fn put_head(reply: &Reply, front: &mut [u8]) -> usize
     requires few { CanBeSent reply.now }
     requires room { length front.old ≡ HEAD_ROOM }

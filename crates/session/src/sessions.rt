@@ -1,4 +1,4 @@
-//! A session: a client's frames over a link, each answered before the next is waited for.
+//! A session: a client's frames over a link, each answered before the session waits for the next.
 
 ghost use Rattle.std.specs.Prelude.{◌≡◌, ◌<◌, ◌≤◌, ◌+◌, [], length, IfErr, OnErr};
 ghost use Rattle.build_pool.specs.declared.TheConstants.{MAX_WORKERS};
@@ -45,7 +45,7 @@ pub enum SessionFault {
     Torn {
         /// How many bytes of the frame came in.
         have: u32,
-        /// How many it has; 2 where its length is torn.
+        /// How many it has; 2 if its length is torn.
         want: u32,
     },
     /// A frame is longer than a request of the session's protocol can be.
@@ -53,21 +53,21 @@ pub enum SessionFault {
         /// Its length in bytes.
         length: u16,
     },
-    /// The link failed while a frame was to come in.
+    /// The link failed while a frame was read.
     ReadFault,
     /// The link failed while a reply was sent.
     WriteFault,
 }
 
 /// Answers the frames that come in over a link, one after the other, until one of them ends the session, the input
-/// ends, or the link fails. It takes memory for a change, a build and a stop alone.
+/// ends, or the link fails. Only a change, a build and a stop take memory.
 ///
-/// It speaks the first protocol, and behind a Hello that comes first the second one.
+/// It speaks the first protocol, or the second one if the first frame is a Hello.
 ///
 /// # Errors
 ///
-/// `Torn` where the input ends inside a frame, `TooLong` where a length is above the limit of the protocol, and a fault
-/// where the link fails.
+/// `Torn` if the input ends inside a frame, `TooLong` if a length is above the limit of the protocol, and a fault if
+/// the link fails.
 pub fn serve_link<K: Desk, L: Link, R: Threads + Wait + Sync, G: Gate>(
     rt: &R,
     alloc: Global,
@@ -98,13 +98,13 @@ pub fn serve_link<K: Desk, L: Link, R: Threads + Wait + Sync, G: Gate>(
 struct Session {
     /// The protocol that it speaks.
     proto: Proto,
-    /// What came in and is not used up.
+    /// What came in and is not used yet.
     held: Held,
-    /// Where its replies are put together.
+    /// Where its replies are built.
     room: ReplyRoom,
 }
 
-/// Answers frame after frame, in a session in which nothing came in yet.
+/// Answers frame after frame, in a session that has not begun.
 fn serve_frames<K: Desk, L: Link, R: Threads + Wait + Sync, G: Gate>(
     means: &Means<'_, R, G>,
     desk: &mut K,
@@ -130,7 +130,7 @@ fn serve_frames<K: Desk, L: Link, R: Threads + Wait + Sync, G: Gate>(
     Ok(Ended::Spent)
 }
 
-/// Takes the next frame and answers it. `None` where the session goes on, at the protocol behind the frame. `ahead`
+/// Takes the next frame and answers it. Returns `None` if the session goes on, at the protocol after the frame. `ahead`
 /// says that a further frame may be taken.
 fn serve_next<K: Desk, L: Link, R: Threads + Wait + Sync, G: Gate>(
     means: &Means<'_, R, G>,
@@ -161,7 +161,7 @@ fn serve_next<K: Desk, L: Link, R: Threads + Wait + Sync, G: Gate>(
     }
 }
 
-/// The protocol behind a frame.
+/// Returns the protocol after a frame.
 fn protocol_after(proto: Proto, frame: &[u8]) -> Proto
     requires { length frame.now ≤ MAX_REQUEST }
     ensures { result ≡ protocol_after proto frame.now }
@@ -172,7 +172,7 @@ fn protocol_after(proto: Proto, frame: &[u8]) -> Proto
     }
 }
 
-/// The protocol behind the first frame.
+/// Returns the protocol after the first frame.
 fn protocol_behind_first(frame: &[u8]) -> Proto
     requires { length frame.now ≤ MAX_REQUEST }
     ensures { result ≡ protocol_after Start frame.now }
@@ -183,7 +183,7 @@ fn protocol_behind_first(frame: &[u8]) -> Proto
     }
 }
 
-/// The protocol behind the first request.
+/// Returns the protocol after the first request.
 fn protocol_of(first: &Request) -> Proto
     ensures { result ≡ protocol_of first.now }
 {
@@ -193,11 +193,11 @@ fn protocol_of(first: &Request) -> Proto
     }
 }
 
-/// Answers a frame and sends the reply, put together in the room. `Some` where the session ends behind it.
+/// Answers a frame and sends the reply, built in the room. Returns `Some` if the session ends after it.
 ///
 /// # Errors
 ///
-/// `Failed` where the link failed before the whole reply was sent.
+/// `Failed` if the link failed before the whole reply was sent.
 fn serve_frame<K: Desk, L: Link, R: Threads + Wait + Sync, G: Gate>(
     means: &Means<'_, R, G>,
     desk: &mut K,
@@ -222,8 +222,8 @@ fn serve_frame<K: Desk, L: Link, R: Threads + Wait + Sync, G: Gate>(
     }
 }
 
-/// Answers a frame, read at the protocol, writes the moves behind the reply into a room that holds none, and says
-/// whether the session ends behind it.
+/// Answers a frame, read at the protocol, writes the moves after the reply into a room that holds none, and returns
+/// whether the session ends after it.
 fn answer_frame<K: Desk, R: Threads + Wait + Sync, G: Gate>(
     means: &Means<'_, R, G>,
     desk: &mut K,
@@ -252,7 +252,7 @@ fn answer_frame<K: Desk, R: Threads + Wait + Sync, G: Gate>(
     }
 }
 
-/// How a session ends behind a request with this reply; `None` where it goes on.
+/// Returns how a session ends after a request with this reply; `None` if it goes on.
 fn end_of(request: &Request, reply: Reply) -> Option<Ended>
     ensures { EndsBy request.now reply result }
 {
@@ -263,7 +263,7 @@ fn end_of(request: &Request, reply: Reply) -> Option<Ended>
     }
 }
 
-/// How a session ends behind a stop with this reply.
+/// Returns how a session ends after a stop with this reply.
 fn end_of_stop(reply: Reply) -> Option<Ended>
     ensures { EndsBy Stop reply result }
 {

@@ -1,5 +1,4 @@
-//! What a session tells for a request: the reply, and the moves behind it, written as the walk is followed, which is
-//! once.
+//! What a session sends for a request: the reply, and the moves after it, written as the walk is followed once.
 
 ghost use Rattle.std.specs.Prelude.{◌≡◌, []};
 ghost use Rattle.query_proto.specs.declared.requests.Request.TheVariants.{Query};
@@ -19,7 +18,7 @@ use std::thread::Threads;
 use versions::Version;
 use walker::Walk;
 
-/// Answers a request at a desk, and writes the moves behind the reply into a room that holds none.
+/// Answers a request at a desk, and writes the moves after the reply into a room that holds none.
 pub(crate) fn tell<K: Desk, R: Threads + Wait + Sync, G: Gate>(
     means: &Means<'_, R, G>,
     desk: &mut K,
@@ -64,7 +63,7 @@ fn tell_query<K: Desk, R: Wait>(
     tell_from(desk.held(), start, goal, room)
 }
 
-/// The answer of a version.
+/// Returns the answer of a version.
 fn tell_from(version: &Version, start: Cell, goal: Cell, room: &mut ReplyRoom) -> Reply
     requires none { room.old ≡ [] }
     ensures { TellsBy version.now start goal result room.new }
@@ -83,7 +82,7 @@ fn tell_from(version: &Version, start: Cell, goal: Cell, room: &mut ReplyRoom) -
     }
 }
 
-/// Writes the moves that are ahead of a walk, and sums what they cost. The walk is at its goal then.
+/// Writes the remaining moves of a walk, and returns their cost. The walk is at its goal afterwards.
 fn write_moves(walk: &mut Walk, room: &mut ReplyRoom) -> Cost
     requires few { HasFewAhead walk.old }
     requires none { room.old ≡ [] }

@@ -20,7 +20,7 @@ pub enum Trade<'a> {
 }
 
 impl<'a> Trade<'a> {
-    /// The version that feeds by the pass with that number begin with. `None` where its talks are sessions.
+    /// Returns the version that feeds by the pass with that number begin with. `None` if its talks are sessions.
     pub(crate) fn start_by(&self, pass: u32) -> Option<&'a Version>
         ensures some { IfSome result (λ start. IsFeedBy self.now pass start.now.map) }
         ensures none { IfNone result (IsNoFeed self.now pass) }

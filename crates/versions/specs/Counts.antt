@@ -1,11 +1,11 @@
--- What is built and what is kept where one map follows another, counted in cells.
+-- What is built and what is kept when one map follows another, counted in cells.
 use Rattle.std.specs.Prelude.{◌≡◌, ℕ, Bool, true, false, ◌&&◌, not, List, [], ◌∷◌, length, filter, sum_by}
 use Rattle.std.specs.List.{list_any}
 use Rattle.moves.specs.declared.Cell.{Cell}
 use Rattle.moves.specs.Maps.{Map, is_cell}
 use Rattle.moves.specs.Components.{IsComponentList}
 
--- whether two lists of cells are one
+-- whether two lists of cells are equal
 abbrev pub is_same : List Cell → List Cell → Bool
 is_same [] [] = true
 is_same (a ∷ xs) (b ∷ ys) = is_cell a b && is_same xs ys
@@ -15,15 +15,15 @@ is_same _ _ = false
 abbrev pub is_among : List (List Cell) → List Cell → Bool
 is_among components cells = list_any (is_same cells) components
 
--- how many cells the components have that are among the former ones, and how many the others have
+-- the number of cells in components that are among the former ones, and the number in the others
 abbrev pub cells_kept : List (List Cell) → List (List Cell) → ℕ
 cells_kept former components = sum_by length (filter (is_among former) components)
 
 abbrev pub cells_built : List (List Cell) → List (List Cell) → ℕ
 cells_built former components = sum_by length (filter (λ cells. not (is_among former cells)) components)
 
--- Counted over two maps: `kept` is the number of cells of those components of the map that are components of the former
--- map, and `built` that of the others.
+-- Counts over two maps: `kept` is the number of cells in components of the map that are also components of the former
+-- map, and `built` is the number of cells in the others.
 pub record AreCounts (former map : Map) (built kept : ℕ) : Type 0 where
   pub before : List (List Cell)
   pub after : List (List Cell)

@@ -1,4 +1,4 @@
--- The database of a map: for each of its components the cells in the named order, and a row for each of them.
+-- The database of a map: for each of its components, the cells in the given order and a row for each of them.
 -- (Botea 2011; Strasser, Harabor and Botea 2014)
 use Rattle.std.specs.Prelude.{◌≡◌, ℕ, ◌<◌, List, [], length, slice_index_or, sum_by}
 use Rattle.moves.specs.declared.Cell.{Cell}
@@ -9,7 +9,7 @@ use Rattle.cell_order.specs.declared.OrderKind.TheVariants.{Rows}
 use Rattle.cell_order.specs.Orders.{ordered}
 use Rattle.row_store.specs.Comps.{Comp, IsComp}
 
--- a component as the database keeps it: its cells in the named order, and the rows of these
+-- a component as the database keeps it: its cells in the given order, and their rows
 pub record IsKeptAs (order : OrderKind) (component : List Cell) (comp : Comp) : Type 0 where
   pub kind : comp.kind ≡ order
   pub cells : comp.cells ≡ ordered order component
@@ -32,26 +32,26 @@ pub record IsDatabase (map : Map) (order : OrderKind) (comps : List Comp) : Type
   pub whole : length comps ≡ length components
   pub each : (label : ℕ) → label < length comps → IsKeptAs order (component_at components label) (comp_at comps label)
 
--- a map has one database in each order
+-- a map has only one database in each order
 abbrev pub DatabasesAreDetermined : Type 0
 DatabasesAreDetermined = (map : Map) (order : OrderKind) (a b : List Comp) → IsDatabase map order a → IsDatabase map order b → a ≡ b
 
--- how many runs all rows of some components have
+-- the number of runs in all rows of some components
 abbrev pub runs_of : List Comp → ℕ
 runs_of comps = sum_by (λ comp. sum_by length comp.rows) comps
 
--- a version as its callers see it: a map, the number of edits that it comes after, an order, and the database of the map
+-- a version as its callers see it: a map, the number of edits that it includes, an order, and the database of the map
 pub record Versioned : Type 0 where
   pub map : Map
   pub prefix : ℕ
   pub order : OrderKind
   pub comps : List Comp
 
--- the version of these four
+-- the version with these four parts
 abbrev pub version_of : Map → ℕ → OrderKind → List Comp → Versioned
 version_of map prefix order comps = record { map = map; prefix = prefix; order = order; comps = comps }
 
--- the version of a map: one that may be searched, with its database
+-- a version: its map may be searched, and its database is that of the map
 pub record IsVersion (version : Versioned) : Type 0 where
   pub searchable : IsSearchable version.map
   pub database : IsDatabase version.map version.order version.comps

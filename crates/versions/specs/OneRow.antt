@@ -1,4 +1,4 @@
--- Components of one row of cells, with rows that are written out. Only tests have them.
+-- Components of one row of cells, with their rows written out. Only tests use them.
 use Rattle.std.specs.Prelude.{ℕ, [], ◌∷◌}
 use Rattle.moves.specs.declared.Cell.{Cell}
 use Rattle.run_pack.specs.declared.Run.{Run}
@@ -9,7 +9,7 @@ use Rattle.row_store.specs.Comps.{Comp, comp_with}
 abbrev pub cell : ℕ → Cell
 cell x = record { x = x; y = 0 }
 
--- a run of the moves with that number
+-- the run that starts there and keeps the move with that number
 abbrev pub run : ℕ → ℕ → Run
 run start number = record { start = start; mv = number }
 

@@ -1,4 +1,4 @@
--- What a version keeps beside its map and its database, so that it need not be found anew.
+-- What a version keeps besides its map and its database, so that it is not computed again.
 use Rattle.std.specs.Prelude.{◌≡◌, List, length}
 use Rattle.moves.specs.declared.Cell.{Cell}
 use Rattle.moves.specs.Maps.{Map, IsSearchable, passable_count}

@@ -1,7 +1,8 @@
 //! Versions: a map after some edits, with the database from which its paths are read.
 //!
-//! For each component the database keeps the cells in an order, and from each of them the first moves to all, packed
-//! into runs. A path is read by look-ups alone, one a move. (Botea 2011; Strasser, Harabor and Botea 2014)
+//! For each component the database keeps the cells in an order, and the first moves from each cell
+//! to all of them, packed into runs. A path is read by look-ups alone, one for each move. (Botea
+//! 2011; Strasser, Harabor and Botea 2014)
 #![tactic(auto)]
 
 pub mod laws;

@@ -7,7 +7,7 @@ ghost use Rattle.versions.specs.Queries.{AreEnds, IsEndRefusal, IsRefusal};
 use moves::{Cell, Grid};
 use std::fmt;
 
-/// An end of the path that is asked for.
+/// An end of the path that a query asks for.
 #[derive(Clone, Copy, Debug, PartialEq, Eq)]
 pub enum End {
     /// Where it begins.
@@ -16,10 +16,10 @@ pub enum End {
     Goal,
 }
 
-/// Why a query is refused. The start is judged wholly before the goal.
+/// Why a query is refused. The start is checked before the goal.
 #[derive(Clone, Copy, Debug, PartialEq, Eq)]
 pub enum QueryRefusal {
-    /// The cell of that end does not lie inside the map.
+    /// The cell of that end is outside the map.
     Outside {
         /// The end.
         which: End,
@@ -47,11 +47,11 @@ impl fmt::Display for QueryRefusal {
     }
 }
 
-/// Whether both ends may be asked for; the start is judged wholly before the goal.
+/// Checks that both ends are inside the map and passable, the start before the goal.
 ///
 /// # Errors
 ///
-/// The first cause to refuse the two cells.
+/// The first reason to refuse the two cells.
 pub fn judge(grid: &Grid, start: Cell, goal: Cell) -> Result<(), QueryRefusal>
     ensures ends { OnOk result (AreEnds grid.now start goal) }
     ensures refused { IfErr result (IsRefusal grid.now start goal) }
@@ -60,7 +60,7 @@ pub fn judge(grid: &Grid, start: Cell, goal: Cell) -> Result<(), QueryRefusal>
     judge_end(grid, goal, End::Goal)
 }
 
-/// Whether the cell of that end is inside and passable.
+/// Checks that the cell of that end is inside the map and passable.
 fn judge_end(grid: &Grid, cell: Cell, which: End) -> Result<(), QueryRefusal>
     ensures passable { OnOk result (IsPassable grid.now cell) }
     ensures refused { IfErr result (IsEndRefusal grid.now cell which) }

@@ -27,13 +27,13 @@ use std::sync::ledger::Ledger;
 pub struct Totals {
     /// How many cells are passable, at most 32,768.
     pub cells: u32,
-    /// How many components they make, at most 32,768.
+    /// How many components they form, at most 32,768.
     pub comps: u32,
-    /// How many runs all rows have, at most 2^30.
+    /// How many runs there are in all rows, at most 2^30.
     pub runs: u64,
 }
 
-/// Where a path goes on.
+/// How a path continues.
 #[derive(Clone, Copy, Debug, PartialEq, Eq)]
 pub enum Next {
     /// The goal is reached.
@@ -44,7 +44,7 @@ pub enum Next {
     Go(Move),
 }
 
-/// A map, the number of edits that it comes after, and the database of its paths in an order.
+/// A map, the number of edits that it includes, and the database of its paths in an order.
 #[derive(Drop)]
 pub struct Version {
     prefix: u32,
@@ -70,11 +70,12 @@ impl Model for Version {
 }
 
 impl Version {
-    /// The version of a map from its components in their order, each with its cells in the named order and their rows.
+    /// Makes the version of a map from its components in order, each with its cells in the given
+    /// order and their rows.
     ///
     /// # Errors
     ///
-    /// `AllocError` where memory runs out. The map and the list are dropped then.
+    /// `AllocError` if memory runs out. The map and the list are then dropped.
     pub fn assemble(
         alloc: Global,
         prefix: u32,
@@ -91,7 +92,7 @@ impl Version {
         Ok(Version::assemble_labelled(prefix, grid, kind, labels, comps))
     }
 
-    /// `assemble` where the map's components are labelled already. It takes no memory.
+    /// Like `assemble`, if the map's components are already labelled. It takes no memory.
     pub fn assemble_labelled(
         prefix: u32,
         grid: Grid,
@@ -119,21 +120,21 @@ impl Version {
         }
     }
 
-    /// How many edits of the first map the version's map comes after.
+    /// Returns the number of edits of the first map that the version includes.
     pub fn prefix(&self) -> u32
         ensures { result ≡ self.now.prefix }
     {
         self.prefix
     }
 
-    /// The order of the cells.
+    /// Returns the order of the cells.
     pub fn kind(&self) -> OrderKind
         ensures { result ≡ self.now.order }
     {
         self.kind
     }
 
-    /// The map.
+    /// Returns the map.
     pub fn grid(&self) -> &Grid
         ensures map { result.now ≡ self.now.map }
         ensures version { IsVersion self.now }
@@ -141,21 +142,21 @@ impl Version {
         &self.grid
     }
 
-    /// The components in the order of their least cells.
+    /// Returns the components in the order of their least cells.
     pub fn comps(&self) -> &[Arc<CompData>]
         ensures { map arc_value result.now ≡ self.now.comps }
     {
         &self.comps
     }
 
-    /// The component of each cell.
+    /// Returns the component of each cell.
     pub fn labels(&self) -> &Labels
         ensures { IsComponentList self.now.map result.now }
     {
         &self.labels
     }
 
-    /// How many cells, components and runs there are. They are kept, and not counted anew.
+    /// Returns the numbers of cells, components and runs. They are kept, and not counted again.
     pub fn totals(&self) -> Totals
         ensures cells { result.cells ≡ passable_count self.now.map }
         ensures comps { result.comps ≡ length self.now.comps }
@@ -164,14 +165,14 @@ impl Version {
         self.totals
     }
 
-    /// The next move of the walk from a cell to a goal.
+    /// Returns the next move of the walk from a cell to a goal.
     ///
-    /// It takes at most s probes of the row of the cell, where that has n runs and 2^s ≤ 2n + 1, and none where the two
-    /// cells are one or no path exists.
+    /// It takes at most s probes of the cell's row of n runs, where 2^s ≤ 2n + 1, and none if the
+    /// two cells are the same or no path exists.
     ///
     /// # Errors
     ///
-    /// The first cause to refuse the two cells, the one where the path stands before the goal. Nothing is counted then.
+    /// The first reason to refuse the two cells, `at` before `goal`. No steps are then counted.
     pub fn next<L: Ledger>(
         &self,
         at: Cell,
@@ -196,7 +197,7 @@ impl Version {
         })
     }
 
-    /// The component that has both cells; `None` exactly where no path leads from the one to the other.
+    /// Returns the component that has both cells, or `None` if no path leads from one to the other.
     #[tactic(auto, using(crate::proofs::Homes::labelled))]
     pub fn home(&self, start: Cell, goal: Cell) -> Option<&CompData>
         requires start { IsPassable self.now.map start }
@@ -213,7 +214,7 @@ impl Version {
     }
 }
 
-/// How many runs all rows of these components have.
+/// Returns the number of runs in all rows of these components.
 fn runs_of(comps: &[Arc<CompData>]) -> u64
     requires { length comps.now < 2 ^ 32 }
     ensures { result ≡ runs_of (map arc_value comps.now) }
@@ -225,7 +226,7 @@ fn runs_of(comps: &[Arc<CompData>]) -> u64
     runs
 }
 
-/// The first move of the walk from one cell of a component to another.
+/// Returns the first move of the walk from one cell of a component to another.
 fn move_in<L: Ledger>(comp: &CompData, start: Cell, goal: Cell, steps: &mut Steps<L>) -> Move
     requires start { Contains comp.now.cells start }
     requires goal { Contains comp.now.cells goal }

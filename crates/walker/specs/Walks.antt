@@ -1,4 +1,4 @@
--- Walks under way, and the moves that are ahead of them.
+-- Walks in progress, and the moves ahead of them.
 use Rattle.std.specs.Prelude.{◌≡◌, ℕ, ◌<◌, List, [], ◌∷◌, length, Option, MatchOption}
 use Rattle.moves.specs.declared.Cell.{Cell}
 use Rattle.root_cost.specs.declared.Cost.{Cost}
@@ -10,23 +10,23 @@ use Rattle.versions.specs.Spelled.{Spells}
 use Rattle.versions.specs.Databases.{Versioned}
 use Rattle.versions.specs.Answers.{IsWalk}
 
--- a walk as its callers see it: a component, the cell that was reached, and the goal
+-- a walk as its callers see it: a component, the current cell, and the goal
 pub record Walking : Type 0 where
   pub comp : Comp
   pub at : Cell
   pub goal : Cell
 
--- what a walk keeps: the places of the cell that was reached and of the goal
+-- what a walk keeps: the places of the current cell and of the goal
 pub record IsUnderWay (comp : Comp) (at : Cell) (place goal : ℕ) : Type 0 where
   pub whole : IsComp comp
   pub here : IsPlaceOf comp.cells at place
   pub inside : goal < length comp.cells
 
--- the moves that are ahead: those that are spelled from the cell that was reached to the goal
+-- the moves ahead: those spelled from the current cell to the goal
 abbrev pub IsAhead : Walking → List Move → Type 0
 IsAhead walk moves = Spells walk.comp.cells walk.comp.rows walk.at moves walk.goal
 
--- the walk stands at the start, and the moves ahead of it are the walk of the version from there to the goal
+-- the walk is at the start, and the moves ahead of it are the walk of the version from there to the goal
 pub record BeginsWalk (version : Versioned) (start goal : Cell) (walk : Walking) : Type 0 where
   pub from : walk.at ≡ start
   pub to : walk.goal ≡ goal
@@ -35,11 +35,11 @@ pub record BeginsWalk (version : Versioned) (start goal : Cell) (walk : Walking)
   pub ahead : IsAhead walk moves
   pub few : length moves < MAX_PASSABLE
 
--- no walk begins where no path exists, and else one that stands at the start
+-- no walk begins if no path exists, otherwise one that is at the start
 abbrev pub IsBegun : Versioned → Cell → Cell → Option Walking → Type 0
 IsBegun version start goal found = MatchOption found (Reaches version.map start goal → ⊥) (BeginsWalk version start goal)
 
--- a step takes the first of the moves that are ahead, and none exactly where none is
+-- a step takes the first of the moves ahead, or none if there are none
 pub record Advances (old new : Walking) (step : Option Move) : Type 0 where
   pub same : new.goal ≡ old.goal
   pub ahead : (moves : List Move) → IsAhead old moves
@@ -49,6 +49,6 @@ pub record Advances (old new : Walking) (step : Option Move) : Type 0 where
 abbrev pub HasFewAhead : Walking → Type 0
 HasFewAhead walk = (moves : List Move) × IsAhead walk moves × (length moves < MAX_PASSABLE)
 
--- this is what the moves cost that are ahead
+-- this is the cost of the moves ahead
 abbrev pub CostsAhead : Walking → Cost → Type 0
 CostsAhead walk cost = (moves : List Move) → IsAhead walk moves → cost ≡ cost_of moves

@@ -1,5 +1,12 @@
-//! Walks: the path between two cells of a version is read from its database, one look-up a move, and no search is made.
-//! (Botea 2011)
+//! Walks: the path between two cells of a version, read from its database with one look-up for each
+//! move and no search. (Botea 2011)
+//!
+//! For example, a walk round a corner, which no diagonal move cuts, written as a test case:
+//!
+//! ```text
+//! walk | .@/.. | rows | 0 0 | 1 1
+//! moves S E to 1 1, 2 straight 0 diagonal
+//! ```
 #![tactic(auto)]
 
 ghost use Rattle.std.specs.Prelude.{◌≡◌, ◌<◌, IfErr, IfOk, OnOk, length};
@@ -14,16 +21,16 @@ use row_store::CompData;
 use std::marker::Model;
 use versions::{QueryRefusal, Version, judge};
 
-/// A walk under way: a component of a version, the cell that was reached, and the goal.
+/// A walk in progress: a component of a version, the current cell, and the goal.
 #[derive(Drop)]
 pub struct Walk<'a> {
     comp: &'a CompData,
     at: Cell,
-    /// The place of the cell that was reached among the component's cells.
+    /// The place of the current cell among the component's cells.
     place: u32,
     /// The place of the goal.
     goal: u32,
-    /// The run in which the goal was found last: in the row of a cell beside, it lies near.
+    /// The run in which the goal was last found: it is nearby in the row of a cell beside.
     run: usize,
 }
 
@@ -39,11 +46,11 @@ impl<'a> Model for Walk<'a> {
 }
 
 impl<'a> Walk<'a> {
-    /// The walk from a cell to another; `None` exactly where no path exists. It takes no memory.
+    /// Returns the walk from one cell to another, or `None` if no path exists. It takes no memory.
     ///
     /// # Errors
     ///
-    /// The first cause to refuse the two cells, the start before the goal.
+    /// The first reason to refuse the two cells, the start before the goal.
     pub fn start(
         version: &'a Version,
         start: Cell,
@@ -70,7 +77,7 @@ impl<'a> Walk<'a> {
         }
     }
 
-    /// The next move of the walk; `None` exactly at the goal.
+    /// Makes the next move of the walk and returns it, or returns `None` at the goal.
     #[inline(always)]
     pub fn step(&mut self) -> Option<Move>
         ensures { Advances self.old self.new result }
@@ -86,7 +93,7 @@ impl<'a> Walk<'a> {
         Some(by)
     }
 
-    /// The cell that was reached.
+    /// Returns the current cell.
     pub fn at(&self) -> Cell
         ensures { result ≡ self.now.at }
     {
@@ -94,12 +101,12 @@ impl<'a> Walk<'a> {
     }
 }
 
-/// What the walk from a cell to another costs, which is the least cost; `None` exactly where no path exists. It takes no
-/// memory.
+/// Returns the cost of the walk from one cell to another, which is the least cost, or `None` if no
+/// path exists. It takes no memory.
 ///
 /// # Errors
 ///
-/// The first cause to refuse the two cells, the start before the goal.
+/// The first reason to refuse the two cells, the start before the goal.
 pub fn measure(version: &Version, start: Cell, goal: Cell) -> Result<Option<Cost>, QueryRefusal>
     ensures ends { OnOk result (AreEnds version.now.map start goal) }
     ensures cost { IfOk result (IsLeastCost version.now.map start goal) }
@@ -111,7 +118,7 @@ pub fn measure(version: &Version, start: Cell, goal: Cell) -> Result<Option<Cost
     }
 }
 
-/// What the moves cost that are ahead of a walk. The walk is at its goal then.
+/// Returns the cost of the moves ahead of a walk. The walk is then at its goal.
 fn cost_ahead(walk: &mut Walk) -> Cost
     requires { HasFewAhead walk.old }
     ensures { CostsAhead walk.old result }
@@ -126,7 +133,7 @@ fn cost_ahead(walk: &mut Walk) -> Cost
     cost
 }
 
-/// Where in the row of one place the run lies that covers another, if all runs are of one length.
+/// Guesses the run of the row of `from` that covers `to`, as if all runs had the same length.
 fn first_guess(comp: &CompData, from: u32, to: u32) -> usize
     requires { from < length comp.now.cells }
 {

@@ -1,4 +1,4 @@
--- The real edges, as contracts see them: a device of std, how often it failed, and why.
+-- The real edges, as contracts see them: a std device, how often it failed, and why.
 use Rattle.std.specs.Prelude.{◌≡◌, ◌≢◌, ℕ, Option, None, Some}
 use Rattle.std.specs.declared.io.ErrorKind.{ErrorKind}
 use Rattle.std.specs.declared.io.ErrorKind.TheVariants as kind
@@ -26,14 +26,14 @@ abbrev pub new_link_over : {I O : Type 0} → I → O → LinkOver I O
 new_link_over input output =
     record { input = input; faults = 0; output = new_sink_over output }
 
--- files over what opens them: the opener, how many reads failed, and why the last read failed, if
--- it did
+-- files over their opener: the opener, how many reads failed, and why the last read failed, if it
+-- did
 pub record FilesOver (O : Type 0) : Type 0 where
   pub opener : O
   pub faults : ℕ
   pub reason : Option ErrorKind
 
--- files of which none was read yet
+-- files of which none has been read yet
 abbrev pub new_files_over : {O : Type 0} → O → FilesOver O
 new_files_over opener = record { opener = opener; faults = 0; reason = None }
 
@@ -41,22 +41,22 @@ new_files_over opener = record { opener = opener; faults = 0; reason = None }
 abbrev pub with_read_over : {O : Type 0} → FilesOver O → FilesOver O
 with_read_over files = record files { reason = None }
 
--- the files after a read that fails by an error of this kind
+-- the files after a read that fails with an error of this kind
 abbrev pub with_fault_over : {O : Type 0} → FilesOver O → ErrorKind → FilesOver O
 with_fault_over files why = record files { faults = one_more files.faults; reason = Some why }
 
--- a fault has a kind of error, which is not want of memory
+-- a fault has a kind of error, which is not "out of memory"
 abbrev pub FailsByError : {O : Type 0} → FilesOver O → FilesOver O → Type 0
 FailsByError old new =
     (why : ErrorKind) × (why ≢ kind.OutOfMemory) × (new ≡ with_fault_over old why)
 
--- what an error of this kind says of a read: want of memory, or else a fault
+-- what an error of this kind means for a read: out of memory, or else a fault
 abbrev pub IsReasonOf : ErrorKind → ReadError → Type 0
 IsReasonOf why (error.Fault told) = (told ≡ why) × (why ≢ kind.OutOfMemory)
 IsReasonOf why error.TooLong = ⊥
 IsReasonOf why error.NoMemory = why ≡ kind.OutOfMemory
 
--- no fault is told for want of memory
+-- running out of memory is not told as a fault
 abbrev pub IsHonest : ReadError → Type 0
 IsHonest (error.Fault told) = told ≢ kind.OutOfMemory
 IsHonest _ = Unit {0}

@@ -10,9 +10,9 @@ use Rattle.wire.specs.declared.door.Knock.TheVariants.{Conn, Quiet, Closed}
 use Rattle.wire.specs.declared.faults.Failed.{Failed}
 
 -- the connections that it will give, those that were handed back, how many were given and not
--- handed back, the numbers of the knocks that are quiet and of those that are to fail (the first
--- is 1), how many knocks there were, how many of them failed, whether one answered Closed, and the
--- port at which a house gave it
+-- handed back, the numbers of the quiet knocks and of the knocks that fail (the first is 1), how
+-- many knocks there were, how many of them failed, whether one answered Closed, and the port at
+-- which a house gave it
 pub record DoorInMemory : Type 0 where
   pub waiting : List LinkInMemory
   pub ended : List LinkInMemory
@@ -24,7 +24,7 @@ pub record DoorInMemory : Type 0 where
   pub closed : Bool
   pub port : Option ℕ
 
--- a door at which nobody has knocked yet
+-- a door that nobody has knocked at yet
 abbrev pub new_door : List LinkInMemory → List ℕ → List ℕ → DoorInMemory
 new_door conns quiet fails = record {
   waiting = conns;
@@ -47,7 +47,7 @@ IsNewLink link =
 abbrev pub AreNewLinks : List LinkInMemory → Type 0
 AreNewLinks links = All IsNewLink links
 
--- whether the next knock has its number among these
+-- whether the number of the next knock is among these
 abbrev pub is_next : List ℕ → DoorInMemory → Bool
 is_next calls door = list_any (λ call. call == one_more door.calls) calls
 
@@ -64,13 +64,13 @@ with_knock_fault door =
 abbrev pub with_closed : DoorInMemory → DoorInMemory
 with_closed door = record door { calls = one_more door.calls; closed = true }
 
--- the door after a knock that gives a connection, with these still to be given
+-- the door after a knock that gives a connection, with these left to give
 abbrev pub with_lent : DoorInMemory → List LinkInMemory → DoorInMemory
 with_lent door waiting =
     record door { calls = one_more door.calls; waiting = waiting; lent = door.lent + 1 }
 
--- what a knock answers, and the door after it: it fails where it is planned to, is quiet at the
--- other knocks that are planned to be, and else gives the connections in order, and then is closed
+-- what a knock answers, and the door after it: it fails if that is planned, is quiet at the other
+-- knocks planned to be quiet, and otherwise gives the connections in order and then is closed
 abbrev pub Knocks : DoorInMemory → DoorInMemory → Result (Knock LinkInMemory) Failed → Type 0
 Knocks before after (Err error) =
     (is_next before.fails before ≡ true) × (after ≡ with_knock_fault before)
@@ -83,7 +83,7 @@ Knocks before after (Ok Closed) =
     (is_next before.fails before ≡ false) × (is_next before.quiet before ≡ false)
     × (before.waiting ≡ []) × (after ≡ with_closed before)
 
--- the door after this connection is handed back
+-- the door after this connection was handed back
 abbrev pub with_done : DoorInMemory → LinkInMemory → DoorInMemory
 with_done door conn =
     record door { ended = door.ended ++ conn ∷ []; lent = door.lent - 1 }
@@ -96,7 +96,7 @@ at_port door port = record door { port = Some port }
 abbrev pub ended_talk : LinkInMemory → EndedTalk
 ended_talk link = talk_over (link_told link) (talk_of link)
 
--- what a door in memory tells: all
+-- a door in memory tells everything
 abbrev pub door_told : DoorInMemory → AtDoor
 door_told door = record {
   talks = Some (map ended_talk door.ended);

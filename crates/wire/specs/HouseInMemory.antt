@@ -7,9 +7,9 @@ use Rattle.wire.specs.LinkInMemory.{LinkInMemory}
 use Rattle.wire.specs.Houses.{AtHouse, Lendings, no_lendings, count_if, rose_once}
 use Rattle.wire.specs.declared.house.DoorsAsked.{DoorsAsked}
 
--- the doors that it will give and the link, each with its port, the numbers of the calls that are to
--- fail (the first is 1), how many calls of `doors` and `call` there were, what was asked, what was
--- given and handed back, and the counts of faults
+-- the doors that it will give and the link, each with its port, the numbers of the calls that fail
+-- (the first is 1), how many calls of `doors` and `call` there were, the requests, what was given
+-- and handed back, and the fault counts
 pub record HouseInMemory : Type 0 where
   pub doors : List (ℕ × DoorInMemory)
   pub link : Option (ℕ × LinkInMemory)
@@ -22,7 +22,7 @@ pub record HouseInMemory : Type 0 where
   pub read_faults : ℕ
   pub write_faults : ℕ
 
--- a house of which nothing was asked yet
+-- a house that has not been asked for anything
 abbrev pub new_house : List (ℕ × DoorInMemory) → Option (ℕ × LinkInMemory) → List ℕ → HouseInMemory
 new_house doors link fails = record {
   doors = doors;
@@ -42,7 +42,7 @@ abbrev pub IsNewDoor : DoorInMemory → Type 0
 IsNewDoor door =
     (door ≡ new_door door.waiting door.quiet door.fails) × AreNewLinks door.waiting
 
--- a door as a house gives it at this port: nobody has knocked at it
+-- a door as a house gives it at this port: nobody has knocked at it yet
 abbrev pub IsGivenDoor : ℕ → DoorInMemory → Type 0
 IsGivenDoor port door = door ≡ at_port (new_door door.waiting door.quiet door.fails) port
 
@@ -67,11 +67,11 @@ doors_at port doors = map (λ door. door.1) (filter (λ door. door.0 == port) do
 abbrev pub count_at : ℕ → List (ℕ × DoorInMemory) → ℕ
 count_at port doors = count_by (λ door. door.0 == port) doors
 
--- so many doors as they are given: the first ones at this port
+-- this many doors at this port, the first ones, as they are given
 abbrev pub first_at : ℕ → ℕ → List (ℕ × DoorInMemory) → List DoorInMemory
 first_at port count doors = map (λ door. at_port door port) (take count (doors_at port doors))
 
--- so many doors at this port are gone, the first ones, and no others
+-- this many doors at this port are gone, the first ones, and no others
 abbrev pub AreGone : ℕ → ℕ → List (ℕ × DoorInMemory) → List (ℕ × DoorInMemory) → Type 0
 AreGone port count before after = (other : ℕ)
     → doors_at other after ≡ drop (cond (other == port) count 0) (doors_at other before)
@@ -85,16 +85,16 @@ is_link_at (Some link) port = link.0 == port
 abbrev pub is_next_planned : HouseInMemory → Bool
 is_next_planned house = list_any (λ call. call == one_more house.calls) house.fails
 
--- whether so many doors at this port are refused: it is planned, or they are not there
+-- whether a request for this many doors at this port is refused: that is planned, or there are too few
 abbrev pub doors_fail : HouseInMemory → ℕ → ℕ → Bool
 doors_fail house port count =
     is_next_planned house || nat_lt (count_at port house.doors) count
 
--- whether a call at this port is refused: it is planned, or there is no link
+-- whether a call to this port is refused: that is planned, or there is no link
 abbrev pub call_fails : HouseInMemory → ℕ → Bool
 call_fails house port = is_next_planned house || not (is_link_at house.link port)
 
--- the house after so many doors were asked for at this port, and none was given
+-- the house after a request for this many doors at this port that gave none
 abbrev pub with_asked : HouseInMemory → ℕ → ℕ → HouseInMemory
 with_asked house port count = record house {
   calls = one_more house.calls;
@@ -106,14 +106,14 @@ abbrev pub with_doors_fault : HouseInMemory → ℕ → ℕ → HouseInMemory
 with_doors_fault house port count =
     record (with_asked house port count) { door_faults = one_more house.door_faults }
 
--- the house after it gave so many doors at this port, with these doors left
+-- the house after it gave this many doors at this port, with these doors left
 abbrev pub with_doors : HouseInMemory → ℕ → ℕ → List (ℕ × DoorInMemory) → HouseInMemory
 with_doors house port count doors = record (with_asked house port count) {
   doors = doors;
   lent = record house.lent { doors_given = house.lent.doors_given + count };
 }
 
--- the house after a call at this port that gives the link
+-- the house after a call to this port that gives the link
 abbrev pub with_call : HouseInMemory → ℕ → HouseInMemory
 with_call house port = record house {
   link = None;
@@ -122,7 +122,7 @@ with_call house port = record house {
   lent = record house.lent { links_given = house.lent.links_given + 1 };
 }
 
--- the house after a call at this port that fails
+-- the house after a call to this port that fails
 abbrev pub with_call_fault : HouseInMemory → ℕ → HouseInMemory
 with_call_fault house port = record house {
   calls = one_more house.calls;
@@ -130,14 +130,14 @@ with_call_fault house port = record house {
   read_faults = one_more house.read_faults;
 }
 
--- the house after these doors are handed back
+-- the house after these doors were handed back
 abbrev pub with_shut : HouseInMemory → List DoorInMemory → HouseInMemory
 with_shut house doors = record house {
   lent = record house.lent { doors_back = house.lent.doors_back ++ doors };
   door_faults = count_if (rose_once (λ door. door.faults) doors) house.door_faults;
 }
 
--- the house after this link is handed back
+-- the house after this link was handed back
 abbrev pub with_hung_up : HouseInMemory → LinkInMemory → HouseInMemory
 with_hung_up house link = record house {
   lent = record house.lent {
@@ -147,7 +147,7 @@ with_hung_up house link = record house {
   write_faults = count_if (not (link.output.faults == 0)) house.write_faults;
 }
 
--- what a house in memory tells: all
+-- a house in memory tells everything
 abbrev pub house_told : HouseInMemory → AtHouse DoorInMemory LinkInMemory
 house_told house = record {
   asked = house.asked;

@@ -1,22 +1,22 @@
--- What a knock at a door says of the door and of the connection that it gave, if it gave one.
+-- What a knock at a door says about the door and about the connection that it gave, if it gave one.
 use Rattle.std.specs.Prelude.{ℕ, ◌≡◌, ◌+◌, ◌-◌, ◌<◌, ◌||◌, List, Bool, true, false, Option, None, IfSome, IsSome, Result, Ok, Err}
 use Rattle.wire.specs.Talks.{AtLink, EndedTalk, with_ended}
 use Rattle.wire.specs.declared.door.Knock.{Knock}
 use Rattle.wire.specs.declared.door.Knock.TheVariants.{Conn, Quiet, Closed}
 
--- said of the connection that was found, if there is one
+-- a claim about the connection that was found, if there is one
 abbrev pub IfFound : {C : Type 0} → Knock C → (C → Type 0) → Type 0
 IfFound (Conn conn) P = P conn
 IfFound Quiet P = Unit {0}
 IfFound Closed P = Unit {0}
 
--- whether what was found is a closed door
+-- whether the door was found closed
 abbrev pub is_closed : {C : Type 0} → Knock C → Bool
 is_closed (Conn conn) = false
 is_closed Quiet = false
 is_closed Closed = true
 
--- said of the connection, if the knock gave one
+-- a claim about the connection, if the knock gave one
 abbrev pub IfConn : {C E : Type 0} → Result (Knock C) E → (C → Type 0) → Type 0
 IfConn (Ok found) P = IfFound found P
 IfConn (Err error) P = Unit {0}
@@ -33,9 +33,9 @@ abbrev pub says_closed : {C E : Type 0} → Result (Knock C) E → Bool
 says_closed (Ok found) = is_closed found
 says_closed (Err error) = false
 
--- what is known of a door: the talks over its connections that were handed back, where it tells
--- them, and then how many connections it gave that are not handed back yet; whether a knock has
--- answered Closed, how often a knock has failed, and the port at which it was given, where it tells it
+-- what is known of a door: the talks over the connections that were handed back and how many connections are lent, if
+-- it tells them; whether a knock has answered Closed, how often a knock has failed, and the port at which it was given,
+-- if it tells it
 pub record AtDoor : Type 0 where
   pub talks : Option (List EndedTalk)
   pub lent : ℕ
@@ -43,7 +43,7 @@ pub record AtDoor : Type 0 where
   pub faults : ℕ
   pub port : Option ℕ
 
--- a door that tells nothing but how often a knock has failed
+-- a door that tells only how often a knock has failed
 abbrev pub untold_door : ℕ → AtDoor
 untold_door faults =
     record { talks = None; lent = 0; closed = false; faults = faults; port = None }
@@ -52,18 +52,18 @@ untold_door faults =
 abbrev pub TellsToo : AtDoor → AtLink → Type 0
 TellsToo door conn = IfSome door.talks (λ _. IsSome conn.talk)
 
--- a door that tells its talks has lent a connection that is not handed back yet
+-- a door that tells its talks has lent a connection that has not been handed back yet
 abbrev pub HasLent : AtDoor → Type 0
 HasLent door = IfSome door.talks (λ _. 0 < door.lent)
 
--- what a knock with this answer does: a connection that it gave is lent, and it may have closed
+-- what a knock with this answer does: a connection that it gave is lent, and the door may have closed
 pub record IsKnock {C E : Type 0} (old : AtDoor) (result : Result (Knock C) E) (new : AtDoor) : Type 0 where
   pub talks : new.talks ≡ old.talks
   pub lent : IfSome old.talks (λ _. new.lent ≡ old.lent + conns_given result)
   pub closed : new.closed ≡ (old.closed || says_closed result)
   pub port : new.port ≡ old.port
 
--- what handing a connection back does: its talk is over, and it is lent no more
+-- what handing a connection back does: its talk is over, and it is no longer lent
 pub record IsBack (old : AtDoor) (conn : AtLink) (new : AtDoor) : Type 0 where
   pub talks : new.talks ≡ with_ended old.talks conn
   pub lent : IfSome old.talks (λ _. new.lent ≡ old.lent - 1)

@@ -2,11 +2,16 @@ pub mod Causes
 pub mod Contents
 pub mod Devices
 pub mod DoorInMemory
+pub mod Endings
 pub mod FilesInMemory
 pub mod HouseInMemory
 pub mod Houses
 pub mod Knocks
 pub mod LinkInMemory
+pub mod Messages
+pub mod Patience
 pub mod Rings
+pub mod Showings
 pub mod SinkInMemory
 pub mod Talks
+pub mod Watching

@@ -10,17 +10,17 @@ pub record InputInMemory : Type 0 where
   pub whole : List ℕ
   pub left : List ℕ
 
--- an input of which nothing was read yet
+-- an input of which nothing has been read yet
 abbrev pub new_input : List ℕ → InputInMemory
 new_input bytes = record { whole = bytes; left = bytes }
 
--- the input after so many bytes were read
+-- the input after this many bytes were read
 abbrev pub with_read_of : InputInMemory → ℕ → InputInMemory
 with_read_of input count = record input { left = drop count input.left }
 
 -- a link in memory: its input, the most bytes that each recv gives, the numbers of the recvs that
--- are to fail (the first is 1), how many recvs there were, how many of them failed, and where the
--- bytes go that are sent
+-- fail (the first is 1), how many recvs there were, how many of them failed, and the sink of the
+-- bytes that are sent
 pub record LinkInMemory : Type 0 where
   pub input : InputInMemory
   pub cuts : List ℕ
@@ -29,7 +29,7 @@ pub record LinkInMemory : Type 0 where
   pub faults : ℕ
   pub output : SinkInMemory
 
--- a link on which nothing was received and nothing sent yet
+-- a link on which nothing has been received or sent yet
 abbrev pub new_link : List ℕ → List ℕ → ℕ → List ℕ → List ℕ → LinkInMemory
 new_link input cuts room recv_fails send_fails = record {
   input = new_input input;
@@ -40,11 +40,11 @@ new_link input cuts room recv_fails send_fails = record {
   output = new_sink room [] send_fails;
 }
 
--- each cut lets a byte through
+-- each cut lets at least one byte through
 abbrev pub CutsGiveSome : List ℕ → Type 0
 CutsGiveSome cuts = All (λ most. 0 < most) cuts
 
--- how many bytes the next recv into so much room gives: those that are left, and no more than its cut
+-- how many bytes the next recv into a room of this size gives: those that are left, but no more than its cut
 abbrev pub next_given : LinkInMemory → ℕ → ℕ
 next_given link room =
     min (min room (length link.input.left)) (slice_index_or link.cuts link.calls (2 ^ 64 - 1))
@@ -53,7 +53,7 @@ next_given link room =
 abbrev pub recv_fails : LinkInMemory → Bool
 recv_fails link = list_any (λ call. call == one_more link.calls) link.fails
 
--- the link after a recv that gives so many bytes
+-- the link after a recv that gives this many bytes
 abbrev pub with_recv : LinkInMemory → ℕ → LinkInMemory
 with_recv link count =
     record link { input = with_read_of link.input count; calls = one_more link.calls }
@@ -72,7 +72,7 @@ abbrev pub talk_of : LinkInMemory → Talk
 talk_of link =
     record { input = link.input.whole; left = link.input.left; sent = Some link.output.held }
 
--- what a link in memory tells: all
+-- a link in memory tells everything
 abbrev pub link_told : LinkInMemory → AtLink
 link_told link = record {
   talk = Some (talk_of link);
@@ -80,7 +80,7 @@ link_told link = record {
   write_faults = link.output.faults;
 }
 
--- what a link tells that never fails and drops what it is given: no bytes sent
+-- what a link tells that never fails and drops what is sent: no bytes sent
 abbrev pub link_untold : InputInMemory → AtLink
 link_untold input = record {
   talk = Some (record { input = input.whole; left = input.left; sent = None });

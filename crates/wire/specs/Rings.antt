@@ -1,4 +1,4 @@
--- What an ear hears, and what it keeps of it.
+-- What an ear hears, and what it keeps of that.
 use Rattle.std.specs.Prelude.{ℕ, ◌-◌, Bool, true, false, ◌||◌, ◌==◌, cond}
 use Rattle.wire.specs.Causes.{one_more}
 use Rattle.wire.specs.declared.bell.Ring.{Ring}
@@ -24,18 +24,18 @@ abbrev pub with_heard : AtEar → Ring → AtEar
 with_heard ear ring =
     record { rung = rings_in ring ear.rung; over = ear.over || says_shut ring }
 
--- an ear that counts: how many rings it still hears, how many it heard, and whether it heard that
+-- an ear that counts: how many rings it will hear, how many it has heard, and whether it heard that
 -- the bell was shut
 pub record EarInMemory : Type 0 where
   pub left : ℕ
   pub rung : ℕ
   pub over : Bool
 
--- an ear that heard nothing yet
+-- an ear that has heard nothing yet
 abbrev pub new_ear : ℕ → EarInMemory
 new_ear rings = record { left = rings; rung = 0; over = false }
 
--- what the next wait answers: a ring for as long as some are left
+-- what the next wait answers: a ring while some are left
 abbrev pub next_ring : EarInMemory → Ring
 next_ring ear = cond (ear.left == 0) Shut Rung
 

@@ -3,8 +3,8 @@ use Rattle.std.specs.Prelude.{ℕ, ◌-◌, ◌^◌, min, List, [], ◌++◌, le
 use Rattle.std.specs.List.{list_any}
 use Rattle.wire.specs.Causes.{one_more}
 
--- the bytes that it holds, for how many it has room, the most bytes that each put takes, the
--- numbers of the puts that are to fail (the first is 1), how many puts there were, and how many of them failed
+-- the bytes that it holds, how many it has room for, the most bytes that each put takes, the numbers of the puts that
+-- fail (the first is 1), how many puts there were, and how many of them failed
 pub record SinkInMemory : Type 0 where
   pub held : List ℕ
   pub room : ℕ
@@ -13,7 +13,7 @@ pub record SinkInMemory : Type 0 where
   pub calls : ℕ
   pub faults : ℕ
 
--- a sink that was given nothing yet
+-- a sink that has been given nothing yet
 abbrev pub new_sink : ℕ → List ℕ → List ℕ → SinkInMemory
 new_sink room cuts fails = record {
   held = [];
@@ -24,14 +24,14 @@ new_sink room cuts fails = record {
   faults = 0;
 }
 
--- how many bytes of a piece the next put takes: those for which there is room, and no more than
--- its cut
+-- how many bytes of a piece the next put takes: those that fit into the room, but no more than its
+-- cut
 abbrev pub next_count : SinkInMemory → List ℕ → ℕ
 next_count sink piece =
     min (min (length piece) (sink.room - length sink.held))
     (slice_index_or sink.cuts sink.calls (2 ^ 64 - 1))
 
--- whether the next put fails: it is planned to, or it would take none of a piece that is not empty
+-- whether the next put fails: it is planned to fail, or it would take none of a piece that is not empty
 abbrev pub put_fails : SinkInMemory → List ℕ → Bool
 put_fails sink piece =
     list_any (λ call. call == one_more sink.calls) sink.fails

@@ -9,41 +9,41 @@ use std::sync::Wait;
 pub enum Ring {
     /// The bell was rung.
     Rung,
-    /// The bell was shut: nobody will ring any more.
+    /// The bell was shut: nobody will ring it any more.
     Shut,
 }
 
-/// What a build came to that published a version.
+/// The result of a build that published a version.
 #[derive(Debug, Clone, Copy, PartialEq, Eq)]
 pub struct Built {
-    /// How many edits the version comes after.
+    /// How many edits were accepted before the version.
     pub version: u32,
     /// How many cells have rows that were built for it.
     pub built: u32,
-    /// How many cells have rows that were kept of the version before.
+    /// How many cells have rows that were kept from the version before.
     pub kept: u32,
 }
 
-/// What is rung to wake whoever waits at its ear. Whoever builds at the same board stands in its queue of one: nothing is
-/// promised of that, and a bell that lets all build at once is one too.
+/// Wakes the thread that waits at its ear. Builds at the same board also queue here and run one at a time, but the
+/// trait does not promise that: a bell may let all of them build at once.
 pub trait Bell: Sync {
     /// Wakes the ear, at once or at its next wait.
     fn ring<R: Wait>(&self, rt: &R);
 
-    /// Ends the waiting for good.
+    /// Shuts the bell: the ear no longer waits.
     fn shut<R: Wait>(&self, rt: &R);
 
-    /// Waits until nobody builds, and begins a build.
+    /// Waits until no other build runs, and begins one.
     fn begin_build<R: Wait>(&self, _rt: &R) {}
 
-    /// Ends a build, which has published that version or none: whoever waits may begin one.
+    /// Ends a build that published this version, or none. The next build may begin.
     fn end_build<R: Wait>(&self, _rt: &R, _built: Option<Built>) {}
 }
 
-/// Where a bell is heard.
+/// The listening end of a bell.
 pub trait Ear: Send {
-    /// What is known of it: how often it answered `Rung`, a count that stands still at the greatest
-    /// `u64`, and whether it answered `Shut`.
+    /// What is known of it: how often it answered `Rung`, a count that stops at the greatest `u64`,
+    /// and whether it answered `Shut`.
     ghost at: { Self → AtEar };
 
     /// Waits until the bell is rung or shut.

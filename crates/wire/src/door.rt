@@ -6,29 +6,29 @@ ghost use Rattle.wire.specs.Talks.{IsUnused};
 
 use crate::{Failed, Link};
 
-/// What a knock finds behind a door.
+/// What a knock at a door finds.
 #[derive(Debug, Drop)]
 pub enum Knock<C> {
     /// A connection.
     Conn(C),
-    /// Nobody is there yet.
+    /// Nobody has connected yet.
     Quiet,
-    /// Nobody will come any more.
+    /// Nobody will connect any more.
     Closed,
 }
 
-/// Where connections come in, one after another. Each that it gave is to be handed back by `done`.
+/// A listener, which gives connections one after another. Each must be handed back with `done`.
 pub trait Door: Drop + Send {
-    /// The connections that it gives.
+    /// The type of its connections.
     type Conn: Link;
 
-    /// What is known of it: the talks over the connections that were handed back, where it tells
-    /// them, and then how many it has lent; whether it answered `Closed`, its faults, and its port,
-    /// where it tells it.
+    /// What is known of it: the talks over the connections that were handed back and the number of
+    /// connections lent, if it tells them; whether it answered `Closed`, its faults, and its port,
+    /// if it tells it.
     ghost at: { Self → AtDoor };
 
-    /// Waits a short while for a connection. Of one that comes, nothing was taken, nothing was
-    /// sent, and no call has failed.
+    /// Waits a short while for a connection. On a new connection nothing has been received or sent,
+    /// and no call has failed.
     fn knock(&mut self) -> Result<Knock<Self::Conn>, Failed>
         ensures unused { IfConn result (λ conn. IsUnused (Self.Conn.at conn)) }
         ensures told { IfConn result (λ conn. TellsToo (at self.old) (Self.Conn.at conn)) }

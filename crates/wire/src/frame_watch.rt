@@ -1,37 +1,49 @@
-//! Where in what its client sends a server's link is.
+//! How far a server's link is in what its client sends.
+ghost use Rattle.std.specs.Prelude.{◌≡◌, ◌<◌, ◌≤◌, ◌+◌, ◌-◌, ◌*◌, ◌^◌, ◌==◌, ◌&&◌, ◌++◌, [], ◌∷◌, ℕ, List, Some, false, IsTrue, ◌↔◌};
+ghost use Rattle.wire.specs.Messages.{AreCut, AreWhole, last_of};
+ghost use Rattle.wire.specs.Watching.{HasFollowed, first_awaited};
+ghost use Rattle.wire.specs.declared.frame_watch.Place.TheVariants.{Between, Inside};
+ghost use Rattle.wire.specs.declared.frame_watch.Spoken.TheVariants.{Frames, Asks};
+ghost use Rattle.wire.specs.declared.patience.Awaited.TheVariants.{Rest};
 
-/// The kind of the request that stops a server, which is a frame of this byte alone.
-const STOP: u8 = 6;
-
-/// The whole reply that says that it was done: a length of one byte, and the kind.
-const DONE: [u8; 5] = [0, 0, 0, 1, 0x8A];
-
-/// How many bytes an ask of a follower has.
-const ASK: u16 = 5;
+use crate::Speech;
+use crate::patience::Awaited;
 
 /// What a client sends.
 #[derive(Debug, Clone, Copy, PartialEq, Eq)]
-enum Spoken {
-    /// Frames behind their lengths, as in a session.
+pub(crate) enum Spoken {
+    /// Frames, each after its length, as in a session.
     Frames,
     /// Asks, as in a feed.
-    Asks,
+    Asks {
+        /// The size of each, in bytes.
+        size: u16,
+    },
 }
 
-/// A place in what a client sends.
+/// A position in what a client sends.
 #[derive(Debug, Clone, Copy, PartialEq, Eq)]
-enum Place {
-    /// Between two frames, or two asks.
+pub(crate) enum Place {
+    /// Between two messages.
     Between,
-    /// Behind the first byte of a length.
-    Length { high: u8 },
-    /// Inside a frame or an ask of so many bytes, of which so many are missing.
-    Inside { size: u16, left: u16 },
+    /// After the first byte of a length.
+    Length {
+        /// That byte.
+        high: u8,
+    },
+    /// Inside a message.
+    Inside {
+        /// Its size in bytes.
+        size: u16,
+        /// How many of them are missing.
+        left: u16,
+    },
 }
 
-/// Follows the frames or asks of a client, byte by byte.
-#[derive(Debug, Drop)]
+/// Follows the messages of a client, byte by byte.
+#[derive(Debug, Clone, Copy)]
 pub(crate) struct FrameWatch {
+    speech: Speech,
     spoken: Spoken,
     place: Place,
     stop: bool,
@@ -39,8 +51,13 @@ pub(crate) struct FrameWatch {
 
 impl FrameWatch {
     /// A watch over the frames of a client that has sent nothing.
-    pub(crate) fn new() -> FrameWatch {
+    pub(crate) fn new(speech: Speech) -> FrameWatch
+        ensures followed { HasFollowed result [] }
+        ensures speech { result.speech ≡ speech }
+        ensures spoken { result.spoken ≡ Frames }
+    {
         FrameWatch {
+            speech,
             spoken: Spoken::Frames,
             place: Place::Between,
             stop: false,
@@ -48,65 +65,135 @@ impl FrameWatch {
     }
 
     /// A watch over the asks of a client that has sent nothing.
-    pub(crate) fn over_asks() -> FrameWatch {
+    pub(crate) fn over_asks(speech: Speech) -> FrameWatch
+        ensures followed { HasFollowed result [] }
+        ensures speech { result.speech ≡ speech }
+        ensures spoken { result.spoken ≡ Asks speech.ask_size }
+    {
         FrameWatch {
-            spoken: Spoken::Asks,
+            speech,
+            spoken: Spoken::Asks {
+                size: speech.ask_size,
+            },
             place: Place::Between,
             stop: false,
         }
     }
 
-    /// Whether no frame is begun that is not whole.
-    pub(crate) fn is_between(&self) -> bool {
-        self.place == Place::Between
+    /// Whether the bytes so far are whole messages.
+    pub(crate) fn is_between(&self) -> bool
+        ensures whole { (bytes : List ℕ) → HasFollowed self.now bytes
+            → IsTrue result ↔ AreWhole self.now.spoken bytes }
+    {
+        self.is_at(Place::Between)
     }
 
-    /// Whether this reply says that the server was stopped: it is a Done, and the last whole frame was
-    /// a Stop.
-    pub(crate) fn is_stopped_by(&self, reply: &[u8]) -> bool {
-        self.stop && reply == DONE.as_slice()
-    }
-
-    /// Follows the next bytes that came in.
-    pub(crate) fn take(&mut self, bytes: &[u8]) {
-        for &byte in bytes {
-            self.step(byte);
+    /// What to wait for next: the first byte of a message if all before it are whole, else the rest of one.
+    pub(crate) fn awaited(&self) -> Awaited
+        ensures rest { (bytes : List ℕ) → HasFollowed self.now bytes
+            → (result ≡ Rest) ↔ (AreWhole self.now.spoken bytes → ⊥) }
+        ensures first { (result ≡ Rest → ⊥) → result ≡ first_awaited self.now.spoken }
+    {
+        if !self.is_between() {
+            return Awaited::Rest;
+        }
+        match self.spoken {
+            Spoken::Frames => Awaited::Frame,
+            Spoken::Asks { .. } => Awaited::Ask,
         }
     }
 
-    /// Follows one byte.
-    fn step(&mut self, byte: u8) {
-        self.place = match self.place {
-            Place::Between => self.first(byte),
-            Place::Length { high } => self.begin(u16::from_be_bytes([high, byte])),
-            Place::Inside { size, left } if left > 1 => Place::Inside {
+    /// Whether this reply says that the server stops: it is a Done, and the last whole message is a Stop.
+    pub(crate) fn is_stopped_by(&self, reply: &[u8]) -> bool
+        ensures stops { (bytes rest : List ℕ) (messages : List (List ℕ)) → HasFollowed self.now bytes
+            → AreCut self.now.spoken bytes messages rest → IsTrue result
+            ↔ ((last_of messages ≡ Some (self.now.speech.stop ∷ [])) × (reply.now ≡ self.now.speech.done)) }
+    {
+        self.stop && self.speech.says_done(reply)
+    }
+
+    /// Follows the next bytes that come in.
+    pub(crate) fn take(&mut self, bytes: &[u8])
+        ensures followed { (before : List ℕ) → HasFollowed self.old before
+            → HasFollowed self.new (before ++ bytes.now) }
+        ensures speech { self.new.speech ≡ self.old.speech }
+        ensures spoken { self.new.spoken ≡ self.old.spoken }
+    {
+        for &byte in bytes {
+            *self = self.after(byte);
+        }
+    }
+
+    /// The watch after one more byte.
+    fn after(self, byte: u8) -> FrameWatch
+        ensures followed { (before : List ℕ) → HasFollowed self before
+            → HasFollowed result (before ++ byte ∷ []) }
+        ensures speech { result.speech ≡ self.speech }
+        ensures spoken { result.spoken ≡ self.spoken }
+    {
+        match (self.place, self.spoken) {
+            (Place::Between, Spoken::Frames) => self.at(Place::Length { high: byte }),
+            (Place::Between, Spoken::Asks { size }) => self.inside(size, size, byte),
+            (Place::Length { high }, _) => self.behind_length(size_of(high, byte)),
+            (Place::Inside { size, left }, _) => self.inside(size, left, byte),
+        }
+    }
+
+    /// The watch after the length of a frame. An empty frame is whole.
+    fn behind_length(self, size: u16) -> FrameWatch
+        ensures begun { 0 < size → result ≡ record self { place = Inside size size } }
+        ensures empty { size ≡ 0 → result ≡ record self { place = Between; stop = false } }
+    {
+        if size > 0 {
+            return self.at(Place::Inside { size, left: size });
+        }
+        FrameWatch {
+            place: Place::Between,
+            stop: false,
+            ..self
+        }
+    }
+
+    /// The watch after this byte of a message, of which `left` bytes were missing.
+    fn inside(self, size: u16, left: u16, byte: u8) -> FrameWatch
+        ensures more { 1 < left → result ≡ record self { place = Inside size (left - 1) } }
+        ensures whole { left ≤ 1 → result ≡ record self {
+          place = Between;
+          stop = (size == 1) && (byte == self.speech.stop);
+        } }
+    {
+        if left > 1 {
+            return self.at(Place::Inside {
                 size,
                 left: left - 1,
-            },
-            Place::Inside { size, .. } => {
-                self.stop = size == 1 && byte == STOP;
-                Place::Between
-            }
-        };
-    }
-
-    /// The place behind the first byte of a frame's length, or of an ask.
-    fn first(&self, byte: u8) -> Place {
-        match self.spoken {
-            Spoken::Frames => Place::Length { high: byte },
-            Spoken::Asks => Place::Inside {
-                size: ASK,
-                left: ASK - 1,
-            },
+            });
+        }
+        FrameWatch {
+            place: Place::Between,
+            stop: size == 1 && byte == self.speech.stop,
+            ..self
         }
     }
 
-    /// The place behind the length of a frame of so many bytes. An empty one is whole.
-    fn begin(&mut self, size: u16) -> Place {
-        if size > 0 {
-            return Place::Inside { size, left: size };
-        }
-        self.stop = false;
-        Place::Between
+    /// Whether it is at this position.
+    fn is_at(&self, place: Place) -> bool
+        ensures { IsTrue result ↔ (self.now.place ≡ place) }
+    {
+        self.place == place
     }
+
+    /// The watch at this position.
+    fn at(self, place: Place) -> FrameWatch
+        ensures { result ≡ record self { place = place } }
+    {
+        FrameWatch { place, ..self }
+    }
+}
+
+/// The number with these two bytes.
+fn size_of(high: u8, low: u8) -> u16
+    ensures is { result ≡ high * 256 + low }
+    ensures fits { result < 2 ^ 16 }
+{
+    u16::from(high) * 256 + u16::from(low)
 }

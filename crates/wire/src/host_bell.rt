@@ -1,10 +1,11 @@
 //! A bell between threads.
-ghost use Rattle.std.specs.Prelude.{◌≡◌, false};
+ghost use Rattle.std.specs.Prelude.{◌≡◌, false, true};
+ghost use Rattle.wire.specs.declared.bell.Ring.TheVariants.{Rung, Shut};
 
 use crate::{Bell, Built, Ear, Ring};
 use std::sync::{Condvar, Mutex, Wait};
 
-/// A bell that wakes a thread. Rings while nobody waits are kept, many as one. One build runs at a time.
+/// A bell that wakes a thread. Rings while nobody waits are kept as one ring. One build runs at a time.
 #[derive(Drop)]
 pub struct HostBell {
     heard: Mutex<Heard>,
@@ -13,7 +14,7 @@ pub struct HostBell {
     built: Condvar,
 }
 
-/// What was done to a bell since its ear waited last.
+/// What has happened to a bell since its ear last waited.
 #[derive(Drop)]
 struct Heard {
     rung: bool,
@@ -21,13 +22,44 @@ struct Heard {
 }
 
 impl Heard {
+    /// Whether there is nothing to hear.
     fn is_nothing(&self) -> bool {
         !self.rung && !self.shut
+    }
+
+    /// Records a ring.
+    fn ring(&mut self)
+        ensures rung { self.new.rung ≡ true }
+        ensures shut { self.new.shut ≡ self.old.shut }
+    {
+        self.rung = true;
+    }
+
+    /// Records that the bell was shut.
+    fn shut(&mut self)
+        ensures rung { self.new.rung ≡ self.old.rung }
+        ensures shut { self.new.shut ≡ true }
+    {
+        self.shut = true;
+    }
+
+    /// Hears what there is: all rings as one, and after them that the bell was shut.
+    fn hear(&mut self) -> Ring
+        ensures rings { self.old.rung ≡ true → result ≡ Rung }
+        ensures silence { self.old.rung ≡ false → result ≡ Shut }
+        ensures rung { self.new.rung ≡ false }
+        ensures shut { self.new.shut ≡ self.old.shut }
+    {
+        if self.rung {
+            self.rung = false;
+            return Ring::Rung;
+        }
+        Ring::Shut
     }
 }
 
 impl HostBell {
-    /// A bell that was not rung yet.
+    /// A bell that has not been rung.
     pub fn new() -> HostBell {
         HostBell {
             heard: Mutex::new(Heard {
@@ -55,12 +87,12 @@ impl HostBell {
 
 impl Bell for HostBell {
     fn ring<R: Wait>(&self, rt: &R) {
-        self.heard.lock(rt).rung = true;
+        self.heard.lock(rt).ring();
         self.changed.notify_one();
     }
 
     fn shut<R: Wait>(&self, rt: &R) {
-        self.heard.lock(rt).shut = true;
+        self.heard.lock(rt).shut();
         self.changed.notify_one();
     }
 
@@ -78,7 +110,7 @@ impl Bell for HostBell {
     }
 }
 
-/// The ear of a [`HostBell`]. It hears what was rung before it hears that the bell was shut.
+/// The ear of a [`HostBell`]. It hears the rings before it hears that the bell was shut.
 #[derive(Drop)]
 pub struct HostEar<'a> {
     bell: &'a HostBell,
@@ -95,12 +127,11 @@ impl<'a> Ear for HostEar<'a> {
             .bell
             .changed
             .wait_while(rt, heard, |heard| heard.is_nothing());
-        if heard.rung {
-            heard.rung = false;
-            self.rung = self.rung.saturating_add(1);
-            return Ring::Rung;
+        let ring = heard.hear();
+        match ring {
+            Ring::Rung => self.rung = self.rung.saturating_add(1),
+            Ring::Shut => self.over = true,
         }
-        self.over = true;
-        Ring::Shut
+        ring
     }
 }

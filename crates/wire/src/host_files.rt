@@ -5,10 +5,10 @@ use crate::{Opened, Opener, ReaderFiles};
 use std::fs::OpenFile;
 use std::{fs, io, rt};
 
-/// Files of the system, read through its runtime. They tell no content, as the system tells none.
+/// Files of the system, read through its runtime. They tell no content, because the system tells none.
 pub type HostFiles<'a, R> = ReaderFiles<HostOpener<'a, R>>;
 
-/// What opens files of the system.
+/// Opens files of the system.
 #[derive(Drop)]
 pub struct HostOpener<'a, R> {
     rt: &'a R,
@@ -27,7 +27,7 @@ impl<'a, R: rt::Files> Opener for HostOpener<'a, R> {
 }
 
 impl<'a, R: rt::Files> HostFiles<'a, R> {
-    /// The files that this runtime reaches.
+    /// The files that this runtime can reach.
     pub fn new(rt: &'a R) -> HostFiles<'a, R>
         ensures { result.faults ≡ 0 }
     {

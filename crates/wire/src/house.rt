@@ -1,4 +1,4 @@
-//! What opens doors at ports, and calls at the ports of others.
+//! Opens doors at ports, and connects to the ports of others.
 ghost use Rattle.std.specs.Prelude.{◌≡◌, ◌≤◌, All, None, length, vec_len, IfOk, OnOk, OnErr, IsErrOf};
 ghost use Rattle.wire.specs.Causes.{Rose};
 ghost use Rattle.wire.specs.Talks.{IsUnused};
@@ -13,10 +13,10 @@ use thiserror::Error;
 /// Why no doors were opened.
 #[derive(Debug, Clone, Copy, PartialEq, Eq, Error)]
 pub enum HouseError {
-    /// The outside refused.
+    /// The system refused.
     #[error("the port cannot be opened")]
     Failed,
-    /// There is no memory for the doors.
+    /// Memory for the doors ran out.
     #[error("no memory for the doors")]
     NoMemory,
 }
@@ -32,30 +32,30 @@ impl From<AllocError> for HouseError {
 /// A request for doors.
 #[derive(Debug, Clone, Copy, Default, PartialEq, Eq)]
 pub struct DoorsAsked {
-    /// The port at which they are to open.
+    /// The port to open them at.
     pub port: u16,
-    /// How many they are to be.
+    /// How many to open.
     pub count: u32,
 }
 
-/// What opens doors at ports, and calls at the ports of others. Doors and links are to be handed
-/// back. It counts faults of doors, of reading and of writing apart.
+/// Opens doors at ports, and connects to the ports of others. Doors and links must be handed back.
+/// It counts faults of doors, of reading and of writing separately.
 pub trait House {
-    /// The links that it gives.
+    /// The type of its links.
     type Conn: Link;
 
-    /// The doors that it gives.
+    /// The type of its doors.
     type Door: Door;
 
-    /// What is known of it: what was asked of it, what it gave and what was handed back, where it
-    /// tells it, and its faults.
+    /// What is known of it: the requests to it, what it gave and what was handed back, if it tells
+    /// it, and its faults.
     ghost at: { Self → AtHouse Self.Door Self.Conn };
 
-    /// Opens so many doors at a port. Nobody has knocked at them yet. It may be asked twice, at two
-    /// ports.
+    /// Opens `count` doors at a port. Nobody has knocked at them yet. It may be called twice, for
+    /// two ports.
     ///
     /// # Errors
-    /// `Failed` where the outside refuses, and `NoMemory` where there is none for the list.
+    /// `Failed` if the system refuses, and `NoMemory` if memory for the list runs out.
     fn doors(&mut self, alloc: Global, port: u16, count: u32) -> Result<Vec<Self::Door>, HouseError>
         requires once { length (at self.old).asked ≤ 1 }
         requires port { IsNewPort (at self.old).asked port }
@@ -72,11 +72,11 @@ pub trait House {
         ensures otherwise { IsErrOf result HouseError.NoMemory
             → (at self.new).door_faults ≡ (at self.old).door_faults };
 
-    /// Calls at a port, once. Of the link nothing was taken, nothing was sent, and no call has
+    /// Connects to a port, once. On the new link nothing has been received or sent, and no call has
     /// failed.
     ///
     /// # Errors
-    /// `Failed` where the outside refuses.
+    /// `Failed` if the connection is refused.
     fn call(&mut self, port: u16) -> Result<Self::Conn, Failed>
         requires { (at self.old).called ≡ None }
         ensures unused { IfOk result (λ link. IsUnused (Self.Conn.at link)) }

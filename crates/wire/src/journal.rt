@@ -1,27 +1,62 @@
-//! Words for the operator, on standard error.
+//! Log lines for the operator, on standard error.
 
-use std::fmt::Display;
+use crate::stderr::put_error_line;
+use std::fmt;
+use std::fmt::{Display, Formatter};
 use std::io::Eprint;
+use std::sync::atomic::{AtomicU64, Ordering};
+use thiserror::Error;
 
-/// Where words for the operator go: to standard error, where they are wanted.
+/// The log for the operator, on standard error if it is wanted. Each line starts with the name of the program that
+/// writes it. A line that standard error does not take at once is lost; the next line that it takes, from any journal
+/// with the same count, says how many were lost.
 #[derive(Drop)]
 pub struct Journal<'a, R> {
     rt: &'a R,
     kept: bool,
+    speaker: &'static str,
+    lost: &'a AtomicU64,
+}
+
+/// The log line that says how many lines were lost.
+#[derive(Debug, Clone, Copy, Error)]
+#[error("standard error took no lines for a while; lost before this one: {lost}")]
+struct Lost {
+    lost: u64,
+}
+
+/// A line after the name of its program.
+#[derive(Drop)]
+struct Said<D> {
+    speaker: &'static str,
+    line: D,
+}
+
+impl<D: Display> Display for Said<D> {
+    fn fmt<W: fmt::Write>(&self, f: &mut Formatter<W>) -> fmt::Result {
+        write!(f, "{}: {}", self.speaker, self.line)
+    }
+}
+
+/// The plural ending of a word for `count` things.
+pub(crate) fn plural(count: u64) -> &'static str {
+    if count == 1 { "" } else { "s" }
 }
 
 impl<'a, R: Eprint> Journal<'a, R> {
-    /// A journal that is kept, or not, through this runtime.
-    pub fn new(rt: &'a R, kept: bool) -> Journal<'a, R> {
-        Journal { rt, kept }
+    /// A journal with this name, kept or not, through this runtime, with a count of lost lines.
+    pub fn of(speaker: &'static str, rt: &'a R, kept: bool, lost: &'a AtomicU64) -> Journal<'a, R> {
+        Journal {
+            rt,
+            kept,
+            speaker,
+            lost,
+        }
     }
 
-    /// Another one, kept where this one is.
+    /// Another journal, kept if this one is.
     pub(crate) fn another(&self) -> Journal<'a, R> {
-        Journal {
-            rt: self.rt,
-            kept: self.kept,
-        }
+        Journal::of(self.speaker, self.rt, self.kept, self.lost)
     }
 
     /// The runtime.
@@ -29,15 +64,32 @@ impl<'a, R: Eprint> Journal<'a, R> {
         self.rt
     }
 
-    /// Puts a line where the journal is kept. Nothing is left to do where standard error takes none.
+    /// Writes a line if the journal is kept.
     pub fn note<D: Display + Drop>(&self, line: D) {
         if self.kept {
             self.tell(line);
         }
     }
 
-    /// Puts a line, also where the journal is not kept.
+    /// Writes a line even if the journal is not kept. It never waits: a line that is not taken is counted.
     pub(crate) fn tell<D: Display + Drop>(&self, line: D) {
-        let _ = self.rt.eprintln(line);
+        let lost = self.lost.swap(0, Ordering::SeqCst);
+        if lost != 0 && !self.put(Lost { lost }) {
+            self.lost.fetch_add(lost, Ordering::SeqCst);
+        }
+        if !self.put(line) {
+            self.lost.fetch_add(1, Ordering::SeqCst);
+        }
+    }
+
+    /// Writes a line to standard error, and says whether that took it.
+    fn put<D: Display + Drop>(&self, line: D) -> bool {
+        put_error_line(
+            self.rt,
+            Said {
+                speaker: self.speaker,
+                line,
+            },
+        )
     }
 }

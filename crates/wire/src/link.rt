@@ -6,20 +6,20 @@ ghost use Rattle.wire.specs.Talks.{OnlyReads, OnlyWrites, ReadFails, WriteFails}
 
 use crate::Failed;
 
-/// A connection: bytes come in, and bytes are sent. It counts the faults of each direction apart.
+/// A connection: bytes come in, and bytes are sent. It counts the faults of each direction separately.
 pub trait Link: Send {
-    /// What is known of it: what came in and what was sent, where it tells it, and its faults.
+    /// What is known of it: what came in and what was sent, if it tells it, and its faults.
     ghost at: { Self → AtLink };
 
     /// Puts the next bytes that come in at the front of `room`, and says how many; 0 is the end. A
     /// recv that fails takes nothing.
     fn recv(&mut self, room: &mut [u8]) -> Result<usize, Failed>
         requires room { 0 < length room.old }
-        // Also where no talk is told.
+        // Holds even if no talk is told.
         ensures count { IfOk result (λ count. count ≤ length room.old) }
 
-        // Where the talk is told, the bytes are the front of what was left, and the room is
-        // unchanged behind them; none come exactly at the end.
+        // If the talk is told, the bytes are the front of what was left, and the room after them is
+        // unchanged; no bytes come exactly at the end.
         ensures left { IfOk result (λ count. HasLeft (at self.old).talk count) }
         ensures room { IfOk result (λ count. FillsRoom (at self.old).talk count room.old room.new) }
         ensures end { IfOk result (λ count. EndsAtZero (at self.old).talk count) }
@@ -28,11 +28,11 @@ pub trait Link: Send {
         ensures kept { OnErr result ((at self.new).talk ≡ (at self.old).talk) }
         ensures unfilled { OnErr result (KeepsRoom (at self.old).talk room.old room.new) }
 
-        // A fault has its cause in the count of this direction.
+        // A fault is counted for this direction.
         ensures cause { OnErr result (ReadFails (at self.old) (at self.new)) }
         ensures counts { OnlyReads (at self.old) (at self.new) };
 
-    /// Sends the first bytes of `piece`, and says how many. To take none of a piece that is not
+    /// Sends the first bytes of `piece`, and says how many. Taking none of a piece that is not
     /// empty is a fault. A send that fails sends nothing.
     fn send(&mut self, piece: &[u8]) -> Result<usize, Failed>
         ensures count { IfOk result (λ count. count ≤ length piece.now) }
@@ -45,12 +45,12 @@ pub trait Link: Send {
         ensures counts { OnlyWrites (at self.old) (at self.new) };
 }
 
-/// Sends a whole text, in as many pieces as the link takes it in.
+/// Sends a whole text, in as many pieces as the link needs.
 ///
 /// # Errors
 ///
-/// `Failed` where a send fails. A first part of the text has been sent then, which is less than the
-/// whole: the fault met a piece that was not empty.
+/// `Failed` if a send fails. The link has then sent a first part of the text, less than the whole:
+/// the fault met a piece that was not empty.
 pub fn send_all<L: Link>(link: &mut L, text: &[u8]) -> Result<(), Failed>
     ensures sent { OnOk result ((L.at link.new).talk ≡ with_sent (L.at link.old).talk text.now) }
     ensures prefix { OnErr result

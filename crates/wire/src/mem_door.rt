@@ -10,7 +10,7 @@ use std::collections::VecDeque;
 use std::marker::Model;
 
 /// A door in memory, for tests. It gives the connections that it was made with, keeps those that
-/// are handed back, and is quiet or fails at the knocks that are planned to.
+/// are handed back, and is quiet or fails at the planned knocks.
 #[derive(Drop)]
 pub struct MemDoor {
     waiting: VecDeque<MemLink>,
@@ -50,13 +50,13 @@ impl Model for MemDoor {
 impl MemDoor {
     ghost use Rattle.wire.specs.DoorInMemory.{new_door, at_port};
 
-    /// A door that gives these connections in order, and then is closed. `fails` has the numbers of
-    /// the knocks that are to fail, and `quiet` of those that find nobody; the first knock is
-    /// number 1.
+    /// A door that gives these connections in order and then is closed. `fails` lists the numbers
+    /// of the knocks that fail, and `quiet` those of the knocks that find nobody; the first knock
+    /// is number 1.
     ///
     /// # Errors
     ///
-    /// `AllocError` where memory runs out.
+    /// `AllocError` if memory runs out.
     pub fn new(
         alloc: Global,
         conns: Vec<MemLink>,
@@ -107,7 +107,7 @@ impl MemDoor {
         self.faults
     }
 
-    /// Gives it at this port.
+    /// Sets the port at which a house gives it.
     pub(crate) fn open_at(&mut self, port: u16)
         ensures { self.new ≡ at_port self.old port }
     {

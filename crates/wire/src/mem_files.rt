@@ -9,8 +9,8 @@ use crate::{FileError, Files};
 use std::alloc::{AllocError, Global};
 use std::marker::Model;
 
-/// Files in memory, for tests. They tell their content, and fail at the reads that are planned to
-/// fail and at names that no file has.
+/// Files in memory, for tests. They tell their content, and fail at the planned reads and at names
+/// that no file has.
 #[derive(Drop)]
 pub struct MemFiles {
     files: Vec<(String, Vec<u8>)>,
@@ -39,12 +39,12 @@ impl MemFiles {
     ghost use Rattle.wire.specs.FilesInMemory.{HasNoFault, NamesDiffer, TellsEach, TellsNoOther};
     ghost use Rattle.wire.specs.FilesInMemory.{faults_of, named_bytes, new_files};
 
-    /// Files of these names and bytes. `fails` has the numbers of the reads that are to fail; the
+    /// Files with these names and bytes. `fails` lists the numbers of the reads that fail; the
     /// first read is number 1.
     ///
     /// # Errors
     ///
-    /// `AllocError` where memory runs out.
+    /// `AllocError` if memory runs out.
     pub fn new(
         alloc: Global,
         files: Vec<(String, Vec<u8>)>,
@@ -65,7 +65,7 @@ impl MemFiles {
         })
     }
 
-    /// How often reading this name has failed, or any name that no file has.
+    /// How often reading this name has failed, or, if no file has it, reading any such name.
     pub fn fault_count(&self, name: &str) -> u64
         ensures { result ≡ faults_of self.now name.now }
     {
@@ -80,7 +80,7 @@ fn find(files: &[(String, Vec<u8>)], name: &str) -> Option<usize>
     files.iter().position(|file| file.0.as_str() == name)
 }
 
-// The place of a name among the files, or the place behind them.
+// The index of a name among the files, or their number if no file has it.
 fn place_in(files: &[(String, Vec<u8>)], name: &str) -> usize
     ensures place { result ≡ place_of (named_bytes files.now) name.now }
     ensures within { result ≤ length files.now }
@@ -88,7 +88,7 @@ fn place_in(files: &[(String, Vec<u8>)], name: &str) -> usize
     find(files, name).unwrap_or(files.len())
 }
 
-// A copy of these bytes, of which there may be `limit`.
+// Copies these bytes, at most `limit`.
 fn copy_within(alloc: Global, bytes: &[u8], limit: usize) -> Result<Vec<u8>, FileError>
     ensures within { IfOk result (λ copy. vec_len copy ≤ limit) }
     ensures bytes { IfOk result (λ copy. copy.items ≡ bytes.now) }

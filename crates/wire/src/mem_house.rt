@@ -13,7 +13,7 @@ use std::alloc::{AllocError, Global};
 use std::marker::Model;
 
 /// A house in memory, for tests. It gives the doors and the link that it was made with, keeps those
-/// that are handed back, and fails at the calls that are planned to fail.
+/// that are handed back, and fails at the planned calls.
 #[derive(Drop)]
 pub struct MemHouse {
     doors: Vec<(u16, MemDoor)>,
@@ -65,12 +65,12 @@ impl Model for MemHouse {
 impl MemHouse {
     ghost use Rattle.wire.specs.HouseInMemory.{AreNewDoors, IsNewLinkAt, new_house};
 
-    /// A house that gives these doors and this link, each at its port. `fails` has the numbers of the
-    /// calls of `doors` and `call` that are to fail; the first of both is number 1.
+    /// A house that gives these doors and this link, each at its port. `fails` lists the numbers of the calls of
+    /// `doors` and `call` that fail; the first of either is number 1.
     ///
     /// # Errors
     ///
-    /// `AllocError` where memory runs out.
+    /// `AllocError` if memory runs out.
     pub fn new(
         alloc: Global,
         doors: Vec<(u16, MemDoor)>,
@@ -119,7 +119,7 @@ impl MemHouse {
         self.asked.as_slice()
     }
 
-    // Whether so many doors at this port are refused.
+    // Whether it refuses `count` doors at this port.
     fn refuses(&self, port: u16, count: usize) -> bool
         ensures { result ≡ doors_fail self.now port count }
     {
@@ -156,7 +156,7 @@ fn count_at(doors: &[(u16, MemDoor)], port: u16) -> usize
     doors.iter().filter(|door| door.0 == port).count()
 }
 
-// The place of the first door at this port.
+// The index of the first door at this port.
 fn place_at(doors: &[(u16, MemDoor)], port: u16) -> Option<usize>
     ensures { result ≡ position (λ door. door.0 == port) doors.now }
 {
@@ -177,7 +177,7 @@ fn take_at(doors: &mut Vec<(u16, MemDoor)>, port: u16) -> MemDoor
     doors.remove(place).1
 }
 
-// Takes so many doors at this port, the first ones.
+// Takes the first `count` doors at this port.
 fn take_all_at(
     alloc: Global,
     doors: &mut Vec<(u16, MemDoor)>,

@@ -9,8 +9,8 @@ use crate::{Failed, Link, MemSink, Sink};
 use std::alloc::{AllocError, Global};
 use std::marker::Model;
 
-/// A link in memory, for tests. It takes its room when it is made, tells its whole talk, and fails
-/// at the calls that are planned to fail and where no room is left for what is sent.
+/// A link in memory, for tests. It allocates its room when it is made, tells its whole talk, and
+/// fails at the planned calls and when no room is left for what is sent.
 #[derive(Drop)]
 pub struct MemLink {
     input: Unread,
@@ -41,14 +41,14 @@ impl Model for MemLink {
 impl MemLink {
     ghost use Rattle.wire.specs.LinkInMemory.{CutsGiveSome, new_link};
 
-    /// A link on which `input` comes in, with room for `room` bytes to be sent. Each recv gives at
-    /// most as many bytes as its size in `cuts`, the first recv the first size, and recvs past the
-    /// end of `cuts` are not cut. `recv_fails` and `send_fails` have the numbers of the recvs and of
-    /// the sends that are to fail; the first of each is number 1.
+    /// A link that receives `input` and has room to send `room` bytes. Each recv gives at most the
+    /// number of bytes in `cuts`, the first recv the first number; recvs past the end of `cuts` are
+    /// not cut. `recv_fails` and `send_fails` list the numbers of the recvs and of the sends that
+    /// fail; the first of each is number 1.
     ///
     /// # Errors
     ///
-    /// `AllocError` where memory runs out.
+    /// `AllocError` if memory runs out.
     pub fn new(
         alloc: Global,
         input: Vec<u8>,

@@ -6,8 +6,8 @@ use crate::{Failed, Sink};
 use std::alloc::{AllocError, Global};
 use std::marker::Model;
 
-/// A sink in memory, for tests. It takes its room when it is made, tells its bytes, and fails at
-/// the puts that are planned to fail and where no room is left.
+/// A sink in memory, for tests. It allocates its room when it is made, tells its bytes, and fails
+/// at the planned puts and when no room is left.
 #[derive(Drop)]
 pub struct MemSink {
     bytes: Vec<u8>,
@@ -40,24 +40,24 @@ impl Model for MemSink {
 impl MemSink {
     ghost use Rattle.wire.specs.SinkInMemory.{new_sink};
 
-    /// A sink with room for `room` bytes. `fails` has the numbers of the puts that are to fail; the
+    /// A sink with room for `room` bytes. `fails` lists the numbers of the puts that fail; the
     /// first put is number 1.
     ///
     /// # Errors
     ///
-    /// `AllocError` where memory runs out.
+    /// `AllocError` if memory runs out.
     pub fn new(alloc: Global, room: usize, fails: Vec<u64>) -> Result<MemSink, AllocError>
         ensures { IfOk result (λ sink. sink ≡ new_sink room [] fails.items) }
     {
         MemSink::cut(alloc, room, Vec::new(alloc), fails)
     }
 
-    /// The same, with sizes at which pieces are cut: each put takes at most as many bytes as its
-    /// size, the first put the first size, and puts past the end of `cuts` are not cut.
+    /// The same with cuts: each put takes at most the number of bytes in `cuts`, the first put the
+    /// first number; puts past the end of `cuts` are not cut.
     ///
     /// # Errors
     ///
-    /// `AllocError` where memory runs out.
+    /// `AllocError` if memory runs out.
     pub fn cut(
         alloc: Global,
         room: usize,

@@ -1,25 +1,26 @@
-//! A port that opens.
+//! Opening a port.
 ghost use Rattle.std.specs.Prelude.{◌≡◌, All, vec_len, IfOk};
 
-use crate::front::{Front, Stopping};
+use crate::front::{Front, Server};
+use crate::journal::plural;
 use crate::limits::{has_threads, lack_of_descriptors};
 use crate::ticks::millis_since;
-use crate::{HouseError, Journal, TcpDoor};
+use crate::{HouseError, Journal, Speech, TcpDoor};
 use std::alloc::{AllocError, Global};
-use std::io;
 use std::io::Eprint;
 use std::net::{Net, TcpListener, TcpStream};
 use std::sync::{Arc, Wait};
 use std::thread::Threads;
 use std::time::{Clock, Instant};
+use std::{io, rt};
 use thiserror::Error;
 
 /// Why a port was not opened.
 #[derive(Debug, Clone, Copy)]
 pub(crate) enum PortError {
-    /// The system refuses it, or descriptors for its doors, in these words.
+    /// The system refuses it, or descriptors for its doors, with this message.
     Refused(io::Error),
-    /// There is no memory for it, or the system refuses threads.
+    /// Memory for it ran out, or the system refuses threads.
     NoMemory,
 }
 
@@ -29,57 +30,70 @@ impl From<AllocError> for PortError {
     }
 }
 
-/// That a port was opened.
+/// The log line for a port that was opened.
 #[derive(Debug, Clone, Copy, Error)]
-#[error("path_server serve: port {port} open, {count} doors, {millis} ms after the start")]
+#[error("port {port} open, {count} door{s}, {millis} ms after the start")]
 struct OpenedAt {
     port: u16,
     count: u32,
+    s: &'static str,
     millis: u64,
 }
 
-/// That the system gives fewer threads than the doors need.
+/// The message when the system gives fewer threads than the doors and the builder need.
 #[derive(Debug, Clone, Copy, Error)]
-#[error("path_server serve: {count} doors need as many threads and one, and the system gives fewer")]
+#[error("{count} threads are needed, and the system gives fewer")]
 struct FewThreads {
-    count: u32,
+    count: u64,
 }
 
-/// That the system gives fewer descriptors than the doors need.
+/// The message when the system gives fewer descriptors than the doors need.
 #[derive(Debug, Clone, Copy, Error)]
-#[error("path_server serve: {count} doors need as many descriptors, and the system gives fewer")]
+#[error("the doors need {count} more descriptor{s}, and the system gives fewer")]
 struct FewDescriptors {
     count: u32,
+    s: &'static str,
 }
 
-/// What so many doors at a port share. It is not opened where the system gives fewer threads or
-/// descriptors than they need, which standard error then says.
+/// Opens what the doors at a port share. It does not open if the system gives fewer threads or descriptors than all
+/// doors of the server need at once; standard error then says so.
 ///
 /// # Errors
 ///
-/// `Refused` where the system refuses the port or descriptors, and `NoMemory` where there is none, or
-/// where it refuses threads.
+/// `Refused` if the system refuses the port or descriptors, and `NoMemory` if memory runs out or the system refuses
+/// threads.
 pub(crate) fn open_front<'a, R>(
     journal: &Journal<'a, R>,
     alloc: Global,
+    speech: Speech,
     port: u16,
-    count: u32,
-    stopping: Arc<Stopping>,
+    all: u32,
+    server: Arc<Server<'a>>,
 ) -> Result<Arc<Front<'a, R>>, PortError>
 where
-    R: Net<Listener = TcpListener, Stream = TcpStream> + Clock + Eprint + Threads + Wait,
+    R: Net<Listener = TcpListener, Stream = TcpStream>
+        + Clock
+        + Eprint
+        + Threads
+        + Wait
+        + rt::Files,
 {
-    let front = match Front::at(journal.another(), port, stopping) {
+    let front = match Front::at(journal.another(), speech, port, server) {
         Ok(front) => front,
         Err(error) => return Err(PortError::Refused(error)),
     };
-    if let Some(error) = lack_of_descriptors(alloc, front.listener(), count as usize)? {
-        journal.tell(FewDescriptors { count });
+    if let Some(error) = lack_of_descriptors(alloc, front.listener(), all as usize)? {
+        journal.tell(FewDescriptors {
+            count: all,
+            s: plural(u64::from(all)),
+        });
         return Err(PortError::Refused(error));
     }
-    // The system does not say whether a thread was refused for want of memory or by a limit.
-    if !has_threads(journal.rt(), count) {
-        journal.tell(FewThreads { count });
+    // The system does not say whether it refused a thread because memory ran out or by a limit.
+    if !has_threads(journal.rt(), all) {
+        journal.tell(FewThreads {
+            count: u64::from(all) + 1,
+        });
         return Err(PortError::NoMemory);
     }
     match Arc::new(alloc, front) {
@@ -88,7 +102,7 @@ where
     }
 }
 
-/// So many doors of a front.
+/// Makes `count` doors of a front.
 pub(crate) fn doors_of<'a, R: Clock + Eprint>(
     front: &Arc<Front<'a, R>>,
     alloc: Global,
@@ -104,7 +118,7 @@ pub(crate) fn doors_of<'a, R: Clock + Eprint>(
     Ok(doors)
 }
 
-/// Tells the operator that a port was opened, and how long after that time.
+/// Logs that a port was opened, and how long after that time.
 pub(crate) fn tell_opened<R: Clock + Eprint>(
     journal: &Journal<'_, R>,
     begun: Option<Instant>,
@@ -118,6 +132,7 @@ pub(crate) fn tell_opened<R: Clock + Eprint>(
     journal.note(OpenedAt {
         port,
         count,
+        s: plural(u64::from(count)),
         millis,
     });
 }

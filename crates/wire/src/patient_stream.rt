@@ -1,36 +1,25 @@
-//! A connection of a caller, who waits so long for an answer and no longer.
+//! A caller's connection, with a timeout for answers.
 ghost use Rattle.std.specs.Prelude.{◌<◌, ◌≤◌, length, IfOk};
 
 use crate::front::address;
-use crate::ticks::{TICK_TIME, keep_time, read_tick, ticking, write_tick};
+use crate::patience::{ANSWER_TIME, Awaited, Cause, Waiting, waiting_for, why_ended};
+use crate::ticks::{TICK_TIME, read_tick, ticking, write_tick};
 use crate::{Failed, Journal};
 use std::io::{Eprint, ErrorKind};
 use std::net::{Net, SocketAddr, TcpStream};
 use std::time::{Clock, Duration, Instant};
-use thiserror::Error;
 
-/// How long a caller waits until an answer is whole, in seconds, and as long for a connection. The time of
-/// each answer runs from what was sent for it.
-pub const ANSWER_TIME: u64 = 120;
-
-/// A connection of a caller. Standard error says where it waits, and where it gives up.
+/// A caller's connection. Standard error says when it waits and when it gives up.
 #[derive(Drop)]
 pub(crate) struct PatientStream<'a, R> {
     stream: TcpStream,
     journal: Journal<'a, R>,
-    since: Option<Instant>,
+    waiting: Option<Waiting>,
     heard: bool,
     waits: bool,
 }
 
-/// That nothing came for so many seconds.
-#[derive(Debug, Clone, Copy, Error)]
-#[error("path_server: no whole answer came in {seconds} seconds")]
-struct Silence {
-    seconds: u64,
-}
-
-/// A connection to a port. Where none comes about at once, standard error says that it is waited for.
+/// Connects to a port. If that takes a while, standard error says that it waits.
 fn connect<R: Net<Stream = TcpStream> + Eprint>(
     journal: &Journal<'_, R>,
     port: u16,
@@ -44,7 +33,7 @@ fn connect<R: Net<Stream = TcpStream> + Eprint>(
     match TcpStream::connect_timeout(journal.rt(), &at, Duration::from_secs(ANSWER_TIME)) {
         Ok(stream) => Ok(stream),
         Err(_) => {
-            tell_silence(journal);
+            tell_end(journal, Cause::NoAnswer);
             Err(Failed)
         }
     }
@@ -52,22 +41,20 @@ fn connect<R: Net<Stream = TcpStream> + Eprint>(
 
 /// Says that nothing has come yet.
 fn tell_waiting<R: Eprint>(journal: &Journal<'_, R>) {
-    journal.tell("path_server: waiting: no door may be free, or a build goes on");
+    journal.tell("waiting: no door may be free, or a build goes on");
 }
 
-/// Says that nothing came in time.
-fn tell_silence<R: Eprint>(journal: &Journal<'_, R>) {
-    journal.tell(Silence {
-        seconds: ANSWER_TIME,
-    });
+/// Says why it gives up.
+fn tell_end<R: Eprint>(journal: &Journal<'_, R>, cause: Cause) {
+    journal.tell(cause);
 }
 
 impl<'a, R: Net<Stream = TcpStream> + Eprint> PatientStream<'a, R> {
-    /// A connection to a port of this machine.
+    /// Connects to a port of this machine.
     ///
     /// # Errors
     ///
-    /// `Failed` where nobody listens there, or no connection comes about in [`ANSWER_TIME`].
+    /// `Failed` if nobody listens there, or no connection comes about within [`ANSWER_TIME`].
     pub(crate) fn to(journal: Journal<'a, R>, port: u16) -> Result<PatientStream<'a, R>, Failed> {
         let Ok(stream) = ticking(connect(&journal, port)?) else {
             return Err(Failed);
@@ -75,7 +62,7 @@ impl<'a, R: Net<Stream = TcpStream> + Eprint> PatientStream<'a, R> {
         Ok(PatientStream {
             stream,
             journal,
-            since: None,
+            waiting: None,
             heard: false,
             waits: false,
         })
@@ -87,7 +74,7 @@ impl<'a, R: Clock + Eprint> PatientStream<'a, R> {
     pub(crate) fn receive(&mut self, room: &mut [u8]) -> Result<usize, Failed>
         ensures count { IfOk result (λ count. count ≤ length room.old) }
     {
-        for _ in 0..=ANSWER_TIME {
+        for _ in 0..u64::MAX {
             self.may_wait()?;
             if let Some(count) = read_tick(&mut self.stream, room)? {
                 self.heard = true;
@@ -104,7 +91,7 @@ impl<'a, R: Clock + Eprint> PatientStream<'a, R> {
         ensures some { IfOk result (λ count. 0 < length piece.now → 0 < count) }
     {
         self.ask_anew();
-        for _ in 0..=ANSWER_TIME {
+        for _ in 0..u64::MAX {
             self.may_wait()?;
             if let Some(count) = write_tick(&mut self.stream, piece)? {
                 return Ok(count);
@@ -114,21 +101,28 @@ impl<'a, R: Clock + Eprint> PatientStream<'a, R> {
         Err(Failed)
     }
 
-    /// Begins to wait for a further answer, where something of the one before has come in.
+    /// Begins to wait for another answer, if part of the last one has come in.
     fn ask_anew(&mut self) {
         if self.heard {
-            self.since = None;
+            self.waiting = None;
             self.heard = false;
         }
     }
 
-    /// Whether more may be waited for. The time runs from the first call on.
+    /// Whether it may wait longer. The time runs from the first call.
     fn may_wait(&mut self) -> Result<(), Failed> {
-        let outcome = keep_time(self.journal.rt(), &mut self.since, ANSWER_TIME);
-        if outcome.is_err() {
-            tell_silence(&self.journal);
+        let Ok(now) = Instant::now(self.journal.rt()) else {
+            return Err(Failed);
+        };
+        let waiting = waiting_for(self.waiting, Awaited::Answer, now);
+        self.waiting = Some(waiting);
+        match why_ended(waiting, None, now) {
+            Some(cause) => {
+                tell_end(&self.journal, cause);
+                Err(Failed)
+            }
+            None => Ok(()),
         }
-        outcome
     }
 
     /// Says once that it waits.

@@ -1,4 +1,4 @@
-//! Files over anything that opens readers of std by name.
+//! Files over anything that opens std readers by name.
 ghost use Rattle.std.specs.Prelude.{◌≡◌, ◌≤◌, take, vec_len, IfOk, IfErr, IfSome, OnOk, IsErrOf};
 ghost use Rattle.wire.specs.Causes.{Rose};
 ghost use Rattle.wire.specs.Contents.{Tells, TellsAtMost, TellsMoreThan};
@@ -12,7 +12,7 @@ use std::io::{ErrorKind, Read};
 use std::marker::Model;
 
 /// Files that are opened by name and read to their end. They tell the content that the opener
-/// tells. One counter is the count of faults of every name.
+/// tells. One counter counts the faults of all names.
 #[derive(Drop)]
 pub struct ReaderFiles<O> {
     opener: O,
@@ -101,11 +101,11 @@ impl<O: Opener> Files for ReaderFiles<O> {
 /// Why a reader was not read to its end.
 #[derive(Debug, Clone, Copy, PartialEq, Eq)]
 enum ReadError {
-    /// The system refused, by an error of this kind, which is not want of memory.
+    /// The system refused, with an error of this kind, which is not "out of memory".
     Fault(ErrorKind),
     /// It has more bytes than the caller allows.
     TooLong,
-    /// There is no memory for its bytes.
+    /// Memory for its bytes ran out.
     NoMemory,
 }
 
@@ -134,7 +134,7 @@ impl From<io::Error> for ReadError {
     }
 }
 
-/// All bytes of a file, of which there may be `limit`.
+/// Returns all bytes of a file, at most `limit`.
 fn read_file<O: Opener>(
     opener: &O,
     alloc: Global,
@@ -151,7 +151,7 @@ fn read_file<O: Opener>(
     read_within(alloc, opened.reader, opened.expected, limit)
 }
 
-/// All bytes that a reader has left, of which there may be `limit`. It reads at most one byte more.
+/// Returns all bytes that a reader has left, at most `limit`. It reads at most one byte more.
 fn read_within<R: Read + Drop>(
     alloc: Global,
     reader: R,
@@ -171,8 +171,8 @@ fn read_within<R: Read + Drop>(
     Ok(bytes)
 }
 
-/// The first bytes that a reader has left, at most so many. The memory is taken at once for as many
-/// as are expected.
+/// Returns the first bytes that a reader has left, up to a limit. It allocates memory at once for
+/// as many as are expected.
 fn read_first<R: Read + Drop>(
     alloc: Global,
     reader: R,

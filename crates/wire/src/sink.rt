@@ -6,15 +6,15 @@ ghost use Rattle.wire.specs.Contents.{PutsPrefix};
 
 use crate::Failed;
 
-/// A place where bytes are put, one piece after another.
+/// An output for bytes, one piece after another.
 pub trait Sink {
-    /// All bytes that it was given, where it tells them.
+    /// All bytes that it was given, if it tells them.
     ghost bytes: { Self → Option (List ℕ) };
 
     /// How often a put has failed.
     ghost faults: { Self → ℕ };
 
-    /// Takes the first bytes of `piece`, and says how many. To take none of a piece that is not
+    /// Takes the first bytes of `piece`, and says how many. Taking none of a piece that is not
     /// empty is a fault. A put that fails takes nothing.
     fn put(&mut self, piece: &[u8]) -> Result<usize, Failed>
         ensures count { IfOk result (λ count. count ≤ length piece.now) }
@@ -27,12 +27,12 @@ pub trait Sink {
         ensures later { faults self.old ≤ faults self.new };
 }
 
-/// Puts a whole text, in as many pieces as the sink takes it in.
+/// Puts a whole text, in as many pieces as the sink needs.
 ///
 /// # Errors
 ///
-/// `Failed` where a put fails. A first part of the text has been put then, which is less than the
-/// whole: the fault met a piece that was not empty.
+/// `Failed` if a put fails. The sink has then taken a first part of the text, less than the whole:
+/// the fault met a piece that was not empty.
 pub fn put_all<K: Sink>(sink: &mut K, text: &[u8]) -> Result<(), Failed>
     ensures put { OnOk result (Appends (K.bytes sink.old) (K.bytes sink.new) text.now) }
     ensures prefix { OnErr result (PutsPrefix (K.bytes sink.old) (K.bytes sink.new) text.now) }

@@ -5,7 +5,7 @@ use crate::WriterSink;
 use std::io;
 use std::io::{Print, Printer};
 
-/// The standard output, unbuffered: one write a put. It tells no bytes, as the system tells none.
+/// Standard output, unbuffered: each put is one write. It tells no bytes, because the system tells none.
 pub type StdSink<'a, R> = WriterSink<Printer<'a, R>>;
 
 impl<'a, R: Print> StdSink<'a, R> {

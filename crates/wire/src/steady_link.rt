@@ -6,8 +6,8 @@ use crate::unread::Unread;
 use crate::{Failed, Link};
 use std::marker::Model;
 
-/// A link on which an input comes in, and which drops what is sent. It tells what is left of its
-/// input and no bytes sent, and never fails: both its counts of faults are always 0.
+/// A link that receives an input and drops what is sent. It tells the rest of its input but no
+/// bytes sent, and never fails: both its fault counts are always 0.
 #[derive(Drop)]
 pub struct SteadyLink {
     input: Unread,
@@ -24,7 +24,7 @@ impl Model for SteadyLink {
 impl SteadyLink {
     ghost use Rattle.wire.specs.LinkInMemory.{new_input};
 
-    /// A link on which these bytes come in.
+    /// A link that receives these bytes.
     pub fn new(input: Vec<u8>) -> SteadyLink
         ensures { result ≡ new_input input.items }
     {

@@ -3,8 +3,8 @@ ghost use Rattle.std.specs.Prelude.{◌≡◌, Ok, None, length};
 
 use crate::{Failed, Sink};
 
-/// A sink that drops what it is given. It tells no bytes, takes no memory and never fails: its
-/// count of faults is always 0.
+/// A sink that drops what it is given. It tells no bytes, allocates nothing and never fails: its
+/// fault count is always 0.
 #[derive(Debug, Clone, Copy, Default, PartialEq, Eq)]
 pub struct SteadySink;
 

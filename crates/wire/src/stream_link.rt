@@ -9,9 +9,9 @@ use crate::{Failed, Link, Sink, WriterSink};
 use std::io::{ErrorKind, Read, Write};
 use std::marker::Model;
 
-/// A link over a reader and a writer, with nothing kept back: one read a recv and one write a send,
-/// each begun again where a signal interrupts it. It tells no talk: what the reader and the writer
-/// tell is in the clauses of its own calls.
+/// A link over a reader and a writer, unbuffered: each recv is one read and each send one write,
+/// retried if a signal interrupts it. It tells no talk; what the reader and the writer tell is in
+/// the contracts of its own calls.
 #[derive(Drop)]
 pub struct StreamLink<I, O> {
     input: I,
@@ -93,7 +93,7 @@ impl<I: Read + Send, O: Write + Send> Link for StreamLink<I, O> {
     }
 }
 
-/// One read, begun again where a signal interrupts it.
+/// One read, retried if a signal interrupts it.
 pub(crate) fn read_some<I: Read>(reader: &mut I, room: &mut [u8]) -> Result<usize, Failed>
     ensures count { IfOk result (λ count. count ≤ length room.old) }
     ensures read { IfOk result (λ count. Consumes

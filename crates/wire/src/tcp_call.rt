@@ -1,4 +1,4 @@
-//! A connection of a caller over TCP.
+//! A caller's connection over TCP.
 ghost use Rattle.std.specs.Prelude.{◌≡◌, None, IfOk};
 
 use crate::faults::count_fault;
@@ -8,9 +8,9 @@ use std::io::Eprint;
 use std::net::{Net, TcpStream};
 use std::time::Clock;
 
-/// A caller's connection over TCP: one read a recv and one write a send, and small writes leave at
-/// once. It tells no talk, as the system tells none. It fails where no whole answer came in
-/// [`ANSWER_TIME`](crate::ANSWER_TIME), and standard error says so then.
+/// A caller's connection over TCP: each recv is one read, each send one write, and small writes are
+/// sent at once. It tells no talk, because the system tells none. It fails if no whole answer comes
+/// within [`ANSWER_TIME`](crate::ANSWER_TIME), and standard error says so.
 #[derive(Drop)]
 pub struct TcpCall<'a, R> {
     stream: PatientStream<'a, R>,
@@ -19,11 +19,11 @@ pub struct TcpCall<'a, R> {
 }
 
 impl<'a, R: Net<Stream = TcpStream> + Eprint> TcpCall<'a, R> {
-    /// A connection to a port of this machine.
+    /// Connects to a port of this machine.
     ///
     /// # Errors
     ///
-    /// `Failed` where nobody listens there, or no connection comes about in time.
+    /// `Failed` if nobody listens there, or no connection comes about in time.
     pub(crate) fn to(journal: Journal<'a, R>, port: u16) -> Result<TcpCall<'a, R>, Failed>
         ensures reads { IfOk result (λ link. link.read_faults ≡ 0) }
         ensures writes { IfOk result (λ link. link.write_faults ≡ 0) }

@@ -10,13 +10,15 @@ use std::net::TcpStream;
 use std::sync::Arc;
 use std::time::Clock;
 
-/// A door at a port of 127.0.0.1. It is never closed, and tells no talks, as the system tells none. A
-/// connection that is handed back ends when the other side has closed it, or is silent for a short
-/// time. Once a connection at a door of the port has stopped the server, nobody is let in any more:
-/// who calls is refused, and each knock is quiet.
+/// A door at a port of 127.0.0.1. It is never closed, and tells no talks, because the system tells none. A connection
+/// that is handed back ends once the peer has closed it or is silent for a short time. Once a connection at any door of
+/// the port has stopped the server, nobody is let in any more: new connections are refused, and each knock is quiet. If
+/// a thread of the server has not begun within [`BEGIN_TIME`](crate::BEGIN_TIME), each knock fails; until then each is
+/// quiet.
 #[derive(Drop)]
 pub struct TcpDoor<'a, R> {
     front: Arc<Front<'a, R>>,
+    begun: bool,
     faults: u64,
 }
 
@@ -25,12 +27,26 @@ impl<'a, R: Clock + Eprint> TcpDoor<'a, R> {
     pub(crate) fn of(front: Arc<Front<'a, R>>) -> TcpDoor<'a, R>
         ensures { result.faults ≡ 0 }
     {
-        TcpDoor { front, faults: 0 }
+        TcpDoor {
+            front,
+            begun: false,
+            faults: 0,
+        }
     }
 
     /// What the doors of its port share.
     pub(crate) fn front(&self) -> &Front<'a, R> {
         &self.front
+    }
+
+    /// Begins the thread of this door at the first knock.
+    fn begin(&mut self)
+        ensures { self.new.faults ≡ self.old.faults }
+    {
+        if !self.begun {
+            self.front.begin();
+        }
+        self.begun = true;
     }
 
     /// How many knocks have failed.
@@ -41,7 +57,7 @@ impl<'a, R: Clock + Eprint> TcpDoor<'a, R> {
     }
 }
 
-/// The link of a connection that came. One that is gone by now is nobody.
+/// The link of a new connection. A connection that has gone by now is none.
 fn welcome<'a, R: Clock + Eprint>(
     front: &Arc<Front<'a, R>>,
     stream: TcpStream,
@@ -65,6 +81,7 @@ impl<'a, R: Clock + Eprint + Sync> Door for TcpDoor<'a, R> {
     ghost at = { λ door. untold_door door.faults };
 
     fn knock(&mut self) -> Result<Knock<TcpLink<'a, R>>, Failed> {
+        self.begin();
         match self.front.accept() {
             Ok(Some(stream)) => Ok(welcome(&self.front, stream)),
             Ok(None) => Ok(Knock::Quiet),

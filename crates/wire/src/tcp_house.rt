@@ -1,40 +1,44 @@
-//! Doors at ports of this machine, and calls at them.
+//! Doors at ports of this machine, and calls to them.
 ghost use Rattle.std.specs.Prelude.{◌≡◌, [], All, None, vec_len, IfOk};
 ghost use Rattle.wire.specs.Houses.{count_if, rose_once, untold_house};
 
 use crate::faults::count_fault;
-use crate::front::{Front, Stopping};
+use crate::front::Server;
+use crate::journal::plural;
 use crate::opening::{PortError, doors_of, open_front, tell_opened};
-use crate::{DoorsAsked, Failed, House, HouseError, Journal, TcpCall, TcpDoor};
+use crate::{DoorsAsked, Failed, Hands, House, HouseError, Journal, Speech, TcpCall, TcpDoor};
 use arrayvec::ArrayVec;
 use std::alloc::Global;
-use std::io;
 use std::io::Eprint;
 use std::net::{Net, TcpListener, TcpStream};
 use std::sync::{Arc, Wait};
 use std::thread::Threads;
 use std::time::{Clock, Instant};
+use std::{io, rt};
 use thiserror::Error;
 
-/// What opens doors at ports of 127.0.0.1 and calls at them. It tells no doors and no links, as the
-/// system tells none. The doors of a port share what listens there, and a stop at one port is one at all.
-/// What the operator is told of doors and connections goes to its journal.
+/// Opens doors at ports of 127.0.0.1 and calls them. It tells no doors and no links, because the system tells none. The
+/// doors of a port share a listener, and a stop at one port stops all. Nobody is let in before the threads of all doors
+/// and the builder have begun. Messages for the operator about doors and connections go to its journal.
 #[derive(Drop)]
 pub struct TcpHouse<'a, R> {
     journal: Journal<'a, R>,
-    front: Option<Arc<Front<'a, R>>>,
+    speech: Speech,
+    hands: &'a Hands,
+    server: Option<Arc<Server<'a>>>,
     begun: Option<Instant>,
     asked: ArrayVec<DoorsAsked, 2>,
     called: Option<u16>,
-    refusal: Option<io::Error>,
+    refusal: Option<(u16, io::Error)>,
     door_faults: u64,
     read_faults: u64,
     write_faults: u64,
 }
 
 impl<'a, R: Clock + Eprint> TcpHouse<'a, R> {
-    /// A house of which nothing was asked yet, through the runtime of its journal.
-    pub fn new(journal: Journal<'a, R>) -> TcpHouse<'a, R>
+    /// A house that has not been asked for anything, through the runtime of its journal. Its connections watch for this
+    /// speech, and the threads at its doors are counted in these hands.
+    pub fn new(journal: Journal<'a, R>, speech: Speech, hands: &'a Hands) -> TcpHouse<'a, R>
         ensures asked { result.asked.items ≡ [] }
         ensures called { result.called ≡ None }
         ensures doors { result.door_faults ≡ 0 }
@@ -44,7 +48,9 @@ impl<'a, R: Clock + Eprint> TcpHouse<'a, R> {
         TcpHouse {
             begun: Instant::now(journal.rt()).ok(),
             journal,
-            front: None,
+            speech,
+            hands,
+            server: None,
             asked: ArrayVec::new(),
             called: None,
             refusal: None,
@@ -56,17 +62,33 @@ impl<'a, R: Clock + Eprint> TcpHouse<'a, R> {
 }
 
 impl<'a, R> TcpHouse<'a, R> {
-    /// Why the system refused a port or descriptors for its doors, if it did.
-    pub fn refusal(&self) -> Option<io::Error> {
+    /// The port that the system refused, or refused descriptors for, and why, if it did.
+    pub fn refusal(&self) -> Option<(u16, io::Error)> {
         self.refusal
     }
 }
 
 impl<'a, R> TcpHouse<'a, R>
 where
-    R: Net<Listener = TcpListener, Stream = TcpStream> + Clock + Eprint + Threads + Wait,
+    R: Net<Listener = TcpListener, Stream = TcpStream>
+        + Clock
+        + Eprint
+        + Threads
+        + Wait
+        + rt::Files,
 {
-    /// Opens so many doors at a port.
+    /// What the open ports share; for a server without ports, a new one.
+    fn server(&self, alloc: Global) -> Result<Arc<Server<'a>>, HouseError> {
+        match &self.server {
+            Some(server) => Ok(Arc::try_clone(server)?),
+            None => match Arc::new(alloc, Server::new(self.hands)) {
+                Ok(server) => Ok(server),
+                Err(_) => Err(HouseError::NoMemory),
+            },
+        }
+    }
+
+    /// Opens `count` doors at a port.
     fn open(
         &mut self,
         alloc: Global,
@@ -81,54 +103,58 @@ where
         ensures reads { self.new.read_faults ≡ self.old.read_faults }
         ensures writes { self.new.write_faults ≡ self.old.write_faults }
     {
-        let stopping = stopping_of(alloc, &self.front)?;
-        let front = match open_front(&self.journal, alloc, port, count, stopping) {
+        let server = self.server(alloc)?;
+        let kept = Arc::try_clone(&server)?;
+        let all = all_doors(&self.asked);
+        let front = match open_front(&self.journal, alloc, self.speech, port, all, server) {
             Ok(front) => front,
             Err(PortError::NoMemory) => return Err(HouseError::NoMemory),
             Err(PortError::Refused(error)) => {
-                self.refusal = Some(error);
+                self.refusal = Some((port, error));
                 return Err(HouseError::Failed);
             }
         };
         let doors = doors_of(&front, alloc, count as usize)?;
         tell_opened(&self.journal, self.begun, port, count);
-        self.front = Some(front);
+        self.hands.need(hands_for(count, self.server.is_none()));
+        self.server = Some(kept);
         Ok(doors)
     }
 }
 
-/// How many connections came to the doors of a port, and how many of them ended by a fault.
+/// How many doors have been asked for so far.
+fn all_doors(asked: &[DoorsAsked]) -> u32 {
+    asked
+        .iter()
+        .fold(0, |all: u32, asked| all.saturating_add(asked.count))
+}
+
+/// How many threads a server needs for `count` more doors: one each, and one that builds with its first doors.
+fn hands_for(count: u32, are_first: bool) -> u32 {
+    count.saturating_add(u32::from(are_first))
+}
+
+/// How many connections came to the doors of a server, and how many of them ended by a fault.
 #[derive(Debug, Clone, Copy, Error)]
-#[error("path_server serve: ended; {taken} connections, {broken} of them by a fault")]
+#[error("ended; {taken} connection{s}, {broken} of them by a fault")]
 struct EndedAfter {
     taken: u64,
+    s: &'static str,
     broken: u64,
 }
 
-/// Tells the operator how many connections came to the doors, once a port.
+/// Logs how many connections came to the server of these doors, once per server.
 fn tell_ended<R: Clock + Eprint>(doors: &[TcpDoor<'_, R>]) {
     for door in doors {
         let front = door.front();
-        if front.is_to_be_told() {
+        let server = front.server();
+        if server.is_to_be_told() {
             front.journal().note(EndedAfter {
-                taken: front.taken(),
-                broken: front.broken(),
+                taken: server.taken(),
+                s: plural(server.taken()),
+                broken: server.broken(),
             });
         }
-    }
-}
-
-/// When the server was stopped that a front is of, or a new one.
-fn stopping_of<R: Clock + Eprint>(
-    alloc: Global,
-    front: &Option<Arc<Front<'_, R>>>,
-) -> Result<Arc<Stopping>, HouseError> {
-    match front {
-        Some(front) => Ok(Arc::try_clone(front.stopping())?),
-        None => match Arc::new(alloc, Stopping::new()) {
-            Ok(stopping) => Ok(stopping),
-            Err(_) => Err(HouseError::NoMemory),
-        },
     }
 }
 
@@ -141,7 +167,13 @@ fn has_failed<R: Clock + Eprint>(doors: &[TcpDoor<'_, R>]) -> bool
 
 impl<'a, R> House for TcpHouse<'a, R>
 where
-    R: Net<Listener = TcpListener, Stream = TcpStream> + Clock + Eprint + Threads + Wait + Sync,
+    R: Net<Listener = TcpListener, Stream = TcpStream>
+        + Clock
+        + Eprint
+        + Threads
+        + Wait
+        + rt::Files
+        + Sync,
 {
     type Conn = TcpCall<'a, R>;
 
@@ -184,7 +216,7 @@ where
         if has_failed(&doors) {
             count_fault(&mut self.door_faults);
         }
-        self.front = None;
+        self.server = None;
         tell_ended(&doors);
     }
 

@@ -11,12 +11,12 @@ use std::net::TcpStream;
 use std::sync::Arc;
 use std::time::Clock;
 
-/// A connection of a server over TCP: one read a recv and one write a send, and small writes leave at
-/// once. It tells no talk, as the system tells none. A recv fails where its client is silent for
-/// [`IDLE_TIME`](crate::IDLE_TIME) between two frames, where a frame that was begun is not whole
-/// within [`FRAME_TIME`](crate::FRAME_TIME), and where it is open for
-/// [`CLOSING_TIME`](crate::CLOSING_TIME) after the server was stopped; a send fails where a reply is
-/// not taken within [`REPLY_TIME`](crate::REPLY_TIME).
+/// A connection of a server over TCP: one read takes all that is there and keeps it for the recvs that follow, each
+/// send is one write, and small writes are sent at once. It tells no talk, because the system tells none. A recv fails
+/// if its client is silent for [`IDLE_TIME`](crate::IDLE_TIME) between two frames or [`ASK_TIME`](crate::ASK_TIME)
+/// between two asks, if a frame or an ask that was begun is not whole within [`FRAME_TIME`](crate::FRAME_TIME), and if
+/// the connection is open for [`CLOSING_TIME`](crate::CLOSING_TIME) after the server was stopped. A send fails if a
+/// reply is not taken within [`REPLY_TIME`](crate::REPLY_TIME).
 #[derive(Drop)]
 pub struct TcpLink<'a, R> {
     stream: TimedStream<'a, R>,
@@ -25,7 +25,7 @@ pub struct TcpLink<'a, R> {
 }
 
 impl<'a, R: Clock + Eprint> TcpLink<'a, R> {
-    /// A link of a front, over this connection.
+    /// The link of a front over this connection.
     pub(crate) fn over(front: Arc<Front<'a, R>>, stream: TcpStream) -> io::Result<TcpLink<'a, R>>
         ensures reads { IfOk result (λ link. link.read_faults ≡ 0) }
         ensures writes { IfOk result (λ link. link.write_faults ≡ 0) }

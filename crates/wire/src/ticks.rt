@@ -1,5 +1,6 @@
-//! Reads and writes that wait for a second at most, and the time that many of them take together.
-ghost use Rattle.std.specs.Prelude.{◌<◌, ◌≤◌, length, IfOk, IfSome};
+//! Reads and writes that wait at most a second.
+ghost use Rattle.std.specs.Prelude.{◌≡◌, ◌<◌, ◌≤◌, length, take, IfNone, IfOk, IfSome, OnErr};
+ghost use Rattle.std.specs.Io.KnownBytes.{Appends, Consumes, IsAtEnd, Keeps};
 
 use crate::Failed;
 use std::io;
@@ -10,8 +11,8 @@ use std::time::{Clock, Duration, Instant};
 /// How long one read or write waits, in seconds.
 pub(crate) const TICK_TIME: u64 = 1;
 
-/// A connection whose small writes leave at once, and whose reads and writes each wait for
-/// [`TICK_TIME`].
+/// A connection whose small writes are sent at once, and whose reads and writes each wait for at
+/// most [`TICK_TIME`].
 pub(crate) fn ticking(stream: TcpStream) -> io::Result<TcpStream> {
     let tick = Some(Duration::from_secs(TICK_TIME));
     stream.set_nodelay(true)?;
@@ -20,44 +21,48 @@ pub(crate) fn ticking(stream: TcpStream) -> io::Result<TcpStream> {
     Ok(stream)
 }
 
-/// One read. `None` where nothing came in as long as it waits.
-pub(crate) fn read_tick(stream: &mut TcpStream, room: &mut [u8]) -> Result<Option<usize>, Failed>
+/// One read. Returns `None` if nothing came in while it waited.
+pub(crate) fn read_tick<I: Read>(reader: &mut I, room: &mut [u8]) -> Result<Option<usize>, Failed>
     ensures count { IfOk result (λ read. IfSome read (λ count. count ≤ length room.old)) }
+    ensures came { IfOk result (λ read. IfSome read (λ count. Consumes
+        (I.remaining reader.old) (I.remaining reader.new) (take count room.new))) }
+    ensures end { IfOk result (λ read. IfSome read (λ count.
+        count ≡ 0 → 0 < length room.old → IsAtEnd (I.remaining reader.new))) }
+    ensures none { IfOk result (λ read.
+        IfNone read (Keeps (I.remaining reader.old) (I.remaining reader.new))) }
+    ensures kept { OnErr result (Keeps (I.remaining reader.old) (I.remaining reader.new)) }
 {
-    match stream.read(room) {
+    match reader.read(room) {
         Ok(count) => Ok(Some(count)),
         Err(error) if is_tick(error.kind()) => Ok(None),
         Err(_) => Err(Failed),
     }
 }
 
-/// One write. `None` where nothing was taken as long as it waits.
-pub(crate) fn write_tick(stream: &mut TcpStream, piece: &[u8]) -> Result<Option<usize>, Failed>
+/// One write. Returns `None` if nothing was taken while it waited.
+pub(crate) fn write_tick<O: Write>(writer: &mut O, piece: &[u8]) -> Result<Option<usize>, Failed>
     ensures count { IfOk result (λ written. IfSome written (λ count. count ≤ length piece.now)) }
     ensures some { IfOk result (λ written.
         IfSome written (λ count. 0 < length piece.now → 0 < count)) }
+    ensures grows { IfOk result (λ written. IfSome written (λ count. Appends
+        (O.contents writer.old) (O.contents writer.new) (take count piece.now))) }
+    ensures none { IfOk result (λ written.
+        IfNone written (Keeps (O.contents writer.old) (O.contents writer.new))) }
+    ensures kept { OnErr result (Keeps (O.contents writer.old) (O.contents writer.new)) }
 {
-    match stream.write(piece) {
+    match writer.write(piece) {
         Ok(count) if count > 0 || piece.is_empty() => Ok(Some(count)),
         Err(error) if is_tick(error.kind()) => Ok(None),
         _ => Err(Failed),
     }
 }
 
-/// Whether a read or a write ended because it had waited long enough, or by a signal.
+/// Whether a read or a write ended because it timed out or a signal interrupted it.
 fn is_tick(kind: ErrorKind) -> bool {
     matches!(kind, ErrorKind::WouldBlock | ErrorKind::Interrupted)
 }
 
-/// Whether so many seconds have passed since then. Where the clock cannot be read they have.
-pub(crate) fn has_passed<R: Clock>(rt: &R, since: Instant, seconds: u64) -> bool {
-    match since.elapsed(rt) {
-        Ok(time) => time >= Duration::from_secs(seconds),
-        Err(_) => true,
-    }
-}
-
-/// How many milliseconds have passed since then; 0 where the clock cannot be read.
+/// How many milliseconds have passed since then; 0 if the clock cannot be read.
 pub(crate) fn millis_since<R: Clock>(rt: &R, since: Instant) -> u64 {
     match since.elapsed(rt) {
         Ok(time) => time
@@ -65,28 +70,5 @@ pub(crate) fn millis_since<R: Clock>(rt: &R, since: Instant) -> u64 {
             .saturating_mul(1000)
             .saturating_add(u64::from(time.subsec_millis())),
         Err(_) => 0,
-    }
-}
-
-/// Begins to count time where none is counted yet.
-///
-/// # Errors
-///
-/// `Failed` where so many seconds have passed since it was begun, or where the clock cannot be read.
-pub(crate) fn keep_time<R: Clock>(
-    rt: &R,
-    since: &mut Option<Instant>,
-    seconds: u64,
-) -> Result<(), Failed> {
-    match *since {
-        Some(begun) if has_passed(rt, begun, seconds) => Err(Failed),
-        Some(_) => Ok(()),
-        None => match Instant::now(rt) {
-            Ok(now) => {
-                *since = Some(now);
-                Ok(())
-            }
-            Err(_) => Err(Failed),
-        },
     }
 }

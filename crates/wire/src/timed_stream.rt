@@ -1,10 +1,14 @@
-//! A connection of a server, whose client has so much time and no more.
-ghost use Rattle.std.specs.Prelude.{◌<◌, ◌≤◌, length, IfOk, IfSome, IsErr};
+//! A server's connection, with timeouts for its client.
+ghost use Rattle.std.specs.Prelude.{◌≡◌, ◌<◌, ◌≤◌, ◌++◌, [], ℕ, List, length, take, IfNone, IfOk, IfSome, IsErr};
+ghost use Rattle.wire.specs.Endings.{TellsEnd};
+ghost use Rattle.wire.specs.Watching.{HasFollowed};
 
 use crate::Failed;
 use crate::frame_watch::FrameWatch;
-use crate::front::{CLOSING_TIME, Front};
-use crate::ticks::{keep_time, read_tick, ticking, write_tick};
+use crate::front::Front;
+use crate::inbox::Inbox;
+use crate::patience::{Awaited, Cause, Waiting, still_waiting, waiting_for, why_ended};
+use crate::ticks::{ticking, write_tick};
 use std::io;
 use std::io::{Eprint, Read};
 use std::net::{Shutdown, TcpStream};
@@ -12,73 +16,45 @@ use std::sync::Arc;
 use std::time::{Clock, Duration, Instant};
 use thiserror::Error;
 
-/// How long a client may be silent between two frames, in seconds.
-pub const IDLE_TIME: u64 = 300;
-
-/// How long a frame that was begun may take until it is whole, in seconds. Its time runs while the
-/// server waits for it.
-pub const FRAME_TIME: u64 = 10;
-
-/// How long a client may take to receive the reply to a frame, in seconds.
-pub const REPLY_TIME: u64 = 30;
-
-/// How long a connection that ends waits for what still comes in, in milliseconds: it is closed where
-/// nothing comes for so long.
+/// How long a connection that ends waits for bytes that still come in, in milliseconds: it is closed if none come for
+/// this long.
 pub const PARTING_TIME: u64 = 100;
 
-/// How often at most something that comes in while a connection ends is thrown away.
+/// The most reads of incoming bytes that are thrown away while a connection ends.
 const PARTING_READS: u32 = 32;
 
-/// How many bytes of it are thrown away at once.
+/// How many of these bytes one read throws away at most.
 const PARTING_ROOM: usize = 16_384;
 
-/// Why a connection gives no more bytes, or takes none.
-#[derive(Debug, Clone, Copy, PartialEq, Eq, Error)]
-pub(crate) enum Cause {
-    /// The client said nothing for [`IDLE_TIME`].
-    #[error("its client was silent for {time} seconds", time = IDLE_TIME)]
-    Silent,
-    /// A frame that was begun was not whole within [`FRAME_TIME`].
-    #[error("a frame was not whole within {time} seconds", time = FRAME_TIME)]
-    SlowFrame,
-    /// A reply was not taken within [`REPLY_TIME`].
-    #[error("a reply was not taken within {time} seconds", time = REPLY_TIME)]
-    SlowReply,
-    /// It was open for [`CLOSING_TIME`] after the server was stopped.
-    #[error("it was open {time} seconds after a stop", time = CLOSING_TIME)]
-    Stopped,
-    /// The system says so.
-    #[error("it was broken off")]
-    Broken,
-}
-
-/// A connection of a server. It watches the frames that come in: between two of them its client may
-/// be silent for long, and what was begun is whole, or taken, within a short time. Where the server is the
-/// first to speak it is a feed, and asks come in.
+/// A server's connection. It watches the messages that come in: between two of them its client may be silent for long,
+/// but a message that was begun must be whole, and a reply taken, within a short time. If the server speaks first, the
+/// connection is a feed, and asks come in.
 #[derive(Drop)]
 pub(crate) struct TimedStream<'a, R> {
     stream: TcpStream,
     front: Arc<Front<'a, R>>,
+    inbox: Inbox,
     watch: FrameWatch,
     heard: bool,
-    frame_since: Option<Instant>,
-    reply_since: Option<Instant>,
+    waiting: Option<Waiting>,
     cause: Option<Cause>,
 }
 
 impl<'a, R: Clock + Eprint> TimedStream<'a, R> {
-    /// A stream of a front, over this connection.
+    /// The stream of a front over this connection.
     pub(crate) fn over(
         front: Arc<Front<'a, R>>,
         stream: TcpStream,
     ) -> io::Result<TimedStream<'a, R>> {
+        let stream = ticking(stream)?;
+        front.enter();
         Ok(TimedStream {
-            stream: ticking(stream)?,
+            stream,
+            watch: FrameWatch::new(front.speech()),
             front,
-            watch: FrameWatch::new(),
+            inbox: Inbox::new(),
             heard: false,
-            frame_since: None,
-            reply_since: None,
+            waiting: None,
             cause: None,
         })
     }
@@ -86,17 +62,32 @@ impl<'a, R: Clock + Eprint> TimedStream<'a, R> {
     /// Puts the next bytes that come in at the front of `room`, and says how many; 0 is the end.
     pub(crate) fn receive(&mut self, room: &mut [u8]) -> Result<usize, Failed>
         ensures count { IfOk result (λ count. count ≤ length room.old) }
+        ensures watched { IfOk result (λ count. (before : List ℕ) → HasFollowed self.old.watch before
+            → HasFollowed self.new.watch (before ++ take count room.new)) }
     {
-        self.reply_since = None;
-        for _ in 0..IDLE_TIME {
-            self.may_wait()?;
-            if let Some(count) = self.read(room)? {
-                self.watch.take(&room[..count]);
-                self.heard = true;
-                return Ok(count);
+        self.waiting = still_waiting(self.waiting);
+        if self.inbox.is_empty() {
+            self.fill()?;
+        }
+        let count = self.inbox.take(room);
+        self.watch.take(&room[..count]);
+        Ok(count)
+    }
+
+    /// Waits until something comes in, or the end.
+    fn fill(&mut self) -> Result<(), Failed>
+        requires { self.old.inbox ≡ [] }
+        ensures { self.new.watch ≡ self.old.watch }
+    {
+        let awaited = self.watch.awaited();
+        for _ in 0..u64::MAX {
+            self.may_wait(awaited)?;
+            match self.read()? {
+                Some(()) => return Ok(()),
+                None => {}
             }
         }
-        self.ends_by(Cause::Silent)
+        Err(Failed)
     }
 
     /// Sends the first bytes of `piece`, and says how many.
@@ -104,39 +95,42 @@ impl<'a, R: Clock + Eprint> TimedStream<'a, R> {
         ensures count { IfOk result (λ count. count ≤ length piece.now) }
         ensures some { IfOk result (λ count. 0 < length piece.now → 0 < count) }
     {
-        self.frame_since = None;
         self.speak();
         if self.watch.is_stopped_by(piece) {
             self.front.stop();
         }
-        for _ in 0..=REPLY_TIME {
-            self.may_send()?;
+        for _ in 0..u64::MAX {
+            self.may_wait(Awaited::Taking)?;
             if let Some(count) = self.write(piece)? {
                 return Ok(count);
             }
         }
-        self.ends_by(Cause::SlowReply)
+        Err(Failed)
     }
 
-    /// Something is sent: asks are awaited where nothing has come in before.
+    /// Notes that something is sent: if nothing came in before, asks will.
     fn speak(&mut self) {
         if !self.heard {
-            self.watch = FrameWatch::over_asks();
+            self.watch = FrameWatch::over_asks(self.front.speech());
         }
     }
 
-    /// One read, for which the cause of a fault is kept.
-    fn read(&mut self, room: &mut [u8]) -> Result<Option<usize>, Failed>
-        ensures count { IfOk result (λ read. IfSome read (λ count. count ≤ length room.old)) }
+    /// One read, which keeps the cause of a fault.
+    fn read(&mut self) -> Result<Option<()>, Failed>
+        requires { self.old.inbox ≡ [] }
+        ensures watch { self.new.watch ≡ self.old.watch }
+        ensures none { IfOk result (λ read. IfNone read (self.new.inbox ≡ [])) }
     {
-        let outcome = read_tick(&mut self.stream, room);
-        if outcome.is_err() {
-            self.cause = Some(Cause::Broken);
+        let outcome = self.inbox.read(&mut self.stream);
+        match outcome {
+            Ok(Some(())) => self.heard = true,
+            Ok(None) => {}
+            Err(Failed) => self.cause = Some(Cause::Broken),
         }
         outcome
     }
 
-    /// One write, for which the cause of a fault is kept.
+    /// One write, which keeps the cause of a fault.
     fn write(&mut self, piece: &[u8]) -> Result<Option<usize>, Failed>
         ensures count { IfOk result (λ written. IfSome written (λ count. count ≤ length piece.now)) }
         ensures some { IfOk result (λ written.
@@ -149,41 +143,37 @@ impl<'a, R: Clock + Eprint> TimedStream<'a, R> {
         outcome
     }
 
-    /// Whether more may be waited for: where a frame was begun, its time runs from the first call on.
-    fn may_wait(&mut self) -> Result<(), Failed> {
-        if self.front.is_over() {
-            return self.ends_by(Cause::Stopped);
-        }
-        if self.watch.is_between() {
-            self.frame_since = None;
-            return Ok(());
-        }
-        match keep_time(self.front.journal().rt(), &mut self.frame_since, FRAME_TIME) {
-            Ok(()) => Ok(()),
-            Err(Failed) => self.ends_by(Cause::SlowFrame),
-        }
-    }
-
-    /// Whether more may be sent: the time of a reply runs from the first call on.
-    fn may_send(&mut self) -> Result<(), Failed> {
-        match keep_time(self.front.journal().rt(), &mut self.reply_since, REPLY_TIME) {
-            Ok(()) => Ok(()),
-            Err(Failed) => self.ends_by(Cause::SlowReply),
+    /// Whether it may wait for this. The time runs from the first call.
+    fn may_wait(&mut self, what: Awaited) -> Result<(), Failed>
+        ensures watch { self.new.watch ≡ self.old.watch }
+        ensures inbox { self.new.inbox ≡ self.old.inbox }
+    {
+        let Ok(now) = Instant::now(self.front.journal().rt()) else {
+            return self.ends_by(Cause::Broken);
+        };
+        let waiting = waiting_for(self.waiting, what, now);
+        self.waiting = Some(waiting);
+        match why_ended(waiting, self.front.stopped(), now) {
+            Some(cause) => self.ends_by(cause),
+            None => Ok(()),
         }
     }
 
-    /// Fails by this cause.
+    /// Fails with this cause.
     fn ends_by<T>(&mut self, cause: Cause) -> Result<T, Failed>
-        ensures { IsErr result }
+        ensures fails { IsErr result }
+        ensures watch { self.new.watch ≡ self.old.watch }
+        ensures inbox { self.new.inbox ≡ self.old.inbox }
     {
         self.cause = Some(cause);
         Err(Failed)
     }
 
-    /// Ends the connection so that what was sent arrives. Its sending half is shut, and what still
-    /// comes in is thrown away until the other side has closed it, or nothing comes for
-    /// [`PARTING_TIME`]: the system takes back what was sent where it closes over unread bytes.
+    /// Ends the connection so that what was sent arrives. It shuts the sending half and throws away
+    /// what still comes in until the peer has closed it or nothing comes for [`PARTING_TIME`]: if
+    /// it were closed with bytes unread, the system would take back what was sent.
     pub(crate) fn part(self) {
+        self.front.leave();
         self.tell_end();
         let mut stream = self.stream;
         let pause = Some(Duration::from_millis(PARTING_TIME));
@@ -199,30 +189,35 @@ impl<'a, R: Clock + Eprint> TimedStream<'a, R> {
         }
     }
 
-    /// Tells the operator that the connection ends by a fault, if it does. Who breaks off before a word
-    /// has only seen whether somebody is there, as a health check does.
+    /// Logs that the connection ended by a fault, if it did.
     fn tell_end(&self) {
-        let journal = self.front.journal();
-        match self.cause {
-            Some(Cause::Broken) if !self.heard => {}
-            Some(cause) => {
-                self.front.count_broken();
-                journal.note(Ended { cause });
-            }
-            None if !self.watch.is_between() => {
-                self.front.count_broken();
-                journal.note(
-                    "path_server serve: a connection ended inside a frame, or by one too long",
-                );
-            }
-            None => {}
+        if let Some(end) = end_told(self.cause, self.heard, self.watch.is_between()) {
+            self.front.count_broken();
+            self.front.journal().note(end);
         }
     }
 }
 
-/// That a connection ended, and why.
-#[derive(Debug, Clone, Copy, Error)]
-#[error("path_server serve: a connection ended: {cause}")]
-struct Ended {
-    cause: Cause,
+/// The log line for a connection that ended by a fault.
+#[derive(Debug, Clone, Copy, PartialEq, Eq, Error)]
+enum EndTold {
+    /// For this reason.
+    #[error("a connection ended: {0}")]
+    By(Cause),
+    /// Its client left inside a frame, or sent a length that is too great.
+    #[error("a connection ended inside a frame, or by one too long")]
+    Inside,
+}
+
+/// What to log about the end of a connection, if anything. A client that leaves before it has sent anything only
+/// checked whether somebody is there, as a health check does.
+fn end_told(cause: Option<Cause>, heard: bool, is_between: bool) -> Option<EndTold>
+    ensures { TellsEnd cause heard is_between result }
+{
+    match cause {
+        Some(Cause::Broken) if !heard => None,
+        Some(cause) => Some(EndTold::By(cause)),
+        None if !is_between => Some(EndTold::Inside),
+        None => None,
+    }
 }

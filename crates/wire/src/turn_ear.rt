@@ -6,7 +6,7 @@ use crate::{Ear, Ring};
 use std::marker::Model;
 use std::sync::Wait;
 
-/// An ear that hears a stated number of rings, and then that its bell was shut. It never waits.
+/// An ear that hears a given number of rings, and then that its bell was shut. It never waits.
 #[derive(Drop)]
 pub struct TurnEar {
     left: u64,
@@ -25,7 +25,7 @@ impl Model for TurnEar {
 impl TurnEar {
     ghost use Rattle.wire.specs.Rings.{new_ear};
 
-    /// An ear that hears so many rings.
+    /// An ear that hears this many rings.
     pub fn new(rings: u64) -> TurnEar
         ensures { result ≡ new_ear rings }
     {

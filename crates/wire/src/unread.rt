@@ -26,7 +26,7 @@ impl Model for Unread {
 }
 
 impl Unread {
-    /// Bytes of which nothing was read yet.
+    /// Bytes of which none has been read yet.
     pub(crate) fn new(bytes: Vec<u8>) -> Unread
         ensures { result ≡ new_input bytes.items }
     {
@@ -40,7 +40,7 @@ impl Unread {
         &self.bytes[self.taken..]
     }
 
-    /// Reads the next bytes into the front of `room`, at most so many, and says how many.
+    /// Reads the next bytes into the front of `room`, at most `most`, and says how many.
     pub(crate) fn read(&mut self, room: &mut [u8], most: usize) -> usize
         ensures count { result ≡ min (min (length room.old) (length self.old.left)) most }
         ensures room { room.new ≡ take result self.old.left ++ drop result room.old }

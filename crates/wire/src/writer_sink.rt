@@ -9,8 +9,8 @@ use crate::{Failed, Sink};
 use std::io::{ErrorKind, Write};
 use std::marker::Model;
 
-/// A sink over a writer, with nothing kept back: one write a put, begun again where a signal
-/// interrupts it. It tells the bytes that the writer tells.
+/// A sink over a writer, unbuffered: each put is one write, retried if a signal interrupts it. It
+/// tells the bytes that the writer tells.
 #[derive(Drop)]
 pub struct WriterSink<W> {
     writer: W,
@@ -60,7 +60,7 @@ impl<W: Write> Sink for WriterSink<W> {
     }
 }
 
-/// One write, begun again where a signal interrupts it.
+/// One write, retried if a signal interrupts it.
 pub(crate) fn write_some<W: Write>(writer: &mut W, piece: &[u8]) -> Result<usize, Failed>
     ensures count { IfOk result (λ count. count ≤ length piece.now) }
     ensures some { IfOk result (λ count. 0 < length piece.now → 0 < count) }
