@@ -8,7 +8,7 @@ a query of a search, of jump points and of A*.
 200 units walk on three maps. CLOSED doors in a hundred are closed at first; then a door closes or opens every 20 ticks,
 and all units ask anew. Every path is compared
 with that of the two searches. Instructions are counted by valgrind, inside each function. The library is the one that
-`release/lib` has made in out/lib."""
+`release/lib` has made in out/lib, or the released one."""
 import os
 import random
 import re
@@ -17,7 +17,7 @@ import sys
 import tempfile
 
 import maps
-from programs import TOP
+from programs import TOP, newest
 
 SIDE, PITCH = 128, 16
 
@@ -79,7 +79,7 @@ def counts(words, folder):
 def main():
     ticks = sys.argv[1] if len(sys.argv) > 1 else "200"
     closed = sys.argv[2] if len(sys.argv) > 2 else "2"
-    library = os.environ.get("PATHDB", os.path.join(TOP, "out/lib/libpathdb.a"))
+    library = newest("PATHDB", "out/lib/libpathdb.a", "release/pathdb/libpathdb.a")
     print("| map | cells | queries | told | instructions | looking up / `pathdb_path` | a search | jump points | A* |")
     print("|---|---|---|---|---|---|---|---|---|")
     with tempfile.TemporaryDirectory() as folder:

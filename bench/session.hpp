@@ -212,6 +212,11 @@ template <class Moves> inline int answer(const Moves &moves, bool twice, int in,
         size_t size = frame[0] << 8 | frame[1];
         if (size > 64 || !fill(2 + size, 4 + size)) return 9;
         if (size == 1 && frame[2] == 5) return send({0, 0, 0, 1, 0x8A}) ? 0 : 6;
+        if (size == 2 && frame[2] == 7 && frame[3] == 2) {  // a hello, which the client for Python begins with
+            memmove(frame, frame + 2 + size, have -= 2 + size);
+            if (!send({0, 0, 0, 2, 0x8D, 2})) return 6;
+            continue;
+        }
         if (size != 9 || frame[2] != 1) return 9;
         uint32_t sx = frame[3] << 8 | frame[4], sy = frame[5] << 8 | frame[6];
         uint32_t gx = frame[7] << 8 | frame[8], gy = frame[9] << 8 | frame[10];

@@ -30,11 +30,12 @@ class Run:
 
     def __init__(self, number, lasting, *words):
         self.told, told = os.pipe()
+        self.said = tempfile.TemporaryFile()
         env = dict(os.environ, LD_PRELOAD=library, ALLOCS_REFUSED=str(number), ALLOCS_TOLD=str(told))
         if lasting:
             env["ALLOCS_LASTING"] = "1"
         self.process = subprocess.Popen([program, *words], env=env, pass_fds=[told], stdin=subprocess.PIPE,
-                                        stdout=subprocess.PIPE, stderr=subprocess.DEVNULL, bufsize=0)
+                                        stdout=subprocess.PIPE, stderr=self.said, bufsize=0)
         os.close(told)
 
     def end(self, data=b""):
@@ -46,6 +47,13 @@ class Run:
             text = self.process.communicate()[0] + b" and then nothing for 20 seconds"
         with open(self.told, "rb") as told:
             return text, self.process.returncode, told.read().decode()
+
+    def is_late(self, command, needed, ports):
+        """Whether it says that all threads but one have begun."""
+        self.said.seek(0)
+        return self.said.read().decode() == (
+            f"path_server {command}: {needed - 1} of {needed} threads began, and nobody is served by fewer\n"
+            f"path_server {command}: accept failed at port {ports}\n")
 
 def wanted(kind, accepted, published):
     """The reply to a request of TALK, on a board of `.@.` with so many edits and versions."""
@@ -84,9 +92,12 @@ def talk(number, lasting, room):
             published = accepted
     return told, felt, False
 
+# what a server prints at its end where a thread has not begun in 10 seconds: nobody was let in
+LATE = b"accepted 0\npublished 0\nversion 0\nread fault\n"
+
 def ask(link, request):
     """The reply to a request, or nothing where the connection ends."""
-    deadline = time.monotonic() + 10
+    deadline = time.monotonic() + 30
     try:
         link.send(encoded(request), deadline)
         return decoded(link.receive(deadline))
@@ -109,6 +120,9 @@ def serve(number, lasting, room):
             pass
     text, status, told = run.end()
     text = first + text
+    if status == 5:
+        wrong = any(replies) or text != b"serving %d\n" % port + LATE or not run.is_late("serve", 2, port)
+        return told, ["late"], wrong and f"status 5, {text!r} and {replies}"
     felt = ["stop"] if replies[1:2] == [OutOfMemory()] else []
     right = [Path(0, 2, 0, EAST_TWICE), *[OutOfMemory() for _ in felt], Done()]
     whole = b"serving %d\naccepted 0\npublished 0\nversion 0\n" % port
@@ -186,12 +200,15 @@ def lead(number, lasting, room):
     if status == 7:
         right = text + more in (b"out of memory\n", begun + b"out of memory\n", b"")
         return told, ["status 7"], not right and f"status 7 behind {text + more!r}"
+    if status == 5:
+        wrong = any(replies) or any(stops) or feed or text + more != begun + LATE
+        wrong = wrong or not run.is_late("lead", 3, f"{port} or {feed_port}")
+        return told, ["late"], wrong and f"status 5, {text + more!r}, {replies} and {feed}"
     edits = 0 if replies[1:2] == [OutOfMemory()] else 1
     refused = {
         "change": not edits,
         "stop": stops[:1] == [OutOfMemory()],
         "feed": feed in (NO_MEMORY_FED, ROW_START + NO_MEMORY_FED),
-        "no feed": feed == b"",
     }
     felt = [name for name, is_felt in refused.items() if is_felt]
     wrong = (
@@ -214,13 +231,14 @@ def refuse_each(run, lasting, room, allowed):
     """Refuses one request after the other, and says what came of it. Nothing but what is allowed may."""
     name = " ".join([run.__name__, *room, *["lasting" for _ in range(lasting)]])
     seen, unfelt = set(), False
-    # `serve` tries whether the threads are there that its door and its builder need, and does not begin with fewer
-    tried = {serve: 2, lead: 4}.get(run, 0)
+    # a server tries whether the threads are there that its doors and its builder need, for each port: `lead` tries one
+    # and then two; each is a thread and a block for it. Nobody is let in where one is refused behind that
+    tried = {serve: 2, lead: 6}.get(run, 0)
     for number in range(1, 100000):
         told, felt, wrong = run(number, lasting, room)
         if not told and not felt and not wrong:
             break
-        if felt and told == "t" and felt != ["no feed"]:
+        if felt and told == "t" and felt != ["late"]:
             tried -= 1
         if not wrong and (not told or len(felt) > 1 or set(felt) - allowed or tried < 0 or (lasting and felt and unfelt)):
             wrong = f"refused: {told!r}, and felt: {felt}"
@@ -258,11 +276,11 @@ whole["verify"] = subprocess.run([program, "verify", database], capture_output=T
 for lasting in (False, True):
     try_all(talk, lasting, [], {"status 7", "build"})
     try_all(talk, lasting, ["--room", "0"], {"status 7", "change", "build"})
-    try_all(serve, lasting, [], {"status 7"})
+    try_all(serve, lasting, [], {"status 7"} if lasting else {"status 7", "late"})
     try_all(prints, lasting, ["export", row], {"status 7"})
     try_all(prints, lasting, ["verify", database], {"status 7"})
     try_all(follow, lasting, [], {"status 7", "change", "build"})
-    try_all(lead, lasting, [], {"status 7"} if lasting else {"status 7", "feed", "no feed"})
+    try_all(lead, lasting, [], {"status 7"} if lasting else {"status 7", "feed", "late"})
 # nothing but its end would end a server that has no memory for a stop
-try_all(serve, False, ["--room", "0"], {"status 7", "stop"})
+try_all(serve, False, ["--room", "0"], {"status 7", "stop", "late"})
 sys.exit(judge.failed)

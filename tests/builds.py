@@ -52,7 +52,7 @@ class Server:
             client.stop()
         last = self.process.communicate(timeout=30)[0].decode().split()
         self.words.seek(0)
-        return last, re.findall(r"version (\d+), (\d+) cells built, (\d+) kept, \d+ ms", self.words.read().decode())
+        return last, re.findall(r"version (\d+), (\d+) cells? built, (\d+) kept, \d+ ms", self.words.read().decode())
 
 
 def change_and_build(port, number, barrier, replies):

@@ -63,9 +63,31 @@ def spoil_rows(chance, kind, parts):
         rows[at], rows[other] = rows[other], rows[at]
 
 
+# what a person is told of a fault, by the words behind its name
+WALK = "component {0}, from cell {2} to cell {1}: "
+ADVICE = {
+    "magic": "expected PATHDB01 at the start",
+    "size": "expected sides from 1 to 4096 and at most 1048576 cells",
+    "kind": "expected order 0 (rows) or 1 (dfs), found {0}",
+    "terrain": "expected terrain 0, 1 or 2 at cell {2}, found {0}",
+    "cut": "ends too soon, after {1} bytes",
+    "runs": "component {0}, row {1}: expected rising run starts from 0, at most one per cell",
+    "walk": WALK + "the rows do not lead there",
+    "worse": WALK + "a shorter path exists",
+    "loose": WALK + "a run ends too soon, or its move is not the least",
+    "extra": "expected the end after the last row, at byte {1}",
+}
+
+
+def told(refusal, file):
+    """What is on standard error beside a line on standard output."""
+    name, *values = refusal.removeprefix("database refused: ").split()
+    return f"{file}: {ADVICE[name].format(*values)}\n" if name in ADVICE else ""
+
+
 def run(*words):
     done = subprocess.run([program, *words], stdin=subprocess.DEVNULL, capture_output=True, timeout=60)
-    return done.stdout, done.returncode
+    return done.stdout, done.returncode, done.stderr.decode()
 
 
 with tempfile.TemporaryDirectory() as folder:
@@ -76,20 +98,21 @@ with tempfile.TemporaryDirectory() as folder:
         with open(map_file, "w") as file:
             file.write(text_of(grid))
         words = ["--order", ("rows", "dfs")[order], "--workers", str(1 + number % 3)]
-        data, status = run("export", map_file, *words)
-        judge(f"export of map {number}", (data, status), (file_of(grid, 0, order), 0))
+        data, *end = run("export", map_file, *words)
+        judge(f"export of map {number}", (data, *end), (file_of(grid, 0, order), 0, ""))
         with open(db_file, "wb") as file:
             file.write(data)
         size = run("check", map_file, *words)[0].split(b"\n", 1)[1]
-        judge(f"verify of map {number}", run("verify", db_file), (b"version 0\n" + size, 0))
+        judge(f"verify of map {number}", run("verify", db_file), (b"version 0\n" + size, 0, ""))
     same = 0
     for number in range(count):
         grid, order, prefix = made_map(chance), chance.randrange(2), chance.choice([0, 1, 0xFFFFFFFF])
         data = spoilt(chance, grid, prefix, order)
         with open(db_file, "wb") as file:
             file.write(data)
-        found, status = run("verify", db_file)
+        found, status, advice = run("verify", db_file)
         judge(f"spoilt file {number}: {data.hex()}", (found.decode(), status), wanted(data))
+        judge(f"what is told of spoilt file {number}: {data.hex()}", advice, told(found.decode(), db_file))
         if status == 0:
             read, edits, _ = fields(data)
             same += 1

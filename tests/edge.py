@@ -4,9 +4,9 @@
     tests/edge.py [--long]
 
 The times that docs/reference/formats.md states, who is refused after a stop, words for the operator, and deploy/serve. It takes
-some 45 seconds, and two minutes more with --long.
+a minute, and two more with --long.
 """
-import os, re, resource, select, signal, socket, subprocess, sys, tempfile, threading, time
+import os, re, resource, select, shutil, signal, socket, subprocess, sys, tempfile, threading, time
 
 from judging import ROW_MAP, TOP, Judge, program_here
 from path_server import AskStatus, Bye, Change, Query, Server, Stop, Terrain, free_port
@@ -108,19 +108,21 @@ def byte_by_byte(port):
 
 
 def never_reads(port):
-    """Requests until nothing more is taken, and for three seconds beyond."""
+    """Requests whenever one is taken, until the server ends the connection."""
     with socket.socket() as link:
         link.setsockopt(socket.SOL_SOCKET, socket.SO_RCVBUF, 4096)
         link.connect(("127.0.0.1", port))
         link.setblocking(False)
-        taken = select.poll()
-        taken.register(link.fileno(), select.POLLOUT)
-        while any(event & select.POLLOUT for _, event in taken.poll(3000)):
-            link.send(STATUS * 1000)
-        # what it has not read is there still, so the server resets the connection where it ends it
-        ended = select.poll()
-        ended.register(link.fileno(), 0)  # an error or a hang-up
-        return "ended" if ended.poll(1000 * (REPLY_TIME + FILL_TIME)) else "nothing"
+        events = select.poll()
+        events.register(link.fileno(), select.POLLOUT)
+        until = time.monotonic() + REPLY_TIME + FILL_TIME
+        try:
+            while time.monotonic() < until:
+                if events.poll(1000):
+                    link.send(STATUS * 1000)
+        except ConnectionError:  # the server resets the connection, since what it wrote is there still
+            return "ended"
+        return "nothing"
 
 
 def reads_late(port):
@@ -236,15 +238,106 @@ if "--long" in sys.argv:
     *said, took = run("ask", at, "status", timeout=ANSWER_TIME + 30)
     gives_up = f"path_server: no whole answer came in {ANSWER_TIME} seconds\n"
     judge("ask gives up", said,
-          ["read fault\n", f"{WAITING}{gives_up}path_server ask: nobody answers at port {at}, or no longer\n", 5])
+          ["read fault\n", f"{WAITING}{gives_up}path_server ask: no server at port {at}, or the connection was lost\n", 5])
     judge(f"ask gives up after {took:.0f} seconds", is_due(took, ANSWER_TIME), True)
+
+# standard error that nobody reads stops nothing, and the next line that it takes says how many were lost
+
+def full_pipe():
+    """A pipe that takes no more bytes: where it is read, and where it is written."""
+    out, into = os.pipe()
+    os.set_blocking(into, False)
+    try:
+        while True:
+            os.write(into, b"\0" * 4096)
+    except BlockingIOError:
+        os.set_blocking(into, True)
+    return out, into
+
+
+def beside_full_pipe(server, port, out, into):
+    """A server's sessions while its standard error takes nothing, and what it says of that later."""
+    begins = select.select([server.stdout], [], [], FRAME_TIME)[0]
+    judge("it begins beside a standard error that takes nothing", begins and server.stdout.readline(), b"serving %d\n" % port)
+    if not begins:
+        return server.kill()
+    for _ in range(3):
+        with connect(port) as link:  # ends inside a frame, which is told
+            link.sendall(b"\0")
+    with connect(port) as link:
+        answer(link, b"\0\6\2" + bytes.fromhex("0001000001"))
+        judge("it builds", answer(link, b"\0\1\3")[:1] in (b"\x86", b"\x87", b"\x88"), True)
+        while os.read(out, 1 << 16)[-1:] == b"\0" and select.select([out], [], [], 0)[0]:
+            pass
+        judge("a stop", answer(link, STOP), DONE[4:])
+    judge("its end", server.wait(LEEWAY), 0)
+    os.close(into)
+    told = os.fdopen(out).read().replace("\0", "").splitlines()
+    judge("lines that were lost", [re.sub(r"\d+", "N", line) for line in told[:1]],
+          ["path_server serve: standard error took no lines for a while; lost before this one: N"])
+
+
+out, into = full_pipe()
+port = free_port()
+beside_full_pipe(subprocess.Popen([program, "serve", row, str(port), "1"], stdin=subprocess.DEVNULL, stdout=subprocess.PIPE,
+                                  stderr=into, env=log), port, out, into)
+
+# where nobody is there the doors sleep, and a client and a stop wake them
+
+def switches(pid):
+    """How often the threads of a process have waited."""
+    tasks = f"/proc/{pid}/task"
+    texts = (open(f"{tasks}/{task}/status").read() for task in os.listdir(tasks))
+    return sum(int(re.search(r"^voluntary_ctxt_switches:\s*(\d+)", text, re.M).group(1)) for text in texts)
+
+
+with Server(row, doors=64, program=program) as server:
+    time.sleep(1)
+    before, begun = switches(server.process.pid), time.monotonic()
+    time.sleep(12)
+    idle = (switches(server.process.pid) - before) / (time.monotonic() - begun)
+    judge(f"{idle:.0f} context switches a second of 64 doors without a client", idle <= 30, True)
+    begun = time.monotonic()
+    with connect(server.port) as link:
+        judge("a status of a sleeping server", len(answer(link)), 25)
+        judge("a stop of a sleeping server", answer(link, STOP), DONE[4:])
+    judge("its end", (server.process.wait(LEEWAY), time.monotonic() - begun < 2), (0, True))
+
+# a request whose bytes come together takes one read and one write
+
+def calls_of(server, count=100):
+    """How many reads and writes so many requests take, by strace, or nothing where it cannot look."""
+    with tempfile.NamedTemporaryFile("r") as log, connect(server.port) as link:
+        answer(link)
+        words = ["strace", "-f", "-qq", "-e", "trace=read,recvfrom,write,sendto", "-o", log.name, "-p", str(server.process.pid)]
+        tracer = subprocess.Popen(words, stdin=subprocess.DEVNULL, stderr=subprocess.DEVNULL)
+        time.sleep(1)
+        for _ in range(count):
+            answer(link)
+        looks = tracer.poll() is None
+        tracer.terminate()
+        tracer.wait()
+        text = log.read()
+    return [len(re.findall(f" (?:{names})\\(", text)) for names in ("read|recvfrom", "write|sendto")] if looks else []
+
+
+if shutil.which("strace"):
+    with Server(row, doors=1, program=program) as server:
+        calls = calls_of(server)
+    if calls:
+        # and the read that waits for the next one
+        judge(f"reads and writes of 100 requests: {calls}", [100 <= found <= 101 for found in calls], [True, True])
+    else:
+        print("skipped: strace may not look at a program")
+else:
+    print("skipped: there is no strace")
 
 # where the system gives fewer descriptors than the doors need
 at = free_port()
 few = run("serve", row, str(at), "16", preexec_fn=lambda: resource.setrlimit(resource.RLIMIT_NOFILE, (12, 12)))
 judge("few descriptors", few[:3], (
-    "read fault\n", "path_server serve: 16 doors need as many descriptors, and the system gives fewer\n"
-    f"path_server serve: port {at} cannot have 16 doors: Too many open files (os error 24)\n", 5))
+    "read fault\n", "path_server serve: the doors need 16 more descriptors, and the system gives fewer\n"
+    f"path_server serve: port {at} cannot be opened for 16 doors: Too many open files (os error 24)\n", 5))
 
 # a port that the system forbids, where it forbids any
 with open("/proc/sys/net/ipv4/ip_unprivileged_port_start") as file:
@@ -275,7 +368,7 @@ for lead, sign in ((False, signal.SIGTERM), (False, signal.SIGINT), (False, sign
             try:
                 connect(at).close()
                 time.sleep(0.05)
-            except ConnectionRefusedError:
+            except (ConnectionRefusedError, ConnectionResetError):  # reset: the port was closed meanwhile
                 break
         judge(f"{sign.name}: refused within a second", time.monotonic() - begun < 1, True)
     out, err = script.communicate(timeout=30)

@@ -70,7 +70,7 @@ def try_server(folder):
         found = numbers_of(at)
         with open(path, encoding="ascii") as file:
             text = file.read()
-        builds = re.findall(r": version \d+, (\d+) cells built, \d+ kept, (\d+) ms", text)
+        builds = re.findall(r": version \d+, (\d+) cells? built, \d+ kept, (\d+) ms", text)
         told = {"accepted_edits": status.accepted, "published_version": status.version, "unpublished_edits": status.lag,
                 "cells": status.cells, "components": status.components, "runs": status.runs}
         judge("what the status tells", {name: found[name] for name in told}, told)

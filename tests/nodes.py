@@ -3,23 +3,25 @@
 
     tests/nodes.py [--seconds N] [--clients N] [--side K] [--seed S] [--speed]
 
-First what a leader sends and what a follower makes of what it gets, byte by byte: each end of a feed, each status. Then
-clients edit a leader for some seconds. Beside them followers come one after the other, some ask often and some once;
-others read slowly, break off, ask wrongly, or say nothing. What each follower then answers is, byte for byte, what a
-session says that made the same first edits and built once; the edits of a feed are those that were accepted, in their
-order. With --speed it tells how many queries a second a leader answers with followers and without. Prints only what is
-wrong; the status is 1 then.
+First what a leader sends and what a follower makes of what it gets, byte by byte: each end of a feed, each status; and a
+leader's words for the operator. Then clients edit a leader for some seconds. Beside them followers come one after the
+other, some ask often and some once; others read slowly, break off, ask wrongly, or say nothing. What each follower then
+answers is, byte for byte, what a session says that made the same first edits and built once; the edits of a feed are
+those that were accepted, in their order. With --speed it tells how many queries a second a leader answers with followers
+and without. Prints only what is wrong; the status is 1 then.
 """
 
 import argparse
 import os
 import random
+import re
 import socket
 import subprocess
 import sys
 import tempfile
 import threading
 import time
+import unittest.mock
 
 from judging import program_here
 from path_server import (
@@ -38,6 +40,7 @@ from path_server.frames import encoded
 PATIENCE = 60  # seconds that an answer may take
 SOON = 10  # and where nobody is in the way
 ASK_TIME = 10  # seconds in which an ask that was begun has to be whole
+SILENCE = 30  # seconds after which a follower that asks nothing is let go
 MAX_EDITS = 1024  # in one message
 ROW = "type octile\nheight 1\nwidth 3\nmap\n...\n"
 ROW_START = bytes.fromhex("0000000c 31 00000003 00000001 01 01 01")
@@ -125,10 +128,10 @@ class FakeLeader(threading.Thread):
 
 
 def follow(program, port, rounds, data=b"", *options):
-    """Runs a follower with this input to its end: its status and what it put."""
+    """Runs a follower with this input to its end: its status, what it put, and what it said."""
     command = [program, "follow", str(port), str(rounds), *options]
     done = subprocess.run(command, input=data, capture_output=True, timeout=PATIENCE, check=False)
-    return done.returncode, done.stdout
+    return done.returncode, done.stdout, done.stderr.decode()
 
 
 # ---- bytes and ends
@@ -172,6 +175,16 @@ def try_feed(program, folder):
         silent = Feed(server.feed)
         silent.bytes(len(ROW_START))
         same("the edits, asked after a silence", (time.sleep(ASK_TIME + 2), silent.edits(0))[1], [[(0, 0, 0)]])
+        silent.link.close()
+        # a follower that asks nothing holds the feed for so long and no longer, and the next one has it then
+        silent, began = Feed(server.feed), time.monotonic()
+        silent.bytes(len(ROW_START))
+        waiting = Feed(server.feed)
+        same("the edits of who waited", (waiting.bytes(len(ROW_START)), waiting.edits(0))[1], [[(0, 0, 0)]])
+        if not SILENCE - 1 < time.monotonic() - began < SILENCE + 5:
+            raise Wrong("a silent follower held the feed for %.1f seconds" % (time.monotonic() - began))
+        silent.ends()
+        silent = waiting
         # a stop ends who is silent at the feed, as it ends a session, and lets nobody in
         began = time.monotonic()
         with server.connect() as client:
@@ -193,22 +206,41 @@ def try_two(program, folder):
             same("the first follower, later", first.status().accepted, 0)
 
 
+def try_words(program, folder):
+    """What a leader says: which of its ports is taken, and its start and its end, by its own name."""
+    row, port = os.path.join(folder, "row.map"), free_port()
+    with socket.create_server(("127.0.0.1", 0)) as listener:
+        taken = listener.getsockname()[1]
+        told = f"path_server lead: port {taken} is taken: Address already in use (os error 98)\n"
+        for ports in ((taken, port), (port, taken)):
+            command = [program, "lead", row, str(ports[0]), "1", str(ports[1])]
+            done = subprocess.run(command, capture_output=True, text=True, timeout=PATIENCE, check=False)
+            same("a port that is taken", (done.returncode, done.stdout, done.stderr), (5, "read fault\n", told))
+    with unittest.mock.patch.dict(os.environ, PATH_SERVER_LOG="1"):
+        with Server(row, feed=0, doors=1, program=program) as server:
+            server.stop(PATIENCE)
+            told = re.sub(r"\d+ ms", "N ms", server.told())
+    opened = ["path_server lead: port %d open, 1 door, N ms after the start" % port for port in (server.port, server.feed)]
+    same("words for the operator", sorted(told.splitlines()), sorted([
+        "path_server lead: ended; 1 connection, 0 of them by a fault", *opened]))
+
+
 def try_follow(program):
     """What a follower makes of what it gets: its answers, each status, and its asks."""
     query = encoded(Query((1, 0), (2, 0)))
     reply = bytes.fromhex("0000000e 81 00000001 00000001 00000000 02")
     for piece in (0, 1, 7):
         leader = FakeLeader(ROW_START + ONE_EDIT, piece)
-        same("a follower", follow(program, leader.port, 1, query), (0, b"following 1\n" + reply))
+        same("a follower", follow(program, leader.port, 1, query), (0, b"following 1\n" + reply, ""))
         leader.join(PATIENCE)
         same("its ask", leader.heard, ask(0))
     leader = FakeLeader(ROW_START, waits=True)
-    same("a follower of the map alone", follow(program, leader.port, 0), (0, b"following 0\n"))
+    same("a follower of the map alone", follow(program, leader.port, 0), (0, b"following 0\n", ""))
     leader.join(PATIENCE)
     same("its asks", leader.heard, b"")
     none = bytes.fromhex("00000009 32 00000001 00000000")
     leader = FakeLeader(ROW_START + ONE_EDIT + none + none)
-    same("a follower in three rounds", follow(program, leader.port, 3), (0, b"following 1\n"))
+    same("a follower in three rounds", follow(program, leader.port, 3), (0, b"following 1\n", ""))
     leader.join(PATIENCE)
     same("its three asks", leader.heard, ask(0) + ask(1) + ask(1))
     other = ONE_EDIT[:8] + b"\x01" + ONE_EDIT[9:]
@@ -226,12 +258,16 @@ def try_follow(program):
     }
     for what, data in bad.items():
         leader = FakeLeader(data)
-        same(what, follow(program, leader.port, 1, query), (10, b"bad answer\n"))
-    leader = FakeLeader(ROW_START + bytes.fromhex("00000001 34"))
-    same("a leader without memory", follow(program, leader.port, 1, query), (13, b"leader out of memory\n"))
-    same("nobody there", follow(program, free_port(), 1, query), (5, b"read fault\n"))
+        told = f"invalid or incomplete feed from port {leader.port}"
+        same(what, follow(program, leader.port, 1, query), (10, b"bad answer\n", f"path_server follow: {told}\n"))
+    leader, port = FakeLeader(ROW_START + bytes.fromhex("00000001 34")), free_port()
+    told = f"path_server follow: the leader at port {leader.port} is out of memory\n"
+    same("a leader without memory", follow(program, leader.port, 1, query), (13, b"leader out of memory\n", told))
+    told = f"path_server follow: no leader at port {port}, or the connection or the input failed\n"
+    same("nobody there", follow(program, port, 1, query), (5, b"read fault\n", told))
     leader = FakeLeader(ROW_START + ONE_EDIT)
-    same("a torn session", follow(program, leader.port, 1, query[:4]), (9, b"following 1\n"))
+    told = "path_server follow: the input ended inside a frame, 4 of 11 bytes\n"
+    same("a torn session", follow(program, leader.port, 1, query[:4]), (9, b"following 1\n", told))
     for words in (["follow", "1"], ["follow", "0", "1"], ["follow", "1", "1048577"], ["lead", "m", "9", "1", "9"]):
         done = subprocess.run([program, *words], capture_output=True, timeout=PATIENCE, check=False)
         same(" ".join(words), (done.returncode, done.stdout[:7]), (1, b"usage: "))
@@ -465,6 +501,7 @@ def main():
             try_follow(program)
             try_feed(program, folder)
             try_two(program, folder)
+            try_words(program, folder)
             counts = try_load(options, program, folder)
             if options.speed:
                 print("nodes.py: %s" % ", ".join("%d %s" % (count, what) for what, count in sorted(counts.items())))

@@ -21,6 +21,7 @@ MOST_WORDS = 1200
 MOST_BY_HAND = 25_000
 MADE = re.compile(r"<!-- made by .*?<!-- until here -->", re.S)
 BLOCK = re.compile(r"^```(\w*)\n(.*?)^```$", re.M | re.S)
+EXAMPLE = re.compile(r"^//! ```text\n//! (.*)\n//! (.*)\n//! ```$", re.M)
 LINK = re.compile(r"\]\(([^)\s]+)\)")
 C_PRELUDE = """
 #include <pathdb.h>
@@ -78,6 +79,15 @@ def words_by_hand():
     found = [page for page in pages() if re.match(r"README|docs/|deploy/|clients/", str(page.relative_to(TOP)))]
     texts = [MADE.sub("", page.read_text(encoding="utf-8")) for page in found]
     return sum(len(re.findall(r"\S*[A-Za-z]\S*", text)) for text in texts if "Made by `tools/" not in text)
+
+
+def judge_examples():
+    """The examples on the front pages of crates are cases: a line that is tried, and the one that is wanted."""
+    lines = [(TOP / "crates/cases" / name).read_text(encoding="utf-8").split("\n") for name in ("stdin", "stdout")]
+    cases = set(zip(*lines))
+    for root in sorted((TOP / "crates").glob("*/src/lib.rt")):
+        for tried, wanted in EXAMPLE.findall(root.read_text(encoding="utf-8")):
+            judge(f"{root.relative_to(TOP)}: {tried}", (tried, wanted) in cases, True)
 
 
 class Shell:
@@ -149,6 +159,7 @@ def run_blocks(page):
 def main():
     for page in pages():
         judge_links(page)
+    judge_examples()
     words = len((TOP / "README.md").read_text(encoding="utf-8").split())
     judge("README.md has few words", words <= MOST_WORDS, True)
     by_hand = words_by_hand()

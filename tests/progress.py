@@ -94,5 +94,5 @@ with tempfile.NamedTemporaryFile("w", suffix=".map") as file:
     server.communicate(timeout=60)
     shown, _, words = terminal.text().partition("path_server serve: ")
     judge_shown("serve", shown, 96 * 120, took)
-    judge("words for the operator", words.startswith(f"port {port} open, 1 doors, "), True)
+    judge("words for the operator", words.startswith(f"port {port} open, 1 door, "), True)
 sys.exit(judge.failed)

@@ -1,9 +1,9 @@
 #!/usr/bin/env python3
 """The program as a server and as its client, over real connections on this machine: two doors that answer side by
-side, each request and each printed answer of `ask`, peers that lie or hang up, a port that is taken, and a server that
-is started again at once. Prints only where something is not as it should be.
+side, each request and each printed answer of `ask`, peers that lie or hang up, a port that is taken, a server that is
+started again at once, and words for the operator. Prints only where something is not as it should be.
 """
-import random, socket, subprocess, sys, threading, time
+import os, random, re, socket, subprocess, sys, threading, time
 
 from judging import ROW_MAP, Judge, program_here
 from path_server import AskStatus, Bye, PathServerError, Query, Server, Stop, TcpLink, Totals, free_port
@@ -165,10 +165,29 @@ ended(server, 1, 1, 1)
 
 # peers that are no server
 judge("nobody listens", ask(port, "status"),
-      ("read fault\n", f"path_server ask: nobody answers at port {port}, or no longer\n", 5))
-BAD = ("bad answer\n", "path_server ask: what came in is no answer, or ended before it was whole, at port PORT\n", 10)
+      ("read fault\n", f"path_server ask: no server at port {port}, or the connection was lost\n", 5))
+BAD = ("bad answer\n", "path_server ask: invalid or incomplete answer from port PORT\n", 10)
 for name, data in (("too long", "0000800D"), ("half a frame", "0000000582000000"), ("nothing", ""),
                    ("half a length", "0000"), ("no reply", "0000000101"), ("a request", "000104")):
     judge(f"a peer that sends {name}", answer_of(bytes.fromhex(data)), BAD)
 judge("a peer that answers", answer_of(bytes.fromhex("00000005" + UNREACHABLE))[0::2], ("version 0\nunreachable\n", 0))
+
+# words for the operator, by their numbers
+os.environ["PATH_SERVER_LOG"] = "1"
+port = free_port()
+server = serve(row, port, 2)
+link = connect(port)
+send(link, b"\0")
+link.close()
+ask(port, "change 1 0 1")
+ask(port, "build")
+judge("ask stop", ask(port, "stop"), ("done\n", "", 0))
+server.ended(20)
+told = [re.sub(r"\d+ ms", "N ms", line) for line in server.told().splitlines()]
+judge("words for the operator", sorted(told), [
+    "path_server serve: a connection ended inside a frame, or by one too long",
+    "path_server serve: ended; 4 connections, 1 of them by a fault",
+    f"path_server serve: port {port} open, 2 doors, N ms after the start",
+    "path_server serve: version 1, 3 cells built, 0 kept, N ms",
+])
 sys.exit(judge.failed)

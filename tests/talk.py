@@ -73,9 +73,9 @@ for count in range(len(query) + 1):
     said = f"path_server talk: the input ended inside a frame, {count} of {size} bytes\n" if broken else ""
     judge(f"{count} bytes of a query", whole(query[:count], row), (sent, said.encode(), 9 if broken else 0))
 judge("a frame of 65 bytes", whole(bytes.fromhex("0041"), row),
-      (b"", b"path_server talk: a frame of 65 bytes is longer than 64, and 322 behind a Hello\n", 9))
+      (b"", b"path_server talk: a frame of 65 bytes; the limit is 64, or 322 after a Hello\n", 9))
 judge("behind a reply", whole(query + bytes.fromhex("FFFF"), row),
-      (turns[0][1], b"path_server talk: a frame of 65535 bytes is longer than 64, and 322 behind a Hello\n", 9))
+      (turns[0][1], b"path_server talk: a frame of 65535 bytes; the limit is 64, or 322 after a Hello\n", 9))
 
 # an output that nobody reads, and an input that cannot be read
 nobody, output = os.pipe()

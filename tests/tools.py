@@ -2,7 +2,7 @@
 """The tools beside the program: `tools/draw`, `tools/scenarios`, `tools/judge` and `tools/plot` over made maps and
 lists of scenarios. Prints only where something is not as it should be.
 """
-import contextlib, csv, importlib.util, io, math, os, random, runpy, statistics, subprocess, sys, tempfile
+import contextlib, csv, importlib.util, io, math, os, random, re, runpy, statistics, subprocess, sys, tempfile
 from xml.etree import ElementTree
 
 from judging import TOP, Judge, program_here
@@ -229,9 +229,12 @@ def judge_answers():
 def judge_example():
     """The list of scenarios beside the tutorial's map matches, line by line, and so do the costs of a search."""
     example = os.path.join(TOP, "maps/tutorial.map")
-    status, text, _ = tool("scenarios", example, example + ".scen", "--search", "--rounds", "1")
+    status, text, said = tool("scenarios", example, example + ".scen", "--search", "--rounds", "1")
     results = {line["result"] for line in csv.DictReader(text.splitlines())}
     judge("the tutorial's scenarios", (status, results), (0, {"match"}))
+    rows = tool("scenarios", example, example + ".scen", "--rounds", "1", "--order", "rows")[2]
+    sizes = [re.findall(r"(\d+) bytes", each) for each in (said, rows)]
+    judge("the size of the database where no order is given", *sizes)
 
 
 SET = {"plain": "\n", "windows": "\r\n", "scaled": "\n", "wet": "\n", "deep/maze": "\n", "large": "\n"}

@@ -1,25 +1,25 @@
 # Completes the words of path_server. Made by tools/manual.
-complete -c path_server -f -n __fish_use_subcommand -a path -d 'prints the cost, the length and the moves of an optimal path, or unreachable'
+complete -c path_server -f -n __fish_use_subcommand -a path -d 'prints the cost, length and moves of an optimal path, or unreachable'
 complete -c path_server -x -n '__fish_seen_subcommand_from path' -l order -a 'rows dfs'
 complete -c path_server -x -n '__fish_seen_subcommand_from path' -l workers
 complete -c path_server -F -n '__fish_seen_subcommand_from path'
-complete -c path_server -f -n __fish_use_subcommand -a check -d 'prints the sides, the passable cells, the components and the runs of a map'
+complete -c path_server -f -n __fish_use_subcommand -a check -d 'prints the size of a map and its numbers of passable cells, components and runs'
 complete -c path_server -x -n '__fish_seen_subcommand_from check' -l order -a 'rows dfs'
 complete -c path_server -x -n '__fish_seen_subcommand_from check' -l workers
 complete -c path_server -F -n '__fish_seen_subcommand_from check'
-complete -c path_server -f -n __fish_use_subcommand -a scen -d 'compares the lengths of a scenario file with those of the map, line by line'
+complete -c path_server -f -n __fish_use_subcommand -a scen -d 'checks each length in a scenario file against the map'
 complete -c path_server -x -n '__fish_seen_subcommand_from scen' -l order -a 'rows dfs'
 complete -c path_server -x -n '__fish_seen_subcommand_from scen' -l workers
 complete -c path_server -F -n '__fish_seen_subcommand_from scen'
-complete -c path_server -f -n __fish_use_subcommand -a made -d 'measures the map that a formula makes of two sides and a seed'
+complete -c path_server -f -n __fish_use_subcommand -a made -d 'measures the map that a formula makes from two sides and a seed'
 complete -c path_server -x -n '__fish_seen_subcommand_from made' -l order -a 'rows dfs'
 complete -c path_server -x -n '__fish_seen_subcommand_from made' -l workers
 complete -c path_server -f -n '__fish_seen_subcommand_from made'
-complete -c path_server -f -n __fish_use_subcommand -a replay -d 'prints what edits, builds and queries of a file come to, line by line'
+complete -c path_server -f -n __fish_use_subcommand -a replay -d 'runs the edits, builds and queries of a file and prints their results'
 complete -c path_server -x -n '__fish_seen_subcommand_from replay' -l order -a 'rows dfs'
 complete -c path_server -x -n '__fish_seen_subcommand_from replay' -l workers
 complete -c path_server -F -n '__fish_seen_subcommand_from replay'
-complete -c path_server -f -n __fish_use_subcommand -a talk -d 'answers frames of requests on standard input until it ends'
+complete -c path_server -f -n __fish_use_subcommand -a talk -d 'answers request frames on standard input until it ends'
 complete -c path_server -x -n '__fish_seen_subcommand_from talk' -l order -a 'rows dfs'
 complete -c path_server -x -n '__fish_seen_subcommand_from talk' -l workers
 complete -c path_server -x -n '__fish_seen_subcommand_from talk' -l room
@@ -29,28 +29,28 @@ complete -c path_server -x -n '__fish_seen_subcommand_from serve' -l order -a 'r
 complete -c path_server -x -n '__fish_seen_subcommand_from serve' -l workers
 complete -c path_server -x -n '__fish_seen_subcommand_from serve' -l room
 complete -c path_server -F -n '__fish_seen_subcommand_from serve'
-complete -c path_server -f -n __fish_use_subcommand -a ask -d 'prints what a server answers to one request'
+complete -c path_server -f -n __fish_use_subcommand -a ask -d 'sends one request to a server and prints the answer'
 complete -c path_server -f -n '__fish_seen_subcommand_from ask'
 complete -c path_server -n '__fish_seen_subcommand_from ask; and test (count (commandline -opc)) -eq 3' -a 'query change build status bye stop'
-complete -c path_server -f -n __fish_use_subcommand -a export -d 'puts the file of the map\'s database on standard output'
+complete -c path_server -f -n __fish_use_subcommand -a export -d 'writes the map\'s database file to standard output'
 complete -c path_server -x -n '__fish_seen_subcommand_from export' -l order -a 'rows dfs'
 complete -c path_server -x -n '__fish_seen_subcommand_from export' -l workers
 complete -c path_server -F -n '__fish_seen_subcommand_from export'
-complete -c path_server -f -n __fish_use_subcommand -a verify -d 'checks the file of a database without a search: each path that it spells is optimal'
+complete -c path_server -f -n __fish_use_subcommand -a verify -d 'checks that every path in a database file is optimal, without a search'
 complete -c path_server -F -n '__fish_seen_subcommand_from verify'
-complete -c path_server -f -n __fish_use_subcommand -a near -d 'prints what check prints, and how many runs are left where the compass is right'
+complete -c path_server -f -n __fish_use_subcommand -a near -d 'prints what check prints, and how many runs the compass does not replace'
 complete -c path_server -x -n '__fish_seen_subcommand_from near' -l order -a 'rows dfs'
 complete -c path_server -x -n '__fish_seen_subcommand_from near' -l workers
 complete -c path_server -F -n '__fish_seen_subcommand_from near'
-complete -c path_server -f -n __fish_use_subcommand -a nearpath -d 'prints an optimal path that goes by the compass where that is right'
+complete -c path_server -f -n __fish_use_subcommand -a nearpath -d 'prints an optimal path that follows the compass wherever it is right'
 complete -c path_server -x -n '__fish_seen_subcommand_from nearpath' -l order -a 'rows dfs'
 complete -c path_server -x -n '__fish_seen_subcommand_from nearpath' -l workers
 complete -c path_server -F -n '__fish_seen_subcommand_from nearpath'
-complete -c path_server -f -n __fish_use_subcommand -a lead -d 'serves as serve does, and feeds followers its accepted edits at a port of their own'
+complete -c path_server -f -n __fish_use_subcommand -a lead -d 'serves like serve, and sends accepted edits to followers at another port'
 complete -c path_server -x -n '__fish_seen_subcommand_from lead' -l order -a 'rows dfs'
 complete -c path_server -x -n '__fish_seen_subcommand_from lead' -l workers
 complete -c path_server -x -n '__fish_seen_subcommand_from lead' -l room
 complete -c path_server -F -n '__fish_seen_subcommand_from lead'
-complete -c path_server -f -n __fish_use_subcommand -a follow -d 'takes the accepted edits of a leader, and then answers requests as talk does'
+complete -c path_server -f -n __fish_use_subcommand -a follow -d 'takes the accepted edits of a leader, then answers requests like talk'
 complete -c path_server -x -n '__fish_seen_subcommand_from follow' -l order -a 'rows dfs'
 complete -c path_server -f -n '__fish_seen_subcommand_from follow'
