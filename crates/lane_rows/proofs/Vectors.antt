@@ -1,5 +1,5 @@
 -- The vector operations, lane by lane.
-use Rattle.std.proofs.Common.{◌≡◌, ℕ, ◌-◌, ◌/◌, ◌%◌, ◌^◌, ◌<◌, ◌⊎◌, Bool, true, false, not, cond, eqb, ltb, leb, IsFalse, nat_eq, List, map, length, get_or, replicate, bit_and, refl, sym, ap, subst, ◌∙◌, inl, inr, min, arith, w32, eqb-true, leb-false, ltb-true, ltb-false, eq-eqb}
+use Rattle.std.proofs.Common.{◌≡◌, ℕ, ◌-◌, ◌/◌, ◌%◌, ◌^◌, ◌<◌, ◌≤◌, ◌⊎◌, Bool, true, false, not, cond, eqb, ltb, leb, IsFalse, nat_eq, List, map, length, get_or, replicate, bit_and, refl, sym, ap, subst, ◌∙◌, inl, inr, min, arith, w32, eqb-true, leb-false, ltb-true, ltb-false, eq-eqb}
 use Rattle.std.proofs.lemmas.List.{get_or-map, length-map}
 use Rattle.std.proofs.lemmas.Simd.{Each1-from_get_or, length-zip2, get_or-zip2, get_or-replicate, length-replicate, length-sel_l, get_or-sel_l, tops_compared, mask_l-mod, bit_mask_l}
 use Rattle.std.proofs.lemmas.Nat.Bits.{bit_at-zero}
@@ -37,6 +37,13 @@ cond_is_min a b = go (ltb a b) refl
     go : (t : Bool) → ltb a b ≡ t → cond t a b ≡ min a b
     go true e = omega (arith, ltb-true _ _ e)
     go false e = omega (arith, ltb-false _ _ e)
+
+pub none_above : (a b : ℕ) → (a ≤ cond (ltb a b) b a) × (b ≤ cond (ltb a b) b a)
+none_above a b = go (ltb a b) refl
+  where
+    go : (t : Bool) → ltb a b ≡ t → (a ≤ cond t b a) × (b ≤ cond t b a)
+    go true e = let less = ltb-true _ _ e in (omega arith, omega arith)
+    go false e = let more = ltb-false _ _ e in (omega arith, omega arith)
 
 -- ---- an operation with one number in each lane
 

@@ -7,7 +7,7 @@ ghost use Rattle.lane_rows.specs.Visits.{IsFull};
 ghost use Rattle.lane_rows.specs.Equations.{far, lane_of, offered};
 ghost use Rattle.lane_rows.specs.Classes.{class_in, AreByClass, AreWithin, IsWithin};
 
-use crate::kernels::{FAR, has_beyond, has_empty, has_full, raised};
+use crate::kernels::{FAR, greater, has_beyond, has_empty, has_full, raised};
 use crate::tiles::LANES;
 use root_cost::{DIAGONAL_KEY, STRAIGHT_KEY};
 use std::simd::prelude::*;
@@ -35,18 +35,16 @@ pub(crate) fn expand(
         → lane_of keys.new lane place < far }
 {
     let last = keys.len() - 1;
-    let mut is_in_range = true;
+    let mut highest = u32x16::splat(0);
     for place in 0..last {
         let class = codes[place] >> 16;
         let key = raised(offsets_of(offsets, class), costs[place]);
-        if has_beyond(key, FAR) {
-            is_in_range = false;
-        }
+        highest = greater(highest, key);
         keys[place] = key;
         sets[place] = moves_of(class_sets, class);
     }
     keys[last] = u32x16::splat(FAR);
-    is_in_range
+    !has_beyond(highest, FAR)
 }
 
 /// The offsets of a class; none where there is no such class.

@@ -26,6 +26,15 @@ pub(crate) fn lesser(a: u32x16, b: u32x16) -> u32x16
     a.simd_min(b)
 }
 
+/// The greater of two keys, in each lane.
+#[inline(always)]
+pub(crate) fn greater(a: u32x16, b: u32x16) -> u32x16
+    ensures first { (lane : ℕ) → lane < 16 → slice_index a lane ≤ slice_index result lane }
+    ensures second { (lane : ℕ) → lane < 16 → slice_index b lane ≤ slice_index result lane }
+{
+    a.simd_max(b)
+}
+
 /// The keys, one step further. They wrap round at 2^32.
 #[inline(always)]
 pub(crate) fn raised(a: u32x16, step: u32) -> u32x16

@@ -33,8 +33,10 @@ pub fn pack_lanes(sets: &[u8x16], words: &mut LaneWords) -> Result<(), AllocErro
         let kept = met(common, *set);
         if has_empty(kept) {
             cut(words, &mut starts, common, kept, place as u32)?;
+            common = renewed(kept, *set);
+        } else {
+            common = kept;
         }
-        common = renewed(kept, *set);
     }
     cut(
         words,

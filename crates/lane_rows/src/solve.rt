@@ -7,7 +7,7 @@ ghost use Rattle.lane_rows.specs.Visits.{AreSettled, AreSolved, HasRows, IsSwept
 
 use crate::classes::{Classes, Scene, guess};
 use crate::inside::{are_costs, expand, mark_borders, wake};
-use crate::kernels::{FAR, FULL, has_beyond};
+use crate::kernels::{FAR, FULL, greater, has_beyond};
 use crate::sweeps::{lower, lower_back, sweep, sweep_back};
 use root_cost::GREATEST_KEY;
 use std::simd::prelude::*;
@@ -127,10 +127,8 @@ fn settle_nearest(scene: &Scene, keys: &mut [u32x16], sets: &mut [u8x16], waits:
 {
     let (near, nearest) = (scene.near, scene.nearest);
     let sources = u32x16::from_array(scene.sources);
-    for _ in 0..ROUNDS {
-        lower(near, sources, nearest, keys);
-        lower_back(near, sources, nearest, keys);
-    }
+    let plan = Plan::new(nearest, nearest.len(), scene.sweeps);
+    find_keys(near, sources, plan, keys);
     settle(near, sources, nearest, keys, sets, waits);
 }
 
@@ -278,5 +276,9 @@ fn are_all_below(keys: &[u32x16], limit: u32) -> bool
     ensures { IsTrue result → (lane place : ℕ) → lane < 16 → place < length keys.now
         → lane_of keys.now lane place < limit }
 {
-    keys.iter().all(|row| !has_beyond(*row, limit))
+    let mut highest = u32x16::splat(0);
+    for row in keys {
+        highest = greater(highest, *row);
+    }
+    !has_beyond(highest, limit)
 }

@@ -1,5 +1,4 @@
 use Rattle.std.proofs.Common.{◌≡◌, [], length, get_or, refl, arith}
-use Rattle.lane_rows.specs.Packed.{AreCut}
 use Rattle.lane_rows.proofs.LanePacking.{zeros, no_cut, packing_first, packing_next, packing_all, all_bytes}
 use Rattle.lane_rows.proofs.packing.pack_lanes.Goals as goal
 use Rattle.lane_rows.proofs.packing.pack_lanes.Goals.{then-has_empty+in_ok-cut, else-has_empty}
@@ -10,14 +9,19 @@ loop-place-init c = packing_first c.args.sets.now c.clear.new.self c.clear.ensur
 pub loop-place-preserved : goal.loop-place-preserved
 loop-place-preserved c =
     let old = c.loop-place in
-    let cut : AreCut old.words c.if-has_empty.words old.starts c.if-has_empty.starts old.common c.met-kept.result old.place =
     elim c.if-has_empty.branch [
-      | then-has_empty+in_ok-cut w ↦ rw (w.words-is, w.starts-is) w.in_ok-cut.ensures
-      | else-has_empty w ↦ rw (w.words-is, w.starts-is) (no_cut old.words old.starts old.common c.met-kept.result old.place (c.has_empty.ensures w.if-has_empty.false))
-    ] in
-    packing_next c.args.sets.now old.words c.if-has_empty.words old.starts c.if-has_empty.starts old.common c.met-kept.result c.renewed-common.result
-    (get_or c.args.sets.now old.place []) old.place old.invariant c.loop-place-test.true c.requires.few refl
-    c.met-kept.ensures.shared c.met-kept.ensures.byte c.renewed-common.ensures.kept c.renewed-common.ensures.new cut
+      | then-has_empty+in_ok-cut w ↦
+          rw (w.words-is, w.starts-is, w.common-is)
+          (packing_next c.args.sets.now old.words w.cut.new.words old.starts w.cut.new.starts old.common c.met-kept.result w.renewed-common.result
+          (get_or c.args.sets.now old.place []) old.place old.invariant c.loop-place-test.true c.requires.few refl
+          c.met-kept.ensures.shared c.met-kept.ensures.byte w.renewed-common.ensures.kept w.renewed-common.ensures.new w.in_ok-cut.ensures)
+      | else-has_empty w ↦
+          rw (w.words-is, w.starts-is, w.common-is)
+          (packing_next c.args.sets.now old.words old.words old.starts old.starts old.common c.met-kept.result c.met-kept.result
+          (get_or c.args.sets.now old.place []) old.place old.invariant c.loop-place-test.true c.requires.few refl
+          c.met-kept.ensures.shared c.met-kept.ensures.byte (λ lane l some. refl) (λ lane l none. absurd (c.has_empty.ensures w.if-has_empty.false lane l none))
+          (no_cut old.words old.starts old.common c.met-kept.result old.place (c.has_empty.ensures w.if-has_empty.false)))
+    ]
 
 pub returns-clause-packed : goal.returns-clause-packed
 returns-clause-packed c =
