@@ -12,6 +12,9 @@ use std::alloc::{AllocError, Global};
 /// How many moves ahead at most are guessed.
 const AHEAD: usize = 256;
 
+/// The fewest cells for which a tile costs less than a search from each.
+const FEWEST: usize = 6;
+
 /// The costs to a goal, and the place of each cell.
 #[derive(Drop)]
 pub(crate) struct Hints<'a> {
@@ -61,8 +64,9 @@ impl<'a> Hints<'a> {
     }
 
     /// Marks the place of a cell and those of cells to which a best path may lead from there and where it may go on by
-    /// several moves, as many as a tile has sources, and no others. Tells whether they are most cells of that path: only
-    /// then do they lie so near one another that a tile costs less than a search from each.
+    /// several moves, as many as a tile has sources, and no others. Tells whether they are [`FEWEST`] at least and most
+    /// cells of that path up to the last of them: only then do they lie so near one another that a tile costs less than a
+    /// search from each.
     pub(crate) fn mark_from(&self, from: Cell, place: usize, wanted: &mut [bool]) -> bool
         requires { place < length wanted.old }
         ensures size { length wanted.new ≡ length wanted.old }
@@ -74,28 +78,30 @@ impl<'a> Hints<'a> {
         most
     }
 
-    /// Marks the places of cells to which a best path may lead from a cell on, and tells whether they are most of those
-    /// that it passes.
+    /// Marks the places of cells to which a best path may lead from a cell on, and tells whether they are many and most of
+    /// those that it passes up to the last of them.
     fn mark_ahead(&self, from: Cell, wanted: &mut [bool]) -> bool
         ensures { length wanted.new ≡ length wanted.old }
     {
         let mut at = from;
-        let mut left = LANES;
+        let mut marked: usize = 0;
+        let mut upto: usize = 0;
         for passed in 0..AHEAD {
             match self.onward(at) {
-                Onward::Nowhere => return are_most(left, passed),
+                Onward::Nowhere => break,
                 Onward::Forced(next) => at = next,
                 Onward::Guessed(_, next) => {
-                    if left == 0 {
-                        return are_most(left, passed);
-                    }
-                    left -= 1;
                     mark(&self.places, place(self.grid.width(), at), wanted);
+                    marked = marked.wrapping_add(1);
+                    upto = passed.wrapping_add(1);
                     at = next;
                 }
             }
+            if marked >= LANES {
+                break;
+            }
         }
-        false
+        marked >= FEWEST && marked.wrapping_mul(2) > upto
     }
 
     /// The walk went on by a move: from now on it comes before the one that was guessed.
@@ -156,9 +162,4 @@ fn mark(places: &[u16], at: usize, wanted: &mut [bool])
             wanted[place] = true;
         }
     }
-}
-
-/// Whether the cells that were marked, of which so many are left, are most of those that were passed.
-fn are_most(left: usize, passed: usize) -> bool {
-    LANES.saturating_sub(left).saturating_mul(2) > passed
 }
