@@ -150,6 +150,18 @@ impl Tiles {
         is_solved
     }
 
+    /// `run`, without classes of places. It takes fewer steps for sources that stand in a row, each beside the next.
+    pub fn run_row(&mut self, near: &Near, sweeps: u32) -> bool
+        requires near { length near.now ≡ self.old.count }
+        ensures count { self.new.count ≡ self.old.count }
+        ensures sources { self.new.sources ≡ self.old.sources }
+        ensures solved { IsTrue result → IsSolved near.now self.new }
+    {
+        let is_solved = self.run_without(near, sweeps);
+        self.is_solved = is_solved;
+        is_solved
+    }
+
     /// `run`, by classes of places. `false` where the tile has to be solved without them.
     fn run_by_classes(&mut self, near: &Near, sweeps: u32) -> bool
         requires near { length near.now ≡ self.old.count }

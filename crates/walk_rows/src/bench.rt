@@ -1,13 +1,14 @@
 //! The rows that a walk has at hand: those of a tile, which are built together, or that of one cell.
 
-ghost use Rattle.std.specs.Prelude.{◌≡◌, ◌*◌, ◌<◌, ◌≤◌, IfOk, IfSome, OnOk, false, length};
+ghost use Rattle.std.specs.Prelude.{◌≡◌, ◌*◌, ◌<◌, ◌≤◌, IfOk, IfSome, IsTrue, OnOk, false, length};
 ghost use Rattle.moves.specs.Maps.{IsSearchable};
 ghost use Rattle.moves.specs.FirstSetLists.{cell_of};
 ghost use Rattle.build_pool.specs.Places.{AreWithNear};
 ghost use Rattle.lane_rows.specs.Packed.{words_in};
+ghost use Rattle.lane_rows.specs.Tiles.{IsSolved};
 ghost use Rattle.walk_rows.specs.Walks.{AreWordsFrom, CanBeWalked, IsReady};
 
-use crate::hints::Hints;
+use crate::hints::{Ahead, Hints};
 use build_pool::PlainSearch;
 use grid_search::Search;
 use lane_rows::{LANES, Near, Tiles};
@@ -71,15 +72,15 @@ impl<'a> Workbench<'a> {
         ensures plain { OnOk result (self.new.plain ≡ self.old.plain) }
     {
         self.has_rows = false;
-        let most = self
+        let ahead = self
             .hints
             .mark_from(cells[place], place, self.wanted.as_mut_slice());
-        if !most {
+        if ahead == Ahead::Apart {
             return Ok(());
         }
         self.tiles
             .choose(near, place as u16, self.wanted.as_mut_slice());
-        if self.tiles.run(near, SWEEPS) {
+        if run(&mut self.tiles, near, ahead == Ahead::InARow) {
             self.tiles.pack()?;
             self.has_rows = true;
         }
@@ -151,5 +152,19 @@ impl<'a> Workbench<'a> {
         ensures { result.now ≡ words_in self.now.tiles.words lane }
     {
         self.tiles.words(lane)
+    }
+}
+
+/// Solves a tile whose sources stand in a row or not.
+fn run(tiles: &mut Tiles, near: &Near, in_a_row: bool) -> bool
+    requires near { length near.now ≡ tiles.old.count }
+    ensures count { tiles.new.count ≡ tiles.old.count }
+    ensures sources { tiles.new.sources ≡ tiles.old.sources }
+    ensures solved { IsTrue result → IsSolved near.now tiles.new }
+{
+    if in_a_row {
+        tiles.run_row(near, SWEEPS)
+    } else {
+        tiles.run(near, SWEEPS)
     }
 }

@@ -37,6 +37,17 @@ enum Onward {
     Guessed(Move, Cell),
 }
 
+/// How near one another the cells lie that are marked ahead.
+#[derive(Clone, Copy, PartialEq, Eq)]
+pub(crate) enum Ahead {
+    /// They are few, or most cells on the way are others: a search from each costs less than a tile.
+    Apart,
+    /// They are most cells on the way.
+    Near,
+    /// They are nearly all cells on the way.
+    InARow,
+}
+
 impl<'a> Hints<'a> {
     /// The hints for walks to the goal of the search.
     pub(crate) fn new(
@@ -64,23 +75,20 @@ impl<'a> Hints<'a> {
     }
 
     /// Marks the place of a cell and those of cells to which a best path may lead from there and where it may go on by
-    /// several moves, as many as a tile has sources, and no others. Tells whether they are [`FEWEST`] at least and most
-    /// cells of that path up to the last of them: only then do they lie so near one another that a tile costs less than a
-    /// search from each.
-    pub(crate) fn mark_from(&self, from: Cell, place: usize, wanted: &mut [bool]) -> bool
+    /// several moves, as many as a tile has sources, and no others. Tells how near one another they lie.
+    pub(crate) fn mark_from(&self, from: Cell, place: usize, wanted: &mut [bool]) -> Ahead
         requires { place < length wanted.old }
         ensures size { length wanted.new ≡ length wanted.old }
         ensures place { slice_index_or wanted.new place false ≡ true }
     {
         wanted.fill(false);
-        let most = self.mark_ahead(from, wanted);
+        let ahead = self.mark_ahead(from, wanted);
         wanted[place] = true;
-        most
+        ahead
     }
 
-    /// Marks the places of cells to which a best path may lead from a cell on, and tells whether they are many and most of
-    /// those that it passes up to the last of them.
-    fn mark_ahead(&self, from: Cell, wanted: &mut [bool]) -> bool
+    /// Marks the places of cells to which a best path may lead from a cell on, and tells how near one another they lie.
+    fn mark_ahead(&self, from: Cell, wanted: &mut [bool]) -> Ahead
         ensures { length wanted.new ≡ length wanted.old }
     {
         let mut at = from;
@@ -101,7 +109,7 @@ impl<'a> Hints<'a> {
                 break;
             }
         }
-        marked >= FEWEST && marked.wrapping_mul(2) > upto
+        nearness(marked, upto)
     }
 
     /// The walk went on by a move: from now on it comes before the one that was guessed.
@@ -162,4 +170,15 @@ fn mark(places: &[u16], at: usize, wanted: &mut [bool])
             wanted[place] = true;
         }
     }
+}
+
+/// How near one another so many cells lie, the last of which is reached after so many moves.
+fn nearness(marked: usize, upto: usize) -> Ahead {
+    if marked < FEWEST || marked.saturating_mul(2) <= upto {
+        return Ahead::Apart;
+    }
+    if marked.saturating_mul(4) > upto.saturating_mul(3) {
+        return Ahead::InARow;
+    }
+    Ahead::Near
 }

@@ -9,7 +9,7 @@ returns-in_ok-pack-clause-ready c = record {
   marks =
       (let own = c.args.self.now.wanted.ok.0 in
       let marks = c.requires.ready.marks in
-      lent_whole c.args.self.now.wanted.len _ _ (lent_whole c.args.self.now.wanted.len c.mark_from-most.new.wanted c.args.self.now.wanted.items (omega arith))
+      lent_whole c.args.self.now.wanted.len _ _ (lent_whole c.args.self.now.wanted.len c.mark_from-ahead.new.wanted c.args.self.now.wanted.items (omega arith))
       ∙ omega arith);
   rows = λ _. record {
     sources = λ lane l.
