@@ -16,3 +16,4 @@ pub mod Hiring
 pub mod Crewing
 pub mod Parting
 pub mod Pairing
+pub mod Concluding

@@ -11,3 +11,4 @@ pub mod Doors
 pub mod Trades
 pub mod Crews
 pub mod ServedBoards
+pub mod Conclusions

@@ -1,5 +1,6 @@
 //! Laws of the limits of sessions and served boards. No code runs.
 ghost use Rattle.std.specs.Prelude.{◌≡◌, ◌+◌};
+ghost use Rattle.session.specs.Conclusions.{OwnBuildsAreNotOvertaken};
 ghost use Rattle.session.specs.Served.{OwnQueriesAreAnswered};
 
 use crate::{MAX_DOORS, MAX_REQUESTS};
@@ -16,4 +17,9 @@ pub fn limits_are_these()
 /// On a board of its own, no query is answered with `NoMemory`.
 pub fn own_queries_are_answered()
     ensures { OwnQueriesAreAnswered }
+{}
+
+/// On a board of its own, no build is answered with `Overtaken`.
+pub fn own_builds_are_not_overtaken()
+    ensures { OwnBuildsAreNotOvertaken }
 {}
