@@ -5,6 +5,7 @@ Of README.md and docs/guide, blocks marked `sh` are run from the top of the repo
 block after one is what it has to print. A `serve` or `lead` alone runs in the background until the page ends. `python`
 blocks are run too, and `c` blocks are compiled. README.md has at most 1,200 words, and the pages that are written by hand
 have at most 25,000: README.md, docs/, those of deploy/ and clients/, without what tools/reference and tools/manual make."""
+import itertools
 import os
 import re
 import signal
@@ -21,7 +22,7 @@ MOST_WORDS = 1200
 MOST_BY_HAND = 25_000
 MADE = re.compile(r"<!-- made by .*?<!-- until here -->", re.S)
 BLOCK = re.compile(r"^```(\w*)\n(.*?)^```$", re.M | re.S)
-EXAMPLE = re.compile(r"^//! ```text\n//! (.*)\n//! (.*)\n//! ```$", re.M)
+SAMPLE = re.compile(r"`examples/([\w.]+)`")
 LINK = re.compile(r"\]\(([^)\s]+)\)")
 C_PRELUDE = """
 #include <pathdb.h>
@@ -81,13 +82,29 @@ def words_by_hand():
     return sum(len(re.findall(r"\S*[A-Za-z]\S*", text)) for text in texts if "Made by `tools/" not in text)
 
 
+def front_page(root):
+    """Returns the front page of a crate."""
+    lines = root.read_text(encoding="utf-8").splitlines()
+    return "".join(f"{line[4:]}\n" for line in itertools.takewhile(lambda line: line.startswith("//!"), lines))
+
+
 def judge_examples():
-    """The examples on the front pages of crates are cases: a line that is tried, and the one that is wanted."""
+    """Each library has an example on its front page: a case and the line that it prints, commands and what they print, or
+    the name of a sample, which tests/samples.py runs."""
     lines = [(TOP / "crates/cases" / name).read_text(encoding="utf-8").split("\n") for name in ("stdin", "stdout")]
     cases = set(zip(*lines))
     for root in sorted((TOP / "crates").glob("*/src/lib.rt")):
-        for tried, wanted in EXAMPLE.findall(root.read_text(encoding="utf-8")):
-            judge(f"{root.relative_to(TOP)}: {tried}", (tried, wanted) in cases, True)
+        name, page = root.relative_to(TOP), front_page(root)
+        blocks = BLOCK.findall(page)
+        samples = SAMPLE.findall(page)
+        judge(f"{name}: an example", bool(blocks or samples), True)
+        for sample in samples:
+            judge(f"{name}: {sample}", (TOP / "examples" / sample).is_file(), True)
+        if any(kind == "sh" for kind, _ in blocks):
+            run_blocks(name, page)
+        else:
+            for _, text in blocks:
+                judge(f"{name}: {text}", tuple(text.replace(" \\\n", " ").splitlines()) in cases, True)
 
 
 class Shell:
@@ -144,12 +161,12 @@ def take_includes(text):
     return "".join(line for line in text.splitlines(keepends=True) if not line.startswith("#include"))
 
 
-def run_blocks(page):
+def run_blocks(name, page):
     """Runs the blocks of a page."""
     with tempfile.TemporaryDirectory() as folder:
-        shell = Shell(page.relative_to(TOP), folder)
+        shell = Shell(name, folder)
         try:
-            for kind, text in BLOCK.findall(page.read_text(encoding="utf-8")):
+            for kind, text in BLOCK.findall(page):
                 if kind in ("sh", "python", "text", "c"):
                     shell.run(kind, text)
         finally:
@@ -167,7 +184,7 @@ def main():
     judge("tools/reference --check", subprocess.run([TOP / "tools/reference", "--check"], check=False).returncode, 0)
     for page in [TOP / "README.md", *sorted((TOP / "docs/guide").glob("*.md"))]:
         if page.name != "games.md":  # tests/game_page.py runs that one
-            run_blocks(page)
+            run_blocks(page.relative_to(TOP), page.read_text(encoding="utf-8"))
     return judge.failed
 
 

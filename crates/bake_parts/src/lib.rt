@@ -5,6 +5,8 @@
 //! words are told one by one, with an example, where contracts define it (`specs/Parts.antt`). One call puts the
 //! image together from all parts, however the sources were cut. This library starts no thread. (Botea 2011; Strasser,
 //! Harabor and Botea 2014)
+//!
+//! `examples/parts.cpp` bakes an image in parts, by as many threads as there are processors.
 #![tactic(auto)]
 
 mod bake;

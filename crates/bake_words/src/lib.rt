@@ -3,6 +3,8 @@
 //! The map is a grid, which `read_map` of map_read reads from a text and [`grid_of_cells`] makes of bytes. [`bake`]
 //! builds its first version, row by row of sixteen near sources at a time, and writes the image of that into a room.
 //! (Botea 2011; Strasser, Harabor and Botea 2014)
+//!
+//! `examples/path.c` bakes an image by this library and walks a path of it.
 #![tactic(auto)]
 
 mod alone;

@@ -1,4 +1,11 @@
 //! Cases of versions and walks, of edits, boards and replays, of scenarios, and of passes at one board.
+//!
+//! A line of a case, and the line that it has to print:
+//!
+//! ```text
+//! next | ... | rows | 1 0 | 0 0
+//! go W
+//! ```
 #![tactic(auto)]
 
 mod boards;

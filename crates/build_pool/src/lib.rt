@@ -3,6 +3,13 @@
 //! The sources are cut into pieces, one for each worker, that pass a gate; what has passed is built by all workers side
 //! by side, whosever it is. Rows depend on the cells alone, so the result is the same for any number of workers.
 //! (Botea 2011; Strasser, Harabor and Botea 2014)
+//!
+//! The rows of three cells side by side, of which the middle one has two runs:
+//!
+//! ```text
+//! rows | rows | 1 | ...
+//! 0E/0W 2E/0W, 4 runs, cells 0,0 1,0 2,0, 1 side by side
+//! ```
 #![tactic(auto)]
 
 ghost use Rattle.std.specs.Prelude.{◌≡◌, ◌*◌, ◌<◌, ◌≤◌, length, IfOk};

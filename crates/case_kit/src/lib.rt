@@ -1,5 +1,12 @@
 //! What the cases share: the fields of a line, the maps that a line names, families of made maps, numbers that follow
 //! one another, and bytes as text.
+//!
+//! A family of made maps, and the line that its case has to print:
+//!
+//! ```text
+//! components after edits and anew | 8 8 4000
+//! 4000 maps, 0 differences
+//! ```
 #![tactic(auto)]
 
 mod bytes;

@@ -1,4 +1,12 @@
 //! Orders of the cells of a component. Its rows are packed in one of them.
+//!
+//! The cells of two rows of three in the order depth first, behind the runs of their rows:
+//!
+//! ```text
+//! rows | dfs | 1 | .../...
+//! 0E 4SE 5S/0W 2E 3SE 4S 5SW/0W 3S 4SW/0NW 2N 4W/0NW 1N 2NE 3E 5W/0N 1NE 3E, 22 runs, cells 0,0 1,0 2,0 2,1 1,1 \
+//! 0,1, 1 side by side
+//! ```
 #![tactic(auto)]
 
 ghost use Rattle.std.specs.Prelude.{◌≡◌, ◌+◌, ◌<◌, ◌≤◌, ◌++◌, All, AllPairs, length, reverse, IfOk, IsPermutation};

@@ -4,6 +4,13 @@
 //! straight moves finds each. No move leads from land to water or back, so each component is all
 //! land or all water. Components are numbered by their least cells in row-major order, land and
 //! water together.
+//!
+//! Two cells that touch at a corner alone are two components, which each cell is labelled with:
+//!
+//! ```text
+//! components | .@/@.
+//! 2 components: 0@/@1
+//! ```
 #![tactic(auto)]
 
 ghost use Rattle.std.specs.Prelude.{◌≡◌, ℕ, ◌+◌, ◌<◌, ◌≤◌, [], length, slice_index_or, IfOk, IfSome, IfNone};

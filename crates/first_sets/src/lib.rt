@@ -1,5 +1,12 @@
 //! First sets: for one source on a grid map, the moves that begin a best path to each cell.
 //! Any move of a first set may be stored in a path database. (Botea 2011; Strasser, Harabor and Botea 2014.)
+//!
+//! From the upper left cell of six free ones, two moves begin a best path to the lower right one:
+//!
+//! ```text
+//! cost | .../... | 0 0 | 2 1
+//! 1 straight 1 diagonal, key 80782, 6 reached, E SE
+//! ```
 #![tactic(auto)]
 
 ghost use Rattle.std.specs.Prelude.{◌≡◌, ◌*◌, ◌<◌, ◌≤◌, IfOk};

@@ -2,6 +2,13 @@
 //!
 //! An ask is five bytes: its kind, and how many edits the follower has. A message is sent after the length of its frame
 //! in four bytes. Every number has its highest byte first. Nothing here allocates memory.
+//!
+//! The message with a map of three cells, which a follower gets before it asks:
+//!
+//! ```text
+//! feed led | ... | 02 00 00 00 00 00 | - | 64x1 | - | 256 | -
+//! Ok(Quiet); left -; sent 00 00 00 0C 31 00 00 00 03 00 00 00 01 01 01 01
+//! ```
 #![tactic(auto)]
 
 mod asks;

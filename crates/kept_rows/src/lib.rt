@@ -8,6 +8,13 @@
 //! undecided, it grows by a pair of tiles. Where too many are left then, pairs are solved from gates, few cells that part
 //! some from the gaps: what a source has to the gates tells what it has to all cells.
 //! (Botea 2011; Strasser, Harabor and Botea 2014)
+//!
+//! In the middle of open ground, most rows stay when a cell is blocked and when it is freed:
+//!
+//! ```text
+//! known rows | made 40 40 100 1 | 20 19
+//! blocked: most, freed: most
+//! ```
 #![tactic(auto)]
 
 ghost use Rattle.std.specs.Prelude.{IfOk, IfSome};

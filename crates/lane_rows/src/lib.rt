@@ -7,6 +7,13 @@
 //! the neighbours from which a step attains the key. Nothing is believed but these equations. Where all
 //! places meet them, keys are those of best paths and sets are the first sets, in whatever order they
 //! were found ([`laws`]). (Botea 2011; Strasser, Harabor and Botea 2014.)
+//!
+//! The first sets from the upper left cell round a blocked one, depth first, as bits from N in the lowest:
+//!
+//! ```text
+//! tile | dfs | .../.@./... | 0 0
+//! FF 04 04 04 14 10 10 10
+//! ```
 #![tactic(auto)]
 
 mod classes;

@@ -4,6 +4,8 @@
 //! and freed again. Each path of the live map is a path of the baked one, so a path that the database tells is a best
 //! path now wherever it is free, and what the database says a path costs is never more than it costs now.
 //! (Bono, Gerevini, Harabor and Stuckey 2019: path planning with the heuristics of a path database)
+//!
+//! `examples/doors.c` closes a door of a map, and asks for paths round it.
 #![tactic(auto)]
 
 mod answers;

@@ -4,6 +4,8 @@
 //! path costs is its lower bound, and it ends at the first cell from which the told path is free. All its memory is a
 //! room of words that the caller lends, which may hold anything when it begins; it may be stopped and goes on.
 //! (Hart, Nilsson and Raphael 1968; Bono, Gerevini, Harabor and Stuckey 2019)
+//!
+//! `examples/doors.c` closes a door of a map, and asks for paths round it.
 #![tactic(auto)]
 
 mod ending;

@@ -1,5 +1,12 @@
 //! Maps as text: the map that a text stands for, and the canonical text of a map. (MovingAI map
 //! format page.)
+//!
+//! A map as text, and its canonical text, where `G` and `S` are land and `O` and `T` are blocked:
+//!
+//! ```text
+//! map text | type octile\nheight 2\nwidth 3\nmap\n.GS\n@OT\n
+//! type octile\nheight 2\nwidth 3\nmap\n...\n@@@\n
+//! ```
 #![tactic(auto)]
 
 ghost use Rattle.std.specs.Prelude.{◌≡◌, ◌≤◌, Ok, Err, length, IfOk};

@@ -4,6 +4,13 @@
 //! there is a square in which it begins a best path to each cell of the component. The first sets to the cells in that
 //! square are widened to all moves before they are packed, and so a row has fewer runs; a look-up asks the square first,
 //! and the row where the goal is outside. (Strasser, Harabor and Botea 2014: any optimal first move may be kept.)
+//!
+//! No square is left round a cell beside a blocked corner:
+//!
+//! ```text
+//! radius | .@/.. | rows | 0 0
+//! 0
+//! ```
 #![tactic(auto)]
 
 mod both;

@@ -3,6 +3,13 @@
 //! A link in memory is five fields (`LINK`): the bytes that come in; at how many of them each recv is cut, one recv
 //! after the other; the numbers of the recvs that fail, from 1 on; the room for what is sent; and the numbers of the
 //! sends that fail.
+//!
+//! A link of nothing that is asked to send, and the line that it has to print:
+//!
+//! ```text
+//! bell | ring ring wait ring shut wait wait wait
+//! Rung, Rung, Shut, Shut
+//! ```
 #![tactic(auto)]
 
 mod beside;

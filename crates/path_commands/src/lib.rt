@@ -1,5 +1,13 @@
 //! The commands of the program: the request that a command line spells, what each command does, and
 //! the texts and statuses with which a run ends.
+//!
+//! What a command line asks for:
+//!
+//! ```text
+//! command | path m.map 0 1 2 3
+//! OfMap(MapAsked { source: File("m.map"), aim: Path { start: Cell { x: 0, y: 1 }, goal: Cell { x: 2, y: 3 } }, \
+//! build: BuildOptions { order: Rows, workers: 1 } })
+//! ```
 #![tactic(auto)]
 
 pub mod ask;

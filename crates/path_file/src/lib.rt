@@ -3,6 +3,13 @@
 //! A file has the map, the number of edits that the map comes after, the order of the cells, and the rows of the
 //! database as words, in numbers whose highest byte comes first. Whoever reads it believes nothing of it: each field is
 //! judged as it comes, and then the rows of each component, without any search.
+//!
+//! The file of a map of two blocked cells, behind the exit status:
+//!
+//! ```text
+//! run | export M | rows @@
+//! 0 PATHDB01\x00\x00\x00\x02\x00\x00\x00\x01\x00\x00\x00\x00\x00\x00\x00
+//! ```
 #![tactic(auto)]
 
 ghost use Rattle.std.specs.Prelude.{◌≡◌, ◌≤◌, length, IfErr, IfOk};

@@ -5,6 +5,20 @@
 //! words of whatever source, and from then on paths are read by look-ups alone, one a move, and no memory is taken.
 //! The words of an image are told one by one, with an example, where contracts define it (`specs/Images.antt`).
 //! (Botea 2011; Strasser, Harabor and Botea 2014)
+//!
+//! The words of the image of three cells side by side, by their list in `specs/Images.antt`:
+//!
+//! ```sh
+//! printf 'type octile\nheight 1\nwidth 3\nmap\n...\n' >row.map
+//! release/pathdb/path_bake row.map | od -An -v -tu4 -w32
+//! ```
+//!
+//! ```text
+//!  1752457584 1734438249          1         26          3          1          0          0
+//!           3          1          0          1          2         14          3          0
+//!           1          2          0          1          3          4          2          6
+//!          18          6
+//! ```
 #![tactic(auto)]
 
 mod checking;

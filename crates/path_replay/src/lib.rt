@@ -1,5 +1,12 @@
 //! Replays: the events of several passes as a text, one event a line, and what they print when they are run on a board
 //! one after the other. Each pass holds a version of the map and has at most one version that it builds row by row.
+//!
+//! An edit that changes nothing is refused:
+//!
+//! ```text
+//! replay | ... | submit 0 0 0 0 0 0 1
+//! 0 repeated\n
+//! ```
 #![tactic(auto)]
 
 mod answers;

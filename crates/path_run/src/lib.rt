@@ -1,4 +1,11 @@
 //! The whole program, over given files, input, output, house and ear.
+//!
+//! The exit status and the output of a command:
+//!
+//! ```text
+//! run | check M | rows ../..
+//! 0 size 2 2\ncells 4\ncomponents 1\nruns 12\n
+//! ```
 #![tactic(auto)]
 
 ghost use Rattle.std.specs.Prelude.{◌≡◌, ◌≢◌, [], false, IfErr, IfOk, None, string_bytes};

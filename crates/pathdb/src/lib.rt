@@ -5,6 +5,8 @@
 //! `include/pathdb.h` says in the words of C: the numbers of the statuses are those of [`Status::number`], a slice is a
 //! pointer and then a length, and no pointer is null. No export keeps anything: all that it reads or writes is the
 //! caller's.
+//!
+//! `examples/path.c` bakes an image and walks a path of it, and `examples/doors.c` does while doors close.
 #![tactic(auto)]
 
 pub mod baking;

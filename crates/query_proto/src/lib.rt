@@ -2,6 +2,13 @@
 //!
 //! A request is sent after its length in two bytes, a reply after its length in four. Every number has its highest byte
 //! first. Nothing here allocates memory.
+//!
+//! A request to free a cell, and its bytes:
+//!
+//! ```text
+//! request frame | one | 02 00 01 00 00 01
+//! Change 1 0 Land sent as 00 06 02 00 01 00 00 01
+//! ```
 #![tactic(auto)]
 
 mod changes;

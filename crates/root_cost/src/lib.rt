@@ -4,6 +4,13 @@
 //! A cost `(a, b)` stands for `a + b√2`. Costs are never rounded: they are compared by signs and
 //! squares of whole numbers, so two costs are equal only if they are the same pair. (MovingAI
 //! scenario format page: straight steps cost 1, diagonal steps √2.)
+//!
+//! Seven straight steps cost less than five diagonal ones, 5√2 = 7.07:
+//!
+//! ```text
+//! cost order | 7 0 | 0 5
+//! Less, at most true, below true
+//! ```
 #![tactic(auto)]
 
 ghost use Rattle.std.specs.Prelude.{◌≡◌, ◌-◌, ◌*◌, ◌^◌, ◌<◌, ◌≤◌, ◌↔◌, IsTrue, IsFalse, IsNone, refl, Some};

@@ -2,6 +2,13 @@
 //! from nothing and from the rows before an edit.
 //!
 //! Each kind has a function that gives the line of output for the fields of a line of input.
+//!
+//! A line of a case, and the line that it has to print:
+//!
+//! ```text
+//! pool | FF 04 04/40 FF 04/40 40 FF | -/-/-
+//! 3 rows of 4 runs: 0E/0W 2E/0W
+//! ```
 #![tactic(auto)]
 
 mod builds;

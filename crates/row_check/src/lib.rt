@@ -4,6 +4,14 @@
 //! The rows spell a walk from each cell to each. If each walk arrives, and no move followed by a walk is better than
 //! the walk of the cell that it leaves, all walks are best paths; which moves begin best paths is then read from the
 //! keys of walks, and a row is right if its runs are tight for those. (Botea 2011; Strasser, Harabor and Botea 2014)
+//!
+//! Rows by which the walk from the first cell to the third does not arrive:
+//!
+//! ```text
+//! run | verify M | M 50 41 54 48 44 42 30 31 00 00 00 03 00 00 00 01 00 00 00 00 00 01 01 01 00 00 00 01 00 00 \
+//! 00 02 00 00 00 02 00 00 00 06 00 00 00 12 00 00 00 01 00 00 00 02
+//! 12 database refused: walk 0 0 2\n
+//! ```
 #![tactic(auto)]
 
 ghost use Rattle.std.specs.Prelude.{◌≡◌, ◌<◌, ◌≤◌, IfOk, IfSome, IfNone};

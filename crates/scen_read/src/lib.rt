@@ -1,5 +1,12 @@
 //! Scenarios as text: the queries of a scenario file, each with the length that the file states, and the text of
 //! scenarios. (MovingAI scenario format page, version 1.)
+//!
+//! A list without scenarios, and its canonical text:
+//!
+//! ```text
+//! scen text | version 1.0\r\n\r\n \t\r\n
+//! version 1\n
+//! ```
 #![tactic(auto)]
 
 ghost use Rattle.std.specs.Prelude.{◌≡◌, ◌≤◌, Ok, Err, length, IfOk};

@@ -3,6 +3,13 @@
 //! A session uses a board through a desk: the board itself if one thread uses it, or a seat at a board that threads
 //! share. Contracts state the answers of a desk in terms of the history that its pass has seen, to which others may add
 //! at any call.
+//!
+//! Two frames that are not requests, a build with nothing new, and a bye:
+//!
+//! ```text
+//! talk | .@. | 00 01 C8 00 02 03 00 00 01 05 | - | - | 256 | -
+//! Ok(Bye); left -; sent 00 00 00 04 8B C8 00 01 00 00 00 04 8B 03 00 02 00 00 00 01 8A
+//! ```
 #![tactic(auto)]
 
 pub mod answers;

@@ -1,4 +1,11 @@
 //! The cases of costs, moves, texts of maps and of scenarios, and frames.
+//!
+//! A line of a case, and the line that it has to print:
+//!
+//! ```text
+//! cost length | 0 0
+//! 0 0.000000
+//! ```
 #![tactic(auto)]
 
 mod costs;

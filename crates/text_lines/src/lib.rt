@@ -2,6 +2,13 @@
 //!
 //! A text is cut at each line feed. The words of a line are its pieces between runs of spaces and tabs. A number is one
 //! decimal digit or more. These are this project's own rules for all its text formats.
+//!
+//! A line of words and numbers is read as an event, zeros in front of a number and all:
+//!
+//! ```text
+//! events | submit 007 00065535 0 1
+//! 1 events
+//! ```
 #![tactic(auto)]
 
 mod lines;

@@ -3,6 +3,13 @@
 //! Threads take turns at one state, in the order in which they drew their tickets. Each thread has a [`Seat`], and the
 //! contracts tell what it has seen of the history: each turn's state extends it, and no entry past it is the seat's
 //! own.
+//!
+//! Two threads submit ten edits each: none is lost, and the edits of each are in its order:
+//!
+//! ```text
+//! passes | first 2 10 0 | 2 | 10
+//! 2 passes, 20 accepted, in order: true
+//! ```
 #![tactic(auto)]
 
 pub mod book;

@@ -4,6 +4,13 @@
 //! keeps for the goal begins a best path, so where the costs to the goal leave one such move, it is
 //! that one. The rows of the other cells on the walk are built as they are met, up to sixteen at a
 //! time. (Botea 2011; Strasser, Harabor and Botea 2014)
+//!
+//! A path whose moves are all forced, so no row is built:
+//!
+//! ```text
+//! run | path M 0 0 2 0 | rows ...
+//! 0 cost 2 0\nlength 2.000000\nmoves E E\n
+//! ```
 #![tactic(auto)]
 
 ghost use Rattle.std.specs.Prelude.{◌<◌, IfErr, IfOk, IfSome, OnOk, length};

@@ -4,6 +4,13 @@
 //! A call that returns [`Failed`] says that the system refused. It may do so only if the fault
 //! count of the object that was called rose during the call. So no caller can invent a fault, and
 //! each caller can pass the reason on in its own contract.
+//!
+//! A link in memory whose first send fails, which its fault count tells:
+//!
+//! ```text
+//! memory link | 'in' | - | - | 9 | 1 | send path, send found
+//! failed, sent; left 'in', sent 'found', faults 0 1
+//! ```
 #![tactic(auto)]
 
 mod bell;
