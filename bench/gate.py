@@ -34,10 +34,9 @@ def look(seen):
                 stat = file.read()
             fields = stat[stat.rindex(")") + 2 :].split()
             key = f"{pid} {fields[19]}"
-            if key not in seen:
-                words = prover_words(pid)
-                seen[key] = words and [" ".join(words), os.readlink(f"/proc/{pid}/cwd"), 0]
-            if seen[key]:
+            if key not in seen and (words := prover_words(pid)):
+                seen[key] = [" ".join(words), os.readlink(f"/proc/{pid}/cwd"), 0]
+            if key in seen:
                 seen[key][2] = (int(fields[11]) + int(fields[12])) / TICKS
         except (OSError, ValueError, IndexError):
             pass
@@ -59,7 +58,7 @@ def watch(name):
             look(seen)
             time.sleep(REST)
         with open(name + ".new", "w", encoding="utf-8") as file:
-            json.dump([it for it in seen.values() if it], file)
+            json.dump(list(seen.values()), file)
         os.replace(name + ".new", name)
 
 

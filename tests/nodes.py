@@ -26,6 +26,7 @@ import unittest.mock
 from judging import program_here
 from path_server import (
     Accepted,
+    AskStatus,
     Change,
     Client,
     Edit,
@@ -142,7 +143,8 @@ def try_feed(program, folder):
     name = os.path.join(folder, "row.map")
     with open(name, "w", encoding="ascii") as file:
         file.write(ROW)
-    with Server(name, feed=0, doors=2, program=program) as server:
+    log = unittest.mock.patch.dict(os.environ, PATH_SERVER_LOG="1")
+    with log, Server(name, feed=0, doors=2, program=program) as server:
         with server.connect() as client:
             same("the first edit", client.change((0, 0), Terrain.BLOCKED), Accepted(1))
             client.wait_for(1)
@@ -194,6 +196,13 @@ def try_feed(program, folder):
         if time.monotonic() - began > ASK_TIME + 5:
             raise Wrong("a silent follower held a stop up for %.1f seconds" % (time.monotonic() - began))
         same("who was silent", silent.link.recv(1), b"")
+        words = [line.removeprefix("path_server lead: ") for line in server.told().splitlines() if "ended" in line]
+    same("why connections ended", sorted(words), sorted([
+        *["a connection ended inside a frame, or by one too long"] * 2,
+        "a connection ended: a frame was not whole within 10 seconds",
+        "a connection ended: its follower was silent for 30 seconds",
+        "a connection ended: it was open 10 seconds after a stop",
+        "ended; 10 connections, 5 of them by a fault"]))
 
 
 def try_two(program, folder):
@@ -216,6 +225,11 @@ def try_words(program, folder):
             command = [program, "lead", row, str(ports[0]), "1", str(ports[1])]
             done = subprocess.run(command, capture_output=True, text=True, timeout=PATIENCE, check=False)
             same("a port that is taken", (done.returncode, done.stdout, done.stderr), (5, "read fault\n", told))
+    with Server(row, feed=0, doors=1, program=program) as server, open("/dev/full", "wb") as full:
+        done = subprocess.run([program, "follow", str(server.feed), "1"], input=encoded(AskStatus()), stdout=full,
+                              stderr=subprocess.PIPE, timeout=PATIENCE, check=False)
+        told = b"path_server follow: the output or the connection failed\n"
+        same("follow, with an output that takes nothing", (done.stderr, done.returncode), (told, 6))
     with unittest.mock.patch.dict(os.environ, PATH_SERVER_LOG="1"):
         with Server(row, feed=0, doors=1, program=program) as server:
             server.stop(PATIENCE)

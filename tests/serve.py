@@ -148,6 +148,11 @@ deadline = time.monotonic() + 10
 while ask(port, "status")[0].split()[1] != "1" and time.monotonic() < deadline:
     time.sleep(0.02)
 judge("the builder's version", ask(port, "status")[0], "version 1 accepted 1 cells 3 components 1 runs 4\n")
+with open("/dev/full", "wb") as full:
+    done = subprocess.run([program, "ask", str(port), "status"], stdin=subprocess.DEVNULL, stdout=full,
+                          stderr=subprocess.PIPE, timeout=20)
+judge("ask, with an output that takes nothing", (done.stderr, done.returncode),
+      (b"path_server ask: the output or the connection failed\n", 6))
 # doors at which nobody changed anything: each sees the edit that came in at another one, and the version after it
 for link in idle:
     send(link, STATUS)
