@@ -3,6 +3,7 @@ of what they find with what they expect."""
 import ctypes
 import os
 import re
+import shutil
 import sys
 
 TOP = os.path.dirname(os.path.dirname(os.path.abspath(__file__)))
@@ -35,6 +36,11 @@ def bake_here():
 def library_here():
     """The archive of the library for C: that of PATHDB, or the one that `release/lib` has made, or the release."""
     return _found(os.environ.get("PATHDB"), "out/lib/libpathdb.a", "release/pathdb/libpathdb.a")
+
+
+def aarch64_here():
+    """The program that runs those for aarch64. A system has it by one of two names."""
+    return "qemu-aarch64-static" if shutil.which("qemu-aarch64-static") else "qemu-aarch64"
 
 
 def needs_new_library():

@@ -8,7 +8,7 @@ What needs a tool that is not here is skipped.
 """
 import os, shutil, subprocess, sys, tempfile
 
-from judging import TOP, Judge, library_here, needs_new_library
+from judging import TOP, Judge, aarch64_here, library_here, needs_new_library
 from read_images import put_images
 
 judge = Judge()
@@ -24,7 +24,7 @@ OTHERS = [
     ("clang", ["clang", "-std=c99"], []),
     ("C++", ["g++", "-std=c++11", "-x", "c++"], []),
     ("32 bits", ["gcc", "-std=c99", "-m32"], []),
-    ("aarch64", ["aarch64-linux-gnu-gcc", "-std=c99", "-static"], ["qemu-aarch64-static"]),
+    ("aarch64", ["aarch64-linux-gnu-gcc", "-std=c99", "-static"], [aarch64_here()]),
     ("powerpc, highest byte first and 32 bits", ["powerpc-linux-gnu-gcc", "-std=c99", "-static"], ["qemu-ppc-static"]),
     ("s390x, highest byte first", ["s390x-linux-gnu-gcc", "-std=c99", "-static"], ["qemu-s390x-static"]),
     ("Windows", ["x86_64-w64-mingw32-gcc", "-std=c99"], ["wine"]),

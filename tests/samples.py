@@ -10,7 +10,7 @@ What needs a tool that is not here is skipped.
 """
 import os, re, shutil, subprocess, sys, tempfile
 
-from judging import TOP, Judge, library_here, needs_new_library, program_here, skip
+from judging import TOP, Judge, aarch64_here, library_here, needs_new_library, program_here, skip
 
 judge = Judge()
 needs_new_library()
@@ -100,9 +100,9 @@ def try_aarch64():
     if not os.path.exists(os.path.join(folder_there, "libpathdb.a")):
         print("skipped: there is no library for aarch64")
         return
-    if not all([is_here("aarch64-linux-gnu-gcc"), is_here("aarch64-linux-gnu-g++"), is_here("qemu-aarch64-static")]):
+    if not all([is_here("aarch64-linux-gnu-gcc"), is_here("aarch64-linux-gnu-g++"), is_here(aarch64_here())]):
         return
-    there, emulated = os.path.join(folder_there, "libpathdb.a"), ["qemu-aarch64-static", "-L", "/usr/aarch64-linux-gnu"]
+    there, emulated = os.path.join(folder_there, "libpathdb.a"), [aarch64_here(), "-L", "/usr/aarch64-linux-gnu"]
     for name, compiler in (("path.c", C), ("threads.cpp", CPP), ("parts.cpp", CPP), ("competition.cpp", CPP)):
         words = ["aarch64-linux-gnu-" + compiler[0], *compiler[1:]]
         made = compiled(f"{name}.aarch64", words, f"examples/{name}", there, "-O2")

@@ -349,7 +349,7 @@ def main(about: str) -> int:
         print("demo: %s" % fault, file=sys.stderr)
         return 1
     except KeyboardInterrupt:
-        print()
+        print(file=sys.stderr)
     return 0
 
 
