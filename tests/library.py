@@ -67,8 +67,8 @@ def try_names():
 
 
 def try_version():
-    """One version everywhere."""
-    entry = re.search(r"^## (0\.\d+\.0)", text_of("CHANGELOG.md"), re.M).group(1)
+    """One version everywhere: that of the newest entry of CHANGELOG.md that is not called unreleased."""
+    entry = re.search(r"^## (0\.\d+\.0)(?!, unreleased)", text_of("CHANGELOG.md"), re.M).group(1)
     header = text_of("include/pathdb.h")
     parts = ("MAJOR", "MINOR", "PATCH")
     numbers = [re.search(rf"define PATHDB_VERSION_{part} (\d+)", header).group(1) for part in parts]
